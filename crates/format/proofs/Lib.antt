@@ -1,0 +1,2 @@
+-- Facts by computing that hold the definitions to document 01's numbers.
+pub mod Sample

@@ -1,0 +1,32 @@
+-- The five header kinds by number (document 01, "The file"), and the rule of a setting. Assumes nothing.
+use Prim.Native.Nat.{ℕ, zero, suc}
+use mathlib.Core.Bool.{Bool}
+use Rattle.format.specs.declared.Setting.{Setting}
+use Rattle.format.specs.Tools.{within}
+use Rattle.format.specs.Codec.{Codec, noCodec}
+use Rattle.format.specs.Runs.{runsKind}
+use Rattle.format.specs.Positions.{positionsKind}
+use Rattle.format.specs.BaseOffset.{basedKind}
+use Rattle.format.specs.Jumps.{jumpsKind}
+use Rattle.format.specs.PagedRuns.{pagesKind}
+
+-- the kind with a number, at a width and a step
+abbrev pub codecOf : ℕ → ℕ → ℕ → Codec
+codecOf zero w l = noCodec
+codecOf (suc zero) w l = runsKind w l
+codecOf (suc (suc zero)) w l = positionsKind w l
+codecOf (suc (suc (suc zero))) w l = basedKind w l
+codecOf (suc (suc (suc (suc zero)))) w l = jumpsKind w l
+codecOf (suc (suc (suc (suc (suc zero))))) w l = pagesKind w l
+codecOf (suc (suc (suc (suc (suc (suc k)))))) w l = noCodec
+
+unfoldable pub codec : Setting → Codec
+codec s = codecOf (s .kind) (s .width) (s .step)
+
+-- the kinds are 1 to 5
+unfoldable pub kindAllowed : Setting → Bool
+kindAllowed s = within 1 5 (s .kind)
+
+-- width and step are allowed for the kind
+unfoldable pub settingAllowed : Setting → Bool
+settingAllowed s = codec s .allowed

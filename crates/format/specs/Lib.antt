@@ -1,0 +1,26 @@
+-- Document 01 as definitions, in its order.
+pub mod Tools
+pub mod Signals
+pub mod Answers
+pub mod Picture
+pub mod Stored
+pub mod Bytes
+pub mod Codec
+pub mod Runs
+pub mod Positions
+pub mod BaseOffset
+pub mod Jumps
+pub mod PagedRuns
+pub mod Kinds
+pub mod File
+pub mod Accepted
+pub mod Calls
+pub mod Lookups
+pub mod Coordinates
+pub mod Box
+pub mod Parts
+pub mod Opened
+pub mod Table
+pub mod Demand3
+pub mod Sample
+pub mod Lister

@@ -1,0 +1,60 @@
+-- Coordinates and positions are inverse. Assumes nothing.
+use Prim.Native.Nat.{ℕ, zero, suc, _+_, _-_, _*_, _/_, _%_, _≤_, _<_}
+use mathlib.Core.Path.{_≡_, refl, sym, ap, ap₂, _∙_, subst}
+use mathlib.Core.Bool.{Bool, true, false, not}
+use mathlib.Core.List.{List, [], _∷_, _++_}
+use native.Mathlib.Nat.{mul-zero, zero-lt-suc, mul-one, mul-assoc, mul-comm, add-mul, zero-mul, zero-add, div-add-mod', mod-lt, div-lt-iff-lt-mul, mod-eq-of-lt, add-assoc, mul-add, one-le-mul, mul-le-mul}
+use native.Mathlib.Omega.{arith}
+use lib.ListN.{length}
+use lib.Arith.{digits-div, digits-mod, digits-lt}
+use lib.Dec.{leb, ltb}
+use borrow.Author.Tests.{ltb-true, lt-ltb}
+use Rattle.format.specs.Tools.{both, first, others}
+use Rattle.format.specs.declared.Dimensions.{Dimensions}
+use Rattle.format.specs.Picture.{product, cells, rowOrder, positionAt, insideExtents, coordinatesFrom}
+use Rattle.laws.proofs.Tools.{both-true, both-make}
+
+row-shift : (p : ℕ) (es cs : List ℕ) → rowOrder p es cs ≡ p * product es + rowOrder 0 es cs
+unfolding rowOrder product
+row-shift p [] cs = omega (arith, mul-one p)
+row-shift p (e ∷ es) cs =
+    let f : ℕ = first cs in
+    let z : 0 * e + f ≡ f = omega (arith, zero-mul e) in
+    let d : (p * e + f) * product es ≡ p * (e * product es) + f * product es = add-mul (p * e) f (product es) ∙ ap (λ (x : ℕ). x + f * product es) (mul-assoc p e (product es)) in
+    rw (z, row-shift (p * e + f) es (others cs), row-shift f es (others cs)) (omega arith)
+
+row-cons : (e : ℕ) (es cs : List ℕ) → rowOrder 0 (e ∷ es) cs ≡ first cs * product es + rowOrder 0 es (others cs)
+unfolding rowOrder
+row-cons e es cs =
+    let z : 0 * e + first cs ≡ first cs = omega (arith, zero-mul e) in
+    rw z (row-shift (first cs) es (others cs))
+
+row-below : (es cs : List ℕ) → insideExtents es cs ≡ true → rowOrder 0 es cs < product es
+unfolding product insideExtents
+row-below [] cs h = unfold rowOrder in (omega arith)
+row-below (e ∷ es) cs h =
+    let t = both-true (ltb (first cs) e) (insideExtents es (others cs)) h in
+    rw (row-cons e es cs) (digits-lt (ltb-true (first cs) e (t .0)) (row-below es (others cs) (t .1)))
+
+pub coordinates-back : (es cs : List ℕ) → length cs ≡ length es → insideExtents es cs ≡ true → coordinatesFrom es (rowOrder 0 es cs) ≡ cs
+unfolding coordinatesFrom insideExtents
+coordinates-back [] [] n h = refl
+coordinates-back [] (c ∷ cs) n h = absurd (omega arith)
+coordinates-back (e ∷ es) [] n h = absurd (omega arith)
+coordinates-back (e ∷ es) (c ∷ cs) n h =
+    let t = both-true (ltb c e) (insideExtents es cs) h in
+    let b = row-below es cs (t .1) in
+    rw (row-cons e es (c ∷ cs), digits-div c b, digits-mod c b, mod-eq-of-lt (ltb-true c e (t .0)), coordinates-back es cs (omega arith) (t .1))
+
+factor-pos : (e m p : ℕ) → p < e * m → 0 < m
+factor-pos e zero p h = absurd (omega (arith, mul-zero e))
+factor-pos e (suc m) p h = zero-lt-suc m
+
+pub position-back : (es : List ℕ) (p : ℕ) → p < product es → rowOrder 0 es (coordinatesFrom es p) ≡ p
+unfolding coordinatesFrom product
+position-back [] p h = unfold rowOrder product in (omega arith)
+position-back (e ∷ es) p h =
+    let m : 0 < product es = factor-pos e (product es) p h in
+    let q : p / product es < e = div-lt-iff-lt-mul m .1 h in
+    rw (row-cons e es (p / product es % e ∷ coordinatesFrom es (p % product es)), mod-eq-of-lt q, position-back es (p % product es) (mod-lt p m))
+    (div-add-mod' p (product es))

@@ -1,0 +1,208 @@
+-- The file of a picture: its header, parts and words are read back, and it is accepted. Assumes nothing.
+use Prim.Native.Nat.{ℕ, _+_, _*_, _^_, _≤_}
+use mathlib.Core.Path.{_≡_, refl, sym, _∙_, subst}
+use mathlib.Core.Bool.{true, false}
+use mathlib.Core.List.{List, [], _++_, append-assoc, append-nil}
+use native.Mathlib.Nat.{zero-add}
+use native.Mathlib.Omega.{arith}
+use lib.ListN.{length, drop, length-append}
+use lib.Seq.{drop-at, drop-drop}
+use lib.Dec.{eqb, leb, ltb}
+use borrow.Author.Tests.{eq-eqb, le-leb, le-ltb}
+use Rattle.format.specs.Bytes.{bytesOf, field, numbersOf}
+use Rattle.format.specs.declared.Dimensions.{Dimensions}
+use Rattle.format.specs.Picture.{cells, dimensionsAllowed}
+use Rattle.format.specs.Stored.{stored, kept, placed}
+use Rattle.format.specs.declared.Setting.{Setting}
+use Rattle.format.specs.Kinds.{codec, kindAllowed, settingAllowed}
+use Rattle.format.specs.File.{Counts, countsOf, header, fileFrom, layout, HasFile}
+use Rattle.format.specs.Accepted.{settingOf, dimensionsOf, emptyOf, wordsCount, firstCount, secondCount, secondAt, wordsAt, endAt, countsRight, positionsOf, keptOf, wordsOf, bodyRight, headerNumber, checkNumber}
+use Rattle.laws.proofs.Stored.{Rising, rising-stored, length-stored, length-kept-le, placed-stored, below-kept}
+use Rattle.laws.proofs.Tools.{both-make, same-refl}
+use Rattle.laws.proofs.Bytes.{length-bytesOf, numbersOf-bytesOf}
+use Rattle.laws.proofs.Settings.{setting}
+use Rattle.laws.proofs.Parts.{Known, known}
+use Rattle.laws.proofs.Header.{Small, Read, read-header}
+use Rattle.laws.proofs.Limits.{small-setting, small-dims}
+
+module _ (s : Setting) (d : Dimensions) (E : ℕ) (ws b : List ℕ) (h : HasFile s d E ws b) where
+  -- the two parts' bytes
+  abbrev part1 : List ℕ
+  part1 = codec s .parts (stored E ws) .first
+
+  abbrev part2 : List ℕ
+  part2 = codec s .parts (stored E ws) .second
+
+  counts : Counts
+  counts = countsOf (length (kept E ws)) (codec s .parts (stored E ws))
+
+  body : List ℕ
+  body = part1 ++ (part2 ++ bytesOf 4 (kept E ws))
+
+  rising : Rising 0 (cells d) (stored E ws)
+  unfolding stored
+  rising = rising-stored E 0 (cells d) ws (omega (arith, h .size, zero-add (length ws)))
+
+  same-length : length (stored E ws) ≡ length (kept E ws)
+  unfolding stored
+  same-length = length-stored E 0 ws
+
+  kn : Known (codec s) (stored E ws)
+  kn = known (cells d) (stored E ws) (small-dims d (h .dims) .most) rising s (h .setting) (h .fits)
+
+  small : Small s d E counts
+  unfolding counts
+  small =
+      let a = small-setting s (h .setting) in
+      let c = small-dims d (h .dims) in
+      let k1 = kn .first-most in
+      let k2 = kn .second-most in
+      let k3 = kn .firsts in
+      let k4 = kn .seconds in
+      let e = same-length in
+      let n = length-kept-le E ws in
+      let z = h .size in
+      let m = c .most in
+      record {
+        kind = omega arith;
+        width = a .width;
+        step = a .step;
+        count = omega arith;
+        four = c .four;
+        extents = c .extents;
+        empty = h .empty;
+        words = omega arith;
+        first = omega arith;
+        second = omega arith;
+        total = omega arith;
+      }
+
+  split : b ≡ header s d E counts ++ body
+  unfolding layout fileFrom body counts
+  split = sym (h .file) ∙ simp append-assoc
+
+  rd : Read s d E counts body b
+  rd = subst (λ (x : List ℕ). Read s d E counts body x) (sym split) (read-header s d E counts body small)
+
+  -- where the parts stand
+  second-starts : secondAt b ≡ 52 + length part1
+  unfolding secondAt counts
+  second-starts = rw (rd .setting, rd .first, kn .first-size)
+
+  words-start : wordsAt b ≡ 52 + length part1 + length part2
+  unfolding wordsAt counts
+  words-start = rw (second-starts, rd .setting, rd .second, kn .second-size)
+
+  ends : endAt b ≡ 52 + length part1 + length part2 + 4 * length (kept E ws)
+  unfolding endAt counts
+  ends = rw (words-start, rd .words)
+
+  pub from-second : drop (secondAt b) b ≡ part2 ++ bytesOf 4 (kept E ws)
+  unfolding body
+  from-second = rw (second-starts, ← drop-drop (length part1) 52 b, rd .rest) (drop-at part1 (part2 ++ bytesOf 4 (kept E ws)) (length part1) refl)
+
+  from-words : drop (wordsAt b) b ≡ bytesOf 4 (kept E ws)
+  from-words =
+      rw (words-start, ← drop-drop (length part2) (52 + length part1) b, ← second-starts, from-second)
+      (drop-at part2 (bytesOf 4 (kept E ws)) (length part2) refl)
+
+  pub from-first : drop 52 b ≡ part1 ++ (part2 ++ bytesOf 4 (kept E ws))
+  unfolding body
+  from-first = rd .rest
+
+  pub positions-back : positionsOf b ≡ stored E ws
+  unfolding positionsOf body counts
+  positions-back = rw (rd .setting, from-second, rd .first, rd .second, rd .rest, positionsOf) (kn .back (part2 ++ bytesOf 4 (kept E ws)) (bytesOf 4 (kept E ws)))
+
+  pub kept-back : keptOf b ≡ kept E ws
+  unfolding keptOf counts
+  kept-back =
+      let k : numbersOf 4 (length (kept E ws)) (bytesOf 4 (kept E ws) ++ []) ≡ kept E ws
+      = numbersOf-bytesOf 4 (kept E ws) [] (below-kept (256 ^ 4) E ws (h .words)) in
+      rw (from-words, rd .words) (rw append-nil at k)
+
+  pub words-back : wordsOf b ≡ ws
+  unfolding wordsOf placed stored
+  words-back = rw (positions-back, kept-back, rd .empty, rd .dims, ← h .size) (placed-stored E 0 ws)
+
+  pub words-count-back : wordsCount b ≡ length (kept E ws)
+  unfolding counts
+  words-count-back = rd .words
+
+  pub first-count-back : firstCount b ≡ codec s .parts (stored E ws) .firstCount
+  unfolding counts
+  first-count-back = rd .first
+
+  pub second-count-back : secondCount b ≡ codec s .parts (stored E ws) .secondCount
+  unfolding counts
+  second-count-back = rd .second
+
+  pub first-size-back : length part1 ≡ codec s .firstSize * codec s .parts (stored E ws) .firstCount
+  first-size-back = kn .first-size
+
+  pub second-size-back : length part2 ≡ codec s .secondSize * codec s .parts (stored E ws) .secondCount
+  second-size-back = kn .second-size
+
+  pub setting-back : settingOf b ≡ s
+  setting-back = rd .setting
+
+  pub dims-back : dimensionsOf b ≡ d
+  dims-back = rd .dims
+
+  pub empty-back : emptyOf b ≡ E
+  empty-back = rd .empty
+
+  length-body : length body ≡ length part1 + length part2 + 4 * length (kept E ws)
+  unfolding body
+  length-body = simp (length-append, length-bytesOf) (omega arith)
+
+  long : ltb (length b) 52 ≡ false
+  long = le-ltb (length b) 52 (omega (arith, rd .size))
+
+  kind-right : kindAllowed (settingOf b) ≡ true
+  unfolding kindAllowed
+  kind-right =
+      let a = small-setting s (h .setting) in
+      rw (rd .setting) (both-make (leb 1 (s .kind)) (leb (s .kind) 5) (le-leb 1 (s .kind) (a .kind-least)) (le-leb (s .kind) 5 (a .kind)))
+
+  setting-right : settingAllowed (settingOf b) ≡ true
+  setting-right = rw (rd .setting) (h .setting)
+
+  dims-right : dimensionsAllowed (dimensionsOf b) ≡ true
+  dims-right = rw (rd .dims) (h .dims)
+
+  counts-right : countsRight b ≡ true
+  unfolding countsRight counts
+  counts-right =
+      let n : length (kept E ws) ≤ cells d = omega (arith, length-kept-le E ws, h .size) in
+      let e1 : leb (wordsCount b) (cells (dimensionsOf b)) ≡ true = rw (rd .words, rd .dims) (le-leb (length (kept E ws)) (cells d) n) in
+      let e2 : codec (settingOf b) .counts (wordsCount b) (firstCount b) (secondCount b) ≡ true
+      = rw (rd .setting, rd .words, rd .first, rd .second, ← same-length) (kn .allowed) in
+      let e3 : eqb (field 4 36 b) 52 ≡ true = eq-eqb (field 4 36 b) 52 (rd .first-at) in
+      let e4 : eqb (field 4 40 b) (secondAt b) ≡ true = eq-eqb (field 4 40 b) (secondAt b) (rd .second-at ∙ sym second-starts) in
+      let e5 : eqb (field 4 44 b) (wordsAt b) ≡ true = eq-eqb (field 4 44 b) (wordsAt b) (rd .words-at ∙ sym words-start) in
+      let e6 : eqb (field 4 48 b) (endAt b) ≡ true = eq-eqb (field 4 48 b) (endAt b) (rd .end ∙ sym ends) in
+      let e7 : eqb (length b) (endAt b) ≡ true = eq-eqb (length b) (endAt b) (omega (arith, rd .size, length-body, ends)) in
+      rw (e1, e2, e3, e4, e5, e6, e7)
+
+  body-right : bodyRight b ≡ true
+  unfolding bodyRight
+  body-right = rw (rd .setting, rd .dims, rd .empty, words-back, h .fits, h .file, same-refl b)
+
+  -- the file's length stands at byte 48
+  pub length-at-48 : field 4 48 b ≡ length b
+  unfolding counts
+  length-at-48 = omega (arith, rd .end, rd .size, length-body)
+
+  pub at-least-52 : 52 ≤ length b
+  at-least-52 = omega (arith, rd .size)
+
+  -- a picture's file is accepted
+  pub picture-accepted : checkNumber b ≡ 0
+  unfolding checkNumber headerNumber
+  picture-accepted = rw (long, kind-right, setting-right, dims-right, counts-right, body-right)
+
+-- ---- the layout is injective
+
+pub same-words : (s : Setting) (d : Dimensions) (E : ℕ) (ws ws′ b : List ℕ) → HasFile s d E ws b → HasFile s d E ws′ b → ws ≡ ws′
+same-words s d E ws ws′ b h h′ = sym (words-back s d E ws b h) ∙ words-back s d E ws′ b h′

@@ -1,0 +1,20 @@
+-- The laws of the definitions.
+pub mod Tools
+pub mod Bytes
+pub mod Stored
+pub mod Positions
+pub mod Settings
+pub mod Bounds
+pub mod Parts
+pub mod Header
+pub mod Limits
+pub mod Files
+pub mod Acceptance
+pub mod Calls
+pub mod Demand3
+pub mod Check
+pub mod Coordinates
+pub mod Search
+pub mod Descent
+pub mod Ranks
+pub mod Streams

@@ -1,0 +1,1 @@
+// The laws of the definitions of `format`, in proofs/. No code.
