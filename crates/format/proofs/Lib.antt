@@ -1,2 +1,3 @@
 -- Facts by computing that hold the definitions to document 01's numbers.
 pub mod Sample
+pub mod Calls

@@ -38,7 +38,7 @@ abbrev inEach : (List ℕ → List ℕ) → List ℕ
 inEach f = f (file 1 0 0) ++ f (file 2 0 0) ++ f (file 3 1 2) ++ f (file 4 1 0) ++ f (file 5 0 2)
 
 -- 300 cells, stored at 2 and q only
-abbrev pair : ℕ → List ℕ
+abbrev pub pair : ℕ → List ℕ
 pair q = set (set (replicate 300 0) 2 7) q 9
 
 -- an answer's number and values

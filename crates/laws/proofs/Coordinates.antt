@@ -7,12 +7,13 @@ use native.Mathlib.Nat.{mul-zero, zero-lt-suc, mul-one, mul-assoc, mul-comm, add
 use native.Mathlib.Omega.{arith}
 use lib.ListN.{length}
 use lib.Arith.{digits-div, digits-mod, digits-lt}
-use lib.Dec.{leb, ltb}
-use borrow.Author.Tests.{ltb-true, lt-ltb}
+use lib.Dec.{leb, ltb, eqb}
+use borrow.Author.Tests.{ltb-true, lt-ltb, eqb-true, eq-eqb}
 use Rattle.format.specs.Tools.{both, first, others}
 use Rattle.format.specs.declared.Dimensions.{Dimensions}
-use Rattle.format.specs.Picture.{product, cells, rowOrder, positionAt, insideExtents, coordinatesFrom}
+use Rattle.format.specs.Picture.{mostDimensions, product, cells, dimensionsAllowed, rowOrder, positionAt, insideExtents, inside, coordinatesFrom, coordinatesAt}
 use Rattle.laws.proofs.Tools.{both-true, both-make}
+use Rattle.laws.proofs.Limits.{SmallDims, small-dims}
 
 row-shift : (p : ℕ) (es cs : List ℕ) → rowOrder p es cs ≡ p * product es + rowOrder 0 es cs
 unfolding rowOrder product
@@ -58,3 +59,42 @@ position-back (e ∷ es) p h =
     let q : p / product es < e = div-lt-iff-lt-mul m .1 h in
     rw (row-cons e es (p / product es % e ∷ coordinatesFrom es (p % product es)), mod-eq-of-lt q, position-back es (p % product es) (mod-lt p m))
     (div-add-mod' p (product es))
+
+-- ---- of a picture
+
+-- the coordinates of the position of coordinates
+pub coordinates-of-position : (d : Dimensions) (cs : List ℕ) → dimensionsAllowed d ≡ true → inside d cs ≡ true → coordinatesAt d (positionAt d cs) ≡ cs
+unfolding inside coordinatesAt positionAt
+coordinates-of-position d cs a h =
+    let t = both-true (eqb (length cs) mostDimensions) (insideExtents (d .extents) cs) h in
+    coordinates-back (d .extents) cs (eqb-true (length cs) mostDimensions (t .0) ∙ sym (small-dims d a .four)) (t .1)
+
+-- the position of the coordinates of a position
+pub position-of-coordinates : (d : Dimensions) (p : ℕ) → p < cells d → positionAt d (coordinatesAt d p) ≡ p
+unfolding coordinatesAt positionAt cells
+position-of-coordinates d p h = position-back (d .extents) p h
+
+-- and each lies inside
+pub position-inside : (d : Dimensions) (cs : List ℕ) → inside d cs ≡ true → positionAt d cs < cells d
+unfolding inside positionAt cells
+position-inside d cs h = row-below (d .extents) cs (both-true (eqb (length cs) mostDimensions) (insideExtents (d .extents) cs) h .1)
+
+length-coordinates : (es : List ℕ) (p : ℕ) → length (coordinatesFrom es p) ≡ length es
+unfolding coordinatesFrom
+length-coordinates [] p = refl
+length-coordinates (e ∷ es) p = ap suc (length-coordinates es (p % product es))
+
+inside-coordinates : (es : List ℕ) (p : ℕ) → p < product es → insideExtents es (coordinatesFrom es p) ≡ true
+unfolding coordinatesFrom insideExtents product
+inside-coordinates [] p h = refl
+inside-coordinates (e ∷ es) p h =
+    let m : 0 < product es = factor-pos e (product es) p h in
+    let q : p / product es < e = div-lt-iff-lt-mul m .1 h in
+    both-make (ltb (p / product es % e) e) (insideExtents es (coordinatesFrom es (p % product es)))
+    (lt-ltb (p / product es % e) e (mod-lt (p / product es) (omega arith))) (inside-coordinates es (p % product es) (mod-lt p m))
+
+pub coordinates-inside : (d : Dimensions) (p : ℕ) → dimensionsAllowed d ≡ true → p < cells d → inside d (coordinatesAt d p) ≡ true
+unfolding inside coordinatesAt cells
+coordinates-inside d p a h =
+    both-make (eqb (length (coordinatesAt d p)) mostDimensions) (insideExtents (d .extents) (coordinatesAt d p))
+    (eq-eqb _ mostDimensions (length-coordinates (d .extents) p ∙ small-dims d a .four)) (inside-coordinates (d .extents) p h)

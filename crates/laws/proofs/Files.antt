@@ -1,6 +1,6 @@
 -- The file of a picture: its header, parts and words are read back, and it is accepted. Assumes nothing.
 use Prim.Native.Nat.{ℕ, _+_, _*_, _^_, _≤_}
-use mathlib.Core.Path.{_≡_, refl, sym, _∙_, subst}
+use mathlib.Core.Path.{_≡_, refl, sym, _∙_, subst, ap}
 use mathlib.Core.Bool.{true, false}
 use mathlib.Core.List.{List, [], _++_, append-assoc, append-nil}
 use native.Mathlib.Nat.{zero-add}
@@ -101,7 +101,7 @@ module _ (s : Setting) (d : Dimensions) (E : ℕ) (ws b : List ℕ) (h : HasFile
   unfolding body
   from-second = rw (second-starts, ← drop-drop (length part1) 52 b, rd .rest) (drop-at part1 (part2 ++ bytesOf 4 (kept E ws)) (length part1) refl)
 
-  from-words : drop (wordsAt b) b ≡ bytesOf 4 (kept E ws)
+  pub from-words : drop (wordsAt b) b ≡ bytesOf 4 (kept E ws)
   from-words =
       rw (words-start, ← drop-drop (length part2) (52 + length part1) b, ← second-starts, from-second)
       (drop-at part2 (bytesOf 4 (kept E ws)) (length part2) refl)
@@ -202,7 +202,18 @@ module _ (s : Setting) (d : Dimensions) (E : ℕ) (ws b : List ℕ) (h : HasFile
   unfolding checkNumber headerNumber
   picture-accepted = rw (long, kind-right, setting-right, dims-right, counts-right, body-right)
 
--- ---- the layout is injective
+-- ---- expand of the layout is the words, and the layout is injective in the words
+
+-- a picture that can be laid out in the setting
+abbrev pub Fit : Setting → Dimensions → ℕ → List ℕ → Type 0
+Fit s d E ws = HasFile s d E ws (layout s d E ws)
+
+pub expand-layout : (s : Setting) (d : Dimensions) (E : ℕ) (ws : List ℕ) → Fit s d E ws → wordsOf (layout s d E ws) ≡ ws
+expand-layout s d E ws h = words-back s d E ws (layout s d E ws) h
 
 pub same-words : (s : Setting) (d : Dimensions) (E : ℕ) (ws ws′ b : List ℕ) → HasFile s d E ws b → HasFile s d E ws′ b → ws ≡ ws′
 same-words s d E ws ws′ b h h′ = sym (words-back s d E ws b h) ∙ words-back s d E ws′ b h′
+
+pub layout-injective : (s : Setting) (d : Dimensions) (E : ℕ) (ws ws′ : List ℕ) → Fit s d E ws → Fit s d E ws′
+    → layout s d E ws ≡ layout s d E ws′ → ws ≡ ws′
+layout-injective s d E ws ws′ h h′ e = sym (expand-layout s d E ws h) ∙ ap wordsOf e ∙ expand-layout s d E ws′ h′

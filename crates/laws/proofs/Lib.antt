@@ -18,3 +18,5 @@ pub mod Search
 pub mod Descent
 pub mod Ranks
 pub mod Streams
+pub mod RankRange
+pub mod Shorter
