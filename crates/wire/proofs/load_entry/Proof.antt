@@ -1,0 +1,33 @@
+use native.Mathlib.Omega.{arith}
+use Rattle.wire.proofs.Laws.{entry-none}
+use borrow.Author.Needs.{needs}
+use Rattle.wire.proofs.load_entry.Statement.{statement}
+use Rattle.wire.proofs.load_entry.Tie as tie
+use Rattle.wire.proofs.load_entry.Reads as reads
+use Rattle.wire.proofs.load_entry.Lts as lts
+use Rattle.wire.proofs.load_u16.Reads as load-u16-reads
+use Rattle.wire.proofs.load_u8.Reads as load-u8-reads
+
+-- src/lib.rt:86:14
+load-u8-requires : tie.Need-load-u8-requires
+load-u8-requires c κs = search needs
+
+-- src/lib.rt:87:14
+load-u16-requires : tie.Need-load-u16-requires
+load-u16-requires c κs = search needs
+
+-- src/lib.rt:82:1
+returns : tie.Need-returns
+returns c = rw (c .before .match .keys1) (c .load-u8 .ensures .0, omega arith)
+
+-- src/lib.rt:82:1
+returns-2 : tie.Need-returns-2
+returns-2 c = rw (c .before .match .keys2) (c .load-u16 .ensures)
+
+-- src/lib.rt:82:1
+returns-3 : tie.Need-returns-3
+returns-3 c = (entry-none _ _ _ (c .match .rest .0 .1) (c .match .rest .1), omega arith)
+
+pub load-entry-spec : {M : Type 1} → statement M
+load-entry-spec =
+    tie.close (tie.spec load-u8-requires load-u16-requires returns returns-2 returns-3)

@@ -1,0 +1,18 @@
+-- Numbers in bytes as the code loads them. Assumes nothing.
+use Prim.Native.Nat.{ℕ, zero, suc, _+_}
+use mathlib.Core.List.{List}
+use lib.ListN.{length}
+use lib.Dec.{leb}
+use Rattle.format.specs.Tools.{pick}
+use Rattle.format.specs.Bytes.{field}
+
+-- the w-byte number at an offset, or 0 where its bytes are not all there
+unfoldable pub whole : ℕ → ℕ → List ℕ → ℕ
+whole w at b = pick (leb (at + w) (length b)) (field w at b) 0
+
+-- the bytes of an entry of the widths 1 and 2; none for any other
+abbrev pub entrySize : ℕ → ℕ
+entrySize zero = 0
+entrySize (suc zero) = 1
+entrySize (suc (suc zero)) = 2
+entrySize (suc (suc (suc n))) = 0
