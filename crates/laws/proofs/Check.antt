@@ -37,7 +37,7 @@ bytes-number (suc w) (x ∷ b) s h =
     = add-mul-div-left x (number (take w b)) (zero-lt-suc 255) ∙ ap (λ (q : ℕ). q + number (take w b)) (div-eq-of-lt (s .0)) ∙ zero-add (number (take w b)) in
     rw (e1, e2, bytes-number w b (s .1) (omega arith))
 
-bytesOf-numbersOf : (w n : ℕ) (b : List ℕ) → Below 256 b → w * n ≤ length b → bytesOf w (numbersOf w n b) ≡ take (w * n) b
+pub bytesOf-numbersOf : (w n : ℕ) (b : List ℕ) → Below 256 b → w * n ≤ length b → bytesOf w (numbersOf w n b) ≡ take (w * n) b
 unfolding bytesOf numbersOf
 bytesOf-numbersOf w zero b s h = rw (native.Mathlib.Nat.mul-zero w)
 bytesOf-numbersOf w (suc n) b s h =

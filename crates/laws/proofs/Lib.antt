@@ -2,6 +2,7 @@
 -- Tools, bytes, stored cells.
 pub mod Tools
 pub mod Bytes
+pub mod Numbers
 pub mod Stored
 -- What each kind writes down is what the paper says, and comes back.
 pub mod Positions
@@ -12,6 +13,7 @@ pub mod Stretches
 pub mod Entries
 pub mod Levels
 pub mod Accumulation
+pub mod RunsBack
 -- Files and pictures, and when a file is accepted.
 pub mod Header
 pub mod Limits

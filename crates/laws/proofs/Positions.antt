@@ -21,7 +21,7 @@ use Rattle.laws.proofs.Tools.{cases, length-listed, getD-listed, range-
 -- ---- kind 3
 
 -- a rising list does not fall
-rising-at : (a B : ℕ) (ls : List ℕ) (j : ℕ) → Rising a B ls → j < length ls → a ≤ getD ls j 0
+pub rising-at : (a B : ℕ) (ls : List ℕ) (j : ℕ) → Rising a B ls → j < length ls → a ≤ getD ls j 0
 rising-at a B [] j r h = absurd (omega arith)
 rising-at a B (l ∷ ls) zero r h = r .0
 rising-at a B (l ∷ ls) (suc j) r h = let i = rising-at (suc l) B ls j (r .2) (omega arith) in omega arith

@@ -1,25 +1,15 @@
--- One turn of a loop along numbers of w bytes each, and its end. Assumes nothing.
+-- One turn of a loop along the words, and its end. Assumes nothing.
 use Prim.Native.Nat.{ℕ, zero, suc, _+_, _-_, _*_, _≤_, _<_}
 use mathlib.Core.Path.{_≡_, refl, sym, ap, _∙_}
 use mathlib.Core.Bool.{Bool, true, false, not}
 use mathlib.Core.List.{List, [], _∷_}
 use native.Mathlib.Omega.{arith}
 use lib.ListN.{length, drop}
-use lib.Seq.{drop-drop}
 use lib.Dec.{eqb}
 use borrow.Author.Tests.{eq-eqb, ne-eqb}
 use Rattle.format.specs.Tools.{both, every}
 use Rattle.format.specs.Bytes.{field, numbersOf}
-
-pub numbers-turn : (w n at : ℕ) (b : List ℕ) → 0 < n → numbersOf w n (drop at b) ≡ field w at b ∷ numbersOf w (n - 1) (drop (at + w) b)
-unfolding numbersOf field
-numbers-turn w zero at b h = absurd (omega arith)
-numbers-turn w (suc n) at b h = let e : suc n - 1 ≡ n = omega arith in rw (e, drop-drop w at b)
-
-pub numbers-end : (w n : ℕ) (b : List ℕ) → n ≤ 0 → numbersOf w n b ≡ []
-unfolding numbersOf
-numbers-end w zero b h = refl
-numbers-end w (suc n) b h = absurd (omega arith)
+use Rattle.laws.proofs.Numbers.{numbers-turn, numbers-end}
 
 -- no number of the list is e
 abbrev pub none : ℕ → List ℕ → Bool

@@ -40,10 +40,11 @@ loop-less c = search needs
 loop-again : tie.Need-loop-again Inv-loop μ-loop
 loop-again c =
     let a = c .before .before .args in
-    let l = c .before .loop in
-    (omega arith,
-    length-set (l .dst) (l .i) (a .x) ∙ l .inv .1,
-    ap (λ (d : List ℕ). set d (l .i) (a .x)) (l .inv .2) ∙ fill-turn (a .dst .now) (l .i) (a .x) (omega arith))
+    let l = c .before .loop in (
+      omega arith,
+      length-set (l .dst) (l .i) (a .x) ∙ l .inv .1,
+      ap (λ (d : List ℕ). set d (l .i) (a .x)) (l .inv .2) ∙ fill-turn (a .dst .now) (l .i) (a .x) (omega arith),
+    )
 
 -- src/lib.rt:8:1
 same-length : tie.Need-same-length Inv-loop μ-loop

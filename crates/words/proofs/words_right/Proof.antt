@@ -44,12 +44,13 @@ loop-less c = search needs
 loop-again : tie.Need-loop-again Inv-loop μ-loop
 loop-again c =
     let a = c .before .before .before .before .before .args in
-    let l = c .before .before .before .loop in
-    (omega arith,
-    ⊎-elim
-    (λ w. rw (w .1) (none-here (a .empty) (l .left) (l .place) (a .file .now) (l .right) (c .before .before .loop-test .taken) (sym (c .before .get-u32 .ensures .0) ∙ w .0 .taken) ∙ l .inv .1))
-    (λ w. rw (w .1) (none-other (a .empty) (l .left) (l .place) (a .file .now) (l .right) (c .before .before .loop-test .taken) (λ e. w .0 .left (c .before .get-u32 .ensures .0 ∙ e)) ∙ l .inv .1))
-    (c .if1 .came))
+    let l = c .before .before .before .loop in (
+      omega arith,
+      ⊎-elim
+          (λ w. rw (w .1) (none-here (a .empty) (l .left) (l .place) (a .file .now) (l .right) (c .before .before .loop-test .taken) (sym (c .before .get-u32 .ensures .0) ∙ w .0 .taken) ∙ l .inv .1))
+          (λ w. rw (w .1) (none-other (a .empty) (l .left) (l .place) (a .file .now) (l .right) (c .before .before .loop-test .taken) (λ e. w .0 .left (c .before .get-u32 .ensures .0 ∙ e)) ∙ l .inv .1))
+          (c .if1 .came),
+    )
 
 -- src/lib.rt:12:1
 returns : tie.Need-returns Inv-loop μ-loop

@@ -1,0 +1,103 @@
+// The header's fields, read once into numbers (document 01, "The file").
+use super::extents::cell_count;
+use format::Dimensions;
+use format::Setting;
+use format::View;
+use wire::get_u8;
+use wire::get_u32;
+ghost use mathlib.Core.Path.{_≡_};
+ghost use Prim.Native.Nat.{_≤_};
+ghost use lib.ListN.{length};
+ghost use lib.Dec.{ltb};
+ghost use Rattle.format.specs.Tools.{pick};
+ghost use Rattle.format.specs.File.{headerLength};
+ghost use Rattle.format.specs.Accepted.{settingOf, dimensionsOf};
+ghost use Rattle.format.specs.Opened.{viewOf, noView};
+ghost use Rattle.header.specs.Fields.{countsIn};
+
+// N, and the entry counts of the first and second part.
+pub struct Counts {
+    pub words: u32,
+    pub firsts: u32,
+    pub seconds: u32,
+}
+
+// Kind, width and step.
+pub fn read_setting(file: &[u8]) -> Setting
+    requires { ⌜ 52 ≤ length (now file) ⌝ }
+    ensures { λ r. ⌜ r ≡ settingOf (now (file .entry)) ⌝ }
+{
+    Setting {
+        kind: get_u8(file, 0),
+        width: get_u8(file, 2),
+        step: get_u8(file, 3),
+    }
+}
+
+// The dimension count and the extents.
+pub fn read_dimensions(file: &[u8]) -> Dimensions
+    requires { ⌜ 52 ≤ length (now file) ⌝ }
+    ensures { λ r. ⌜ r ≡ dimensionsOf (now (file .entry)) ⌝ }
+{
+    Dimensions {
+        count: get_u8(file, 1),
+        extents: [
+            get_u32(file, 4),
+            get_u32(file, 8),
+            get_u32(file, 12),
+            get_u32(file, 16),
+        ],
+    }
+}
+
+// The counts.
+pub fn read_counts(file: &[u8]) -> Counts
+    requires { ⌜ 52 ≤ length (now file) ⌝ }
+    ensures { λ r. ⌜ r ≡ countsIn (now (file .entry)) ⌝ }
+{
+    Counts {
+        words: get_u32(file, 24),
+        firsts: get_u32(file, 28),
+        seconds: get_u32(file, 32),
+    }
+}
+
+// The header's numbers that the lookups need; no cells where the dimensions are not a picture's.
+pub fn read_view(file: &[u8]) -> View
+    requires { ⌜ 52 ≤ length (now file) ⌝ }
+    ensures { λ r. ⌜ r ≡ viewOf (now (file .entry)) ⌝ }
+{
+    let setting = read_setting(file);
+    let cells = cell_count(read_dimensions(file));
+    let empty = get_u32(file, 20);
+    let counts = read_counts(file);
+    View {
+        kind: setting.kind,
+        width: setting.width,
+        step: setting.step,
+        cells,
+        empty,
+        words: counts.words,
+        firsts: counts.firsts,
+        seconds: counts.seconds,
+    }
+}
+
+// The same of any bytes: all counts 0 where there is no whole header.
+pub fn view_or_none(file: &[u8]) -> View
+    ensures { λ r. ⌜ r ≡ pick (ltb (length (now (file .entry))) headerLength) noView (viewOf (now (file .entry))) ⌝ }
+{
+    if file.len() < 52 {
+        return View {
+            kind: 0,
+            width: 0,
+            step: 0,
+            cells: 0,
+            empty: 0,
+            words: 0,
+            firsts: 0,
+            seconds: 0,
+        };
+    }
+    read_view(file)
+}

@@ -1,0 +1,82 @@
+use Prim.Native.Nat.{_+_, _*_, _/_}
+use mathlib.Core.Logic.{⊎-elim}
+use native.Mathlib.Omega.{arith}
+use Rattle.wire.specs.Wire.{whole}
+use Rattle.positions.proofs.Last.{Left, left-all, left-upper, left-lower, left-one}
+use borrow.Author.Needs.{needs}
+use Rattle.positions.proofs.search.last_at_most.Statement.{statement}
+use Rattle.positions.proofs.search.last_at_most.Tie as tie
+use Rattle.positions.proofs.search.last_at_most.Reads as reads
+use Rattle.positions.proofs.search.last_at_most.Lts as lts
+use Rattle.wire.proofs.load_u32.Reads as load-u32-reads
+
+abbrev Inv-loop : tie.InvT-loop
+Inv-loop file n x low₀ size₀ low size = Left (λ i. whole 4 (52 + 4 * i) file) n x low size
+
+abbrev μ-loop : tie.MeasureT-loop
+μ-loop file n x low₀ size₀ low size = size
+
+-- src/search.rt:20:5
+loop-holds : tie.Need-loop-holds Inv-loop μ-loop
+loop-holds c = left-all _ _ _
+
+-- src/search.rt:22:22
+add-middle : tie.Need-add-middle Inv-loop μ-loop
+add-middle c = search needs
+
+-- src/search.rt:23:37
+cast-load-u32 : tie.Need-cast-load-u32 Inv-loop μ-loop
+cast-load-u32 c = search needs
+
+-- src/search.rt:23:32
+mul-load-u32 : tie.Need-mul-load-u32 Inv-loop μ-loop
+mul-load-u32 c = search needs
+
+-- src/search.rt:23:27
+add-load-u32 : tie.Need-add-load-u32 Inv-loop μ-loop
+add-load-u32 c = search needs
+
+-- src/search.rt:23:12
+load-u32-requires : tie.Need-load-u32-requires Inv-loop μ-loop
+load-u32-requires c κs = search needs
+
+-- src/search.rt:26:9
+sub-size : tie.Need-sub-size Inv-loop μ-loop
+sub-size c = search needs
+
+-- src/search.rt:20:5
+loop-less : tie.Need-loop-less Inv-loop μ-loop
+loop-less c = search needs
+
+-- src/search.rt:20:5
+loop-again : tie.Need-loop-again Inv-loop μ-loop
+loop-again c =
+    let a = c .before .before .before .before .before .args in
+    let l = c .before .before .before .loop in
+    let e = c .before .load-u32 .ensures .0 in
+    let t = c .before .before .loop-test .taken in
+    ⊎-elim
+    (λ w. rw (w .1) (left-upper _ (a .n) (a .x) (l .low) (l .size) (l .inv) t (omega (arith, e, w .0 .taken))))
+    (λ w. rw (w .1) (left-lower _ (a .n) (a .x) (l .low) (l .size) (l .inv) t (omega (arith, e, w .0 .left))))
+    (c .if1 .came)
+
+-- src/search.rt:15:1
+returns : tie.Need-returns Inv-loop μ-loop
+returns c = left-one _ _ _ _ _ (c .before .loop .inv) (c .loop-test .left)
+
+pub last-at-most-spec : {M : Type 1} → statement M
+last-at-most-spec =
+    tie.close
+    (tie.spec
+    Inv-loop
+    μ-loop
+    loop-holds
+    add-middle
+    cast-load-u32
+    mul-load-u32
+    add-load-u32
+    load-u32-requires
+    sub-size
+    loop-less
+    loop-again
+    returns)

@@ -1,0 +1,39 @@
+// The check of the first part: positions of 4 bytes that rise below cells.
+use format::View;
+use wire::get_u32;
+ghost use mathlib.Core.Path.{_≡_};
+ghost use Prim.Native.Nat.{_+_, _*_, _≤_};
+ghost use lib.ListN.{length, drop};
+ghost use Rattle.format.specs.Bytes.{numbersOf};
+ghost use Rattle.header.specs.Body.{rises, partsRight};
+ghost use Rattle.header.specs.Search.{HeaderView};
+
+// The n positions of 4 bytes from an offset on rise below cells: each is above the one before, and the last is below cells.
+fn positions_rise(file: &[u8], at: usize, n: u32, cells: u32) -> bool
+    requires { ⌜ at + 4 * n ≤ length (now file) ⌝ }
+    ensures { λ r. ⌜ r ≡ rises 0 cells (numbersOf 4 n (drop at (now (file .entry)))) ⌝ }
+{
+    if n == 0 {
+        return true;
+    }
+    let mut before = get_u32(file, at);
+    let mut place = at + 4;
+    let mut left = n - 1;
+    let mut right = true;
+    while 0 < left {
+        let p = get_u32(file, place);
+        right = right & (before < p);
+        before = p;
+        place += 4;
+        left -= 1;
+    }
+    right & (before < cells)
+}
+
+// The parts are those of rising positions below cells, as many as the words.
+pub fn parts_right(file: &[u8], v: View) -> bool
+    requires { ⌜ HeaderView 2 (now file) v ⌝ }
+    ensures { λ r. ⌜ r ≡ partsRight (now (file .entry)) ⌝ }
+{
+    positions_rise(file, 52, v.words, v.cells)
+}
