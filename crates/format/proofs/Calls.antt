@@ -22,14 +22,14 @@ use Rattle.format.specs.Sample.{setting, row, sample, file, pair}
 abbrev call : Request → ℕ → Fed
 call q room = record { request = q; room = room }
 
--- made in kind 4: two writes, one past the cells, one of E, kind 6, kind 3, one without room, and one more write
+-- made in kind 4: two writes, one past the cells, one of E, kind 9, kind 3, one without room, and one more write
 abbrev calls : List Fed
 calls =
     call (write 2 7) 100
     ∷ call (write 3 9) 100
     ∷ call (write 12 1) 100
     ∷ call (write 3 0) 100
-    ∷ call (change (setting 6 0 0)) 100
+    ∷ call (change (setting 9 0 0)) 100
     ∷ call (change (setting 3 1 2)) 100
     ∷ call (write 2 8) 10
     ∷ call (write 5 5) 100
@@ -51,7 +51,7 @@ pub write-puts : writtenFile (file 2 0 0) 0 4 ≡ layout (setting 2 0 0) (row 12
 unfolding bytes number bytesOf field numbersOf product cells storedFrom stored kept placedFrom placed positionParts positionsKind codec header fileFrom layout settingOf dimensionsOf emptyOf wordsCount firstCount secondCount secondAt wordsAt positionsOf keptOf wordsOf writtenFile
 write-puts = refl
 
-pub write-empties : stored 0 (wordsOf (writtenFile (file 2 0 0) 3 0)) ≡ 2 ∷ 5 ∷ 10 ∷ []
+pub write-empties : positionsOf (writtenFile (file 2 0 0) 3 0) ≡ 2 ∷ 5 ∷ 10 ∷ []
 unfolding bytes number bytesOf field numbersOf product cells storedFrom stored kept placedFrom placed positionParts positionsKind codec header fileFrom layout settingOf dimensionsOf emptyOf wordsCount firstCount secondCount secondAt wordsAt positionsOf keptOf wordsOf writtenFile
 write-empties = refl
 

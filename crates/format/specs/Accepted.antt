@@ -13,7 +13,7 @@ use Rattle.format.specs.Bytes.{field, numbersOf}
 use Rattle.format.specs.Picture.{cells, dimensionsAllowed, mostDimensions}
 use Rattle.format.specs.Stored.{stored, placed}
 use Rattle.format.specs.Kinds.{codec, kindAllowed, settingAllowed}
-use Rattle.format.specs.File.{headerLength, layout}
+use Rattle.format.specs.File.{headerLength, layout, HasFile}
 
 -- ---- the header's fields
 
@@ -74,6 +74,11 @@ unfoldable pub bodyRight : List ℕ → Bool
 bodyRight b =
     both (not (codec (settingOf b) .unfit (stored (emptyOf b) (wordsOf b))))
     (same (layout (settingOf b) (dimensionsOf b) (emptyOf b) (wordsOf b)) b)
+
+-- A file is accepted exactly when some picture, with the header's dimensions, E, kind, width and step, has those bytes.
+-- That check gives 0 exactly then is the law `accepted-iff`.
+abbrev pub SomePicture : List ℕ → Type 0
+SomePicture b = (ws : List ℕ) × HasFile (settingOf b) (dimensionsOf b) (emptyOf b) ws b
 
 -- ---- the numbers
 

@@ -92,11 +92,16 @@ Agree d E cs₁ ns₁ cs₂ ns₂ = (p : ℕ) → p < cells d → lastWritten p 
 abbrev pub endSetting : Dimensions → ℕ → Setting → List Call → Setting
 endSetting d E s cs = tableRun d E (newTable d E s) (map fed cs) .setting
 
+-- the words of a list's table at its end
+abbrev pub endWords : Dimensions → ℕ → Setting → List Call → List ℕ
+endWords d E s cs = tableRun d E (newTable d E s) (map fed cs) .words
+
 pub record TwoLists (d : Dimensions) (E : ℕ) (s₁ : Setting) (cs₁ : List Call) (ns₁ b₁ : List ℕ) (s₂ : Setting) (cs₂ : List Call) (ns₂ b₂ : List ℕ) : Type 0 where
   pub one : AsTable d E s₁ cs₁ ns₁ b₁
   pub two : AsTable d E s₂ cs₂ ns₂ b₂
   pub alike : Alike b₁ b₂ ↔ Agree d E cs₁ ns₁ cs₂ ns₂
-  pub bytes : endSetting d E s₁ cs₁ ≡ endSetting d E s₂ cs₂ → ((b₁ ≡ b₂) ↔ Agree d E cs₁ ns₁ cs₂ ns₂)
+  pub tables : Agree d E cs₁ ns₁ cs₂ ns₂ ↔ (endWords d E s₁ cs₁ ≡ endWords d E s₂ cs₂)
+  pub bytes : (b₁ ≡ b₂) ↔ (Agree d E cs₁ ns₁ cs₂ ns₂ × (endSetting d E s₁ cs₁ ≡ endSetting d E s₂ cs₂))
 
 -- demand 3
 abbrev pub Demand3 : Type 0

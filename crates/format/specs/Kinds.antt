@@ -10,7 +10,7 @@ use Rattle.format.specs.BaseOffset.{basedKind}
 use Rattle.format.specs.Jumps.{jumpsKind}
 use Rattle.format.specs.PagedRuns.{pagesKind}
 
--- the kind with a number, at a width and a step
+-- the kind with a number, at a width and a step: no kind for 0, then kinds 1 to 5, and no kind above
 abbrev pub codecOf : ℕ → ℕ → ℕ → Codec
 codecOf zero w l = noCodec
 codecOf (suc zero) w l = runsKind w l

@@ -18,9 +18,11 @@ pub mod Calls
 pub mod Lookups
 pub mod Coordinates
 pub mod Box
-pub mod Parts
+pub mod RankRange
+pub mod Shorter
 pub mod Opened
 pub mod Table
 pub mod Demand3
 pub mod Sample
 pub mod Lister
+pub mod Examples

@@ -40,7 +40,8 @@ opening b =
     let opened : Opened = record { bytes = b; view = viewOf b } in
     pick (eqb (checkNumber b) 0) opened (record { bytes = []; view = noView })
 
--- the contract of opening the lent slice x: what is kept, and, where it is accepted, that the bytes are the caller's own
+-- the contract of opening the lent slice x: what is kept, and, where it is accepted, that the bytes are the caller's own. Check is the companion call
+-- that gives the number.
 pub record OpeningOf (x r : RefT (List ℕ)) (v : View) : Type 0 where
   pub view : v ≡ opening (now x) .view
   pub bytes : now r ≡ opening (now x) .bytes
@@ -54,13 +55,13 @@ viaOpening zero a = a
 viaOpening (suc n) a = refused BEYOND
 
 -- One answer is free (document 01, "What the surveyor looks for"): through a value that somebody put together over unchecked bytes a lookup gives 8,
--- "empty", or a number below a bound.
+-- "empty" (rank at a position alone: a declared `PositionAnswer` has no such case), or a number below a bound.
 pub data Free (bound : ℕ) : Answer → Type 0 where
   beyond : Free bound (refused BEYOND)
   none : Free bound empty
   number : (n : ℕ) → n < bound → Free bound (given n)
 
--- 8, or any word
+-- 8, or any word (a declared `CellAnswer` holds 32 bits)
 pub data FreeWord : Answer → Type 0 where
   beyond : FreeWord (refused BEYOND)
   word : (x : ℕ) → FreeWord (given x)

@@ -135,7 +135,7 @@ unfoldable pub through : (Span → ℕ) → ℕ → List (List Span) → Place �
 through m b [] q = q
 through m b (ys ∷ lower) q = through m b lower (stepDown m b ys q)
 
--- the levels of pairs, the top first, level 0 last
+-- the levels of pairs, the top first, level 0 last: those of the two parts, one after the other (law `levels-in-file`)
 unfoldable pub levels : ℕ → ℕ → List Span → List (List Span)
 levels zero b xs = level b xs ∷ []
 levels (suc n) b xs =

@@ -40,7 +40,7 @@ rowOrder p (e ∷ es) cs = rowOrder (p * e + first cs) es (others cs)
 unfoldable pub positionAt : Dimensions → List ℕ → ℕ
 positionAt d cs = rowOrder 0 (d .extents) cs
 
--- the coordinates of a position
+-- the coordinates of a position (of one below cells, `% e` changes nothing)
 unfoldable pub coordinatesFrom : List ℕ → ℕ → List ℕ
 coordinatesFrom [] p = []
 coordinatesFrom (e ∷ es) p = p / product es % e ∷ coordinatesFrom es (p % product es)

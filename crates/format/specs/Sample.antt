@@ -34,7 +34,7 @@ abbrev pub file : ℕ → ℕ → ℕ → List ℕ
 file k w l = layout (setting k w l) (row 12) 0 sample
 
 -- something of its files in the five kinds
-abbrev inEach : (List ℕ → List ℕ) → List ℕ
+abbrev pub inEach : (List ℕ → List ℕ) → List ℕ
 inEach f = f (file 1 0 0) ++ f (file 2 0 0) ++ f (file 3 1 2) ++ f (file 4 1 0) ++ f (file 5 0 2)
 
 -- 300 cells, stored at 2 and q only
@@ -42,7 +42,7 @@ abbrev pub pair : ℕ → List ℕ
 pair q = set (set (replicate 300 0) 2 7) q 9
 
 -- an answer's number and values
-abbrev shown : Answer → List ℕ
+abbrev pub shown : Answer → List ℕ
 shown a = numberOf a ∷ valuesOf a
 
 -- the same rank, or position, by kind 1's rule and by kind 5's descent
@@ -52,16 +52,16 @@ byRuns p = shown (runRank (runs sampleL) p) ++ shown (rankAtPlace (descent allCe
 abbrev byRunsBack : ℕ → List ℕ
 byRunsBack r = shown (runPosition (runs sampleL) r) ++ shown (positionAtPlace (descent storedCells 2 (spans (runs sampleL)) r))
 
--- a row: the number of the case (3 for M3), what the definitions give, and what document 01 says
+-- a row: the number of the case (3 for M3, 0 for what has no number), what the definitions give, and what document 01 says
 pub record Row : Type 0 where
   pub case : ℕ
   pub given : List ℕ
   pub said : List ℕ
 
-abbrev M : ℕ → List ℕ → List ℕ → Row
+abbrev pub M : ℕ → List ℕ → List ℕ → Row
 M n a b = record { case = n; given = a; said = b }
 
-abbrev one : ℕ → List ℕ
+abbrev pub one : ℕ → List ℕ
 one n = n ∷ []
 
 abbrev pub rows : List Row
@@ -102,12 +102,12 @@ rows =
     ∷ M 12 (one (makeNumber (setting 3 1 2) (row 300) 0 (pair 258) 1000)) (one 9)
     ∷ M 12 (one (makeNumber (setting 3 1 1) (row 300) 0 (pair 258) 1000)) (one 0)
     -- also: b = 64 passes and 65 is 3; one extent of 16,777,216 passes and one more is 4
-    ∷ M 13 (one (changeNumber (file 2 0 0) (setting 5 0 64) 1000)) (one 0)
-    ∷ M 13 (one (changeNumber (file 2 0 0) (setting 5 0 65) 1000)) (one 3)
-    ∷ M 13 (one (coordinatesNumber (row 16777216) 0)) (one 0)
-    ∷ M 13 (one (coordinatesNumber (row 16777217) 0)) (one 4)
+    ∷ M 0 (one (changeNumber (file 2 0 0) (setting 5 0 64) 1000)) (one 0)
+    ∷ M 0 (one (changeNumber (file 2 0 0) (setting 5 0 65) 1000)) (one 3)
+    ∷ M 0 (one (coordinatesNumber (row 16777216) 0)) (one 0)
+    ∷ M 0 (one (coordinatesNumber (row 16777217) 0)) (one 4)
     -- the lister's five lines for the file of M2: 2 12 4, 0 2 7, 1 3 9, 2 5 5, 3 10 300
-    ∷ M 14 (listing (file 2 0 0))
+    ∷ M 0 (listing (file 2 0 0))
     (50 ∷ 32 ∷ 49 ∷ 50 ∷ 32 ∷ 52 ∷ 10 ∷ 48 ∷ 32 ∷ 50 ∷ 32 ∷ 55 ∷ 10 ∷ 49 ∷ 32 ∷ 51 ∷ 32 ∷ 57 ∷ 10
     ∷ 50 ∷ 32 ∷ 53 ∷ 32 ∷ 53 ∷ 10 ∷ 51 ∷ 32 ∷ 49 ∷ 48 ∷ 32 ∷ 51 ∷ 48 ∷ 48 ∷ 10 ∷ [])
     ∷ []

@@ -22,7 +22,7 @@ use Rattle.format.specs.PagedRuns.{pagedParts, pagesKind}
 use Rattle.format.specs.declared.Setting.{Setting}
 use Rattle.format.specs.Kinds.{codec, kindAllowed, settingAllowed}
 use Rattle.format.specs.File.{headerLength, header, fileFrom, layout, HasFile}
-use Rattle.format.specs.Accepted.{settingOf, dimensionsOf, emptyOf, wordsCount, wordsAt, countsRight, positionsOf, keptOf, wordsOf, bodyRight, headerNumber, checkNumber}
+use Rattle.format.specs.Accepted.{SomePicture, settingOf, dimensionsOf, emptyOf, wordsCount, wordsAt, countsRight, positionsOf, keptOf, wordsOf, bodyRight, headerNumber, checkNumber}
 use Rattle.laws.proofs.Stored.{length-placed, below-placed}
 use Rattle.laws.proofs.Tools.{cases, both-true, not-false, refuse-zero, refuse-most, orElse-zero, orElse-small, same-true}
 use Rattle.laws.proofs.Files.{picture-accepted, setting-back, dims-back, empty-back}
@@ -116,10 +116,6 @@ accepted-has-file b h =
       fits = not-true (codec (settingOf b) .unfit (stored (emptyOf b) (wordsOf b))) (t .0);
       file = file;
     }
-
--- some picture with the header's dimensions, E, kind, width and step has the bytes
-abbrev pub SomePicture : List ℕ → Type 0
-SomePicture b = (ws : List ℕ) × HasFile (settingOf b) (dimensionsOf b) (emptyOf b) ws b
 
 -- for all lists of bytes: accepted if and only if some picture has them
 pub accepted-iff : (b : List ℕ) → (checkNumber b ≡ 0) ↔ SomePicture b

@@ -14,7 +14,7 @@ use Rattle.format.specs.declared.Dimensions.{Dimensions}
 use Rattle.format.specs.Picture.{cells}
 use Rattle.format.specs.declared.Setting.{Setting}
 use Rattle.format.specs.File.{layout, HasFile}
-use Rattle.format.specs.Accepted.{checkNumber, wordsOf}
+use Rattle.format.specs.Accepted.{checkNumber, wordsOf, settingOf}
 use Rattle.format.specs.Calls.{makeNumber, expandNumber, writeNumber, writtenFile, changeNumber, changedFile, writeSignal, changeSignal, Made, Wrote, Changed, Expanded}
 use Rattle.format.specs.Answers.{leaves, Answer, given}
 use Rattle.format.specs.Signals.{orElse}
@@ -22,7 +22,7 @@ use Rattle.format.specs.Lookups.{CellFound, RankFound, PositionFound, cellIn, c
 use Rattle.format.specs.Table.{Request, write, change, Fed, Table, newTable, tableFile, wouldBe, signal, tableNumber, becomes, tableNext, tableRun, tableNumbers}
 use Rattle.format.specs.Demand3.{Call, fed, Called, fileIn, nextFile, Ran, done, then, Listed, wordAfter, lastWritten, Alike, AsTable, Agree, TwoLists, Demand3}
 use Rattle.laws.proofs.Tools.{cases}
-use Rattle.laws.proofs.Files.{picture-accepted, words-back, same-words}
+use Rattle.laws.proofs.Files.{picture-accepted, words-back, same-words, setting-back}
 use Rattle.laws.proofs.Calls.{write-number, written-file, change-number, changed-file, cell-answer, rank-answer, position-answer, expand-number, file-in, below-replicate, write-has-file, write-inside, change-has-file, make-has-file}
 
 -- the table's picture has the file b
@@ -201,11 +201,14 @@ demand3 d E k s₁ cs₁ ns₁ b₁ l₁ s₂ cs₂ ns₂ b₂ l₂ =
         (λ a. same-alike (t₁ .setting) (t₂ .setting) d E (t₁ .words) b₁ b₂ (f₁ .holds)
             (subst (λ (ws : List ℕ). HasFile (t₂ .setting) d E ws b₂) (sym (words a)) (f₂ .holds))),
       );
-      bytes =
-          λ e. (
-            (λ a. only (λ p. ap (λ (x : List ℕ). cellAnswer x p) a)),
-            (λ a. sym (f₁ .holds .file) ∙ ap₂ (λ (s : Setting) (ws : List ℕ). layout s d E ws) e (words a) ∙ f₂ .holds .file),
-          );
+      tables = (words, (λ e p k. sym (last-word d E s₁ cs₁ ns₁ b₁ f₁ p k) ∙ ap (λ (ws : List ℕ). getD ws p 0) e ∙ last-word d E s₂ cs₂ ns₂ b₂ f₂ p k));
+      bytes = (
+        (λ a. (
+          only (λ p. ap (λ (x : List ℕ). cellAnswer x p) a),
+          sym (setting-back (t₁ .setting) d E (t₁ .words) b₁ (f₁ .holds)) ∙ ap settingOf a ∙ setting-back (t₂ .setting) d E (t₂ .words) b₂ (f₂ .holds),
+        )),
+        (λ a. sym (f₁ .holds .file) ∙ ap₂ (λ (s : Setting) (ws : List ℕ). layout s d E ws) (a .1) (words (a .0)) ∙ f₂ .holds .file),
+      );
     }
 
 -- a written word is below 2^32
@@ -244,3 +247,11 @@ answers-exist b p = (record { said = refl }, record { said = refl }, record { sa
 
 pub expand-exists : (b before : List ℕ) → Expanded b before (expandNumber b (length before)) (leaves (expandNumber b (length before)) (wordsOf b) before)
 expand-exists b before = record { number = refl; left = refl }
+
+-- each beginning of a list is a list: what ran on all the calls ran on the first of them, and then on the others
+pub beginning : (b : List ℕ) (cs more : List Call) (ns b′ : List ℕ) → Ran b (cs ++ more) ns b′
+    → (ns₁ : List ℕ) × ((ns₂ : List ℕ) × ((m : List ℕ) × ((ns ≡ ns₁ ++ ns₂) × Ran b cs ns₁ m × Ran m more ns₂ b′)))
+beginning b [] more ns b′ r = ([], (ns, (b, (refl, done, r))))
+beginning b (c ∷ cs) more ns b′ (then {n = n} after {ns = ns′} called rest) =
+    let i = beginning (nextFile b n after) cs more ns′ b′ rest in
+    (n ∷ i .0, (i .1 .0, (i .1 .1 .0, (ap (λ (l : List ℕ). n ∷ l) (i .1 .1 .1 .0), then after called (i .1 .1 .1 .1), i .1 .1 .1 .2))))

@@ -24,6 +24,8 @@ pub mod Calls
 pub mod Coordinates
 pub mod RankRange
 pub mod Shorter
+pub mod Fits
+pub mod Listing
 -- Demand 3.
 pub mod Demand3
 -- For code: other ways to the same answer.

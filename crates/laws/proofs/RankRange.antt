@@ -11,7 +11,7 @@ use lib.Dec.{leb}
 use borrow.Author.Tests.{leb-true}
 use Rattle.format.specs.Bytes.{bytes, bytesOf}
 use Rattle.format.specs.Accepted.{settingOf, dimensionsOf, emptyOf, wordsCount, wordsAt, keptOf, wordsOf, checkNumber}
-use Rattle.format.specs.Parts.{ranksNumber, ranksFrom, ranksBytes}
+use Rattle.format.specs.RankRange.{ranksNumber, ranksFrom, ranksBytes}
 use Rattle.laws.proofs.Tools.{both-true, not-false, refuse-zero, orElse-zero}
 use Rattle.laws.proofs.Bytes.{length-bytes}
 use Rattle.laws.proofs.Files.{from-words, kept-back}

@@ -5,9 +5,9 @@ use mathlib.Core.Bool.{Bool, true, false, not}
 use mathlib.Core.List.{List, [], _∷_, _++_}
 use native.Mathlib.Nat.{le-refl, sub-zero, zero-add, sub-add-eq}
 use native.Mathlib.Omega.{arith}
-use lib.ListN.{length}
+use lib.ListN.{length, getD}
 use lib.Dec.{eqb, leb, ltb}
-use borrow.Author.Tests.{eqb-true, eqb-false, leb-true, leb-false, ltb-true, ltb-false, le-leb, lt-leb, lt-ltb, le-ltb}
+use borrow.Author.Tests.{eq-eqb, ne-eqb, eqb-true, eqb-false, leb-true, leb-false, ltb-true, ltb-false, le-leb, lt-leb, lt-ltb, le-ltb}
 use Rattle.format.specs.Tools.{pick}
 use Rattle.format.specs.Stored.{storedFrom, stored}
 use Rattle.format.specs.Runs.{Run, Span, runAt, runsFrom, runs, spansFrom, spans, positionsFrom, runRankFrom, runRank, runPosition}
@@ -17,7 +17,7 @@ use Rattle.format.specs.Lookups.{rankIn, positionIn}
 use Rattle.laws.proofs.Stored.{Rising, rising-stored}
 use Rattle.laws.proofs.Search.{rankAmong, seekFrom, Proper, along, rank-among, positionAmong, along-position}
 use Rattle.laws.proofs.Tools.{cases}
-use Rattle.laws.proofs.Positions.{runs-back}
+use Rattle.laws.proofs.Positions.{rising-at, runs-back}
 use Rattle.laws.proofs.Descent.{descent-finds, cells-add, stored-add}
 
 -- runs in order: each ends past the one before, with no fewer empty cells, and has a stored cell
@@ -185,3 +185,41 @@ kind-1-position E r ws =
 pub kind-5-position : (E b r : ℕ) (ws : List ℕ) → 2 ≤ b → positionIn E ws r ≡ positionAtPlace (descent storedCells b (spans (runs (stored E ws))) r)
 kind-5-position E b r ws g =
     position-seek E r ws ∙ ap positionAtPlace (sym (descent-finds storedCells stored-add refl b r (spans (runs (stored E ws))) g (proper E ws)))
+
+-- ---- what kinds 1 and 5 share, over any list of runs in order
+
+pub rank-shared : (b p : ℕ) (xs : List Run) → 2 ≤ b → InOrder 0 0 xs → rankAtPlace (descent allCells b (spans xs) p) ≡ runRank xs p
+unfolding spans runRank
+rank-shared b p xs g o =
+    ap rankAtPlace (descent-finds allCells cells-add refl b p (spansFrom 0 0 xs) g (proper-spans 0 0 xs o))
+    ∙ ap (λ (q : ℕ). rankAtPlace (seekFrom allCells 0 q none (spansFrom 0 0 xs))) (sym (sub-zero p))
+    ∙ run-rank 0 0 p 0 none xs o (omega arith) (omega arith) refl refl
+
+pub position-shared : (b r : ℕ) (xs : List Run) → 2 ≤ b → InOrder 0 0 xs → positionAtPlace (descent storedCells b (spans xs) r) ≡ runPosition xs r
+unfolding spans
+position-shared b r xs g o =
+    ap positionAtPlace (descent-finds storedCells stored-add refl b r (spansFrom 0 0 xs) g (proper-spans 0 0 xs o))
+    ∙ ap (λ (q : ℕ). positionAtPlace (seekFrom storedCells 0 q none (spansFrom 0 0 xs))) (sym (sub-zero r))
+    ∙ run-position 0 0 r 0 none xs o (omega arith) (omega arith) refl
+
+-- ---- L(r) is the position of rank r
+
+among-at : (r k a B : ℕ) (ls : List ℕ) → Rising a B ls → r < length ls → rankAmong (getD ls r 0) k ls ≡ given (k + r)
+unfolding rankAmong
+among-at r k a B [] o h = absurd (omega arith)
+among-at zero k a B (l ∷ ls) o h = rw (eq-eqb l l refl) (ap given (omega arith))
+among-at (suc r) k a B (l ∷ ls) o h =
+    let i = rising-at (suc l) B ls r (o .2) (omega arith) in
+    let ih = among-at r (suc k) (suc l) B ls (o .2) (omega arith) in
+    rw (ne-eqb l (getD ls r 0) (λ e. omega arith)) (ih ∙ ap given (omega arith))
+
+pub rank-at : (E r : ℕ) (ws : List ℕ) → r < length (stored E ws) → rankIn E ws (getD (stored E ws) r 0) ≡ given r
+rank-at E r ws h =
+    let o = rising E ws in
+    let k : getD (stored E ws) r 0 < length ws = below-getD-at r 0 (length ws) (stored E ws) o h in
+    rank-among E (getD (stored E ws) r 0) ws k ∙ among-at r 0 0 (length ws) (stored E ws) o h ∙ ap given (omega arith)
+  where
+    below-getD-at : (r a B : ℕ) (ls : List ℕ) → Rising a B ls → r < length ls → getD ls r 0 < B
+    below-getD-at r a B [] o h = absurd (omega arith)
+    below-getD-at zero a B (l ∷ ls) o h = o .1
+    below-getD-at (suc r) a B (l ∷ ls) o h = below-getD-at r (suc l) B ls (o .2) (omega arith)
