@@ -6,7 +6,7 @@ use mathlib.Core.List.{List, [], _∷_}
 use native.Mathlib.Nat.{le-refl, one-le-mul, mul-assoc, mul-one, mul-comm, le-mul-of-pos-right}
 use native.Mathlib.Numerals.{add-one}
 use native.Mathlib.Omega.{arith}
-use lib.ListN.{length, take, drop, getD}
+use lib.ListN.{length, take, drop, getD, drop-of-length-le}
 use lib.Seq.{drop-cons}
 use lib.Dec.{leb, eqb}
 use borrow.Author.Tests.{eqb-true, ne-eqb, leb-true, leb-false, le-leb, lt-leb}
@@ -145,10 +145,4 @@ module _ (m c i : ℕ) (es : List ℕ) where
 
   pub count-end : length es ≤ i → countFrom (m - i) c (drop i es) ≡ c
   unfolding countFrom
-  count-end h = rw (drop-all i es h)
-    where
-      drop-all : (i : ℕ) (es : List ℕ) → length es ≤ i → drop i es ≡ []
-      drop-all zero [] h = refl
-      drop-all (suc i) [] h = refl
-      drop-all zero (e ∷ es) h = absurd (omega arith)
-      drop-all (suc i) (e ∷ es) h = drop-all i es (omega arith)
+  count-end h = rw (drop-of-length-le es h)

@@ -6,3 +6,5 @@ pub mod CellCount
 pub mod SettingNumber
 pub mod HeaderNumber
 pub mod EntryCounts
+pub mod RowOrder
+pub mod CoordinateAnswers

@@ -1,4 +1,5 @@
 // The header of a file (document 01, "The file").
+pub mod coordinates;
 pub mod counts;
 pub mod extents;
 pub mod number;

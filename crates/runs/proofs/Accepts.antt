@@ -1,16 +1,16 @@
 -- The check along runs, as the loop goes: it passes exactly for runs in strict order that end below cells and hold as many stored cells as there are words.
 -- Assumes nothing.
-use Prim.Native.Nat.{ℕ, zero, suc, _+_, _-_, _*_, _≤_, _<_}
-use mathlib.Core.Path.{_≡_, refl, sym, ap, ap₂, _∙_}
+use Prim.Native.Nat.{ℕ, zero, suc, _+_, _-_, _≤_, _<_}
+use mathlib.Core.Path.{_≡_, refl}
 use mathlib.Core.Bool.{Bool, true, false, not, _||_}
 use mathlib.Core.List.{List, [], _∷_}
 use native.Mathlib.Numerals.{add-one}
 use native.Mathlib.Omega.{arith}
 use lib.Dec.{eqb, leb, ltb}
-use borrow.Author.Tests.{eqb-true, eq-eqb, leb-true, le-leb, lt-leb, ltb-false, le-ltb, lt-ltb, not-true}
+use borrow.Author.Tests.{eqb-true, eq-eqb, leb-true, le-leb, lt-leb, ltb-false, le-ltb, not-true}
 use Rattle.format.specs.Tools.{both}
 use Rattle.format.specs.Runs.{Run}
-use Rattle.laws.proofs.Tools.{cases, both-true, both-make}
+use Rattle.laws.proofs.Tools.{both-true, both-make}
 use Rattle.laws.proofs.RunsBack.{leastEmpty, InOrder', lastEnd, lastEmpty}
 use Rattle.runs.proofs.Pairs.{pairAt, pairs}
 

@@ -1,12 +1,12 @@
 -- The parts of a kind 1 file are right exactly when its pairs are. Assumes nothing.
-use Prim.Native.Nat.{ℕ, zero, suc, _+_, _-_, _*_, _^_, _≤_, _<_}
-use mathlib.Core.Path.{_≡_, refl, sym, ap, ap₂, _∙_}
-use mathlib.Core.Bool.{Bool, true, false, not}
-use mathlib.Core.List.{List, [], _∷_, _++_}
+use Prim.Native.Nat.{ℕ, _+_, _*_, _^_, _≤_}
+use mathlib.Core.Path.{_≡_, refl, sym, ap, _∙_}
+use mathlib.Core.Bool.{Bool, true}
+use mathlib.Core.List.{List, [], _++_}
 use native.Mathlib.Nat.{zero-mul}
 use native.Mathlib.Omega.{arith}
 use lib.ListN.{length, take, drop, length-drop, take-append-drop}
-use lib.Dec.{eqb, leb}
+use lib.Dec.{eqb}
 use borrow.Author.Tests.{eqb-true, eq-eqb}
 use Rattle.format.specs.declared.View.{View}
 use Rattle.format.specs.Tools.{Below, both, same}
@@ -14,7 +14,6 @@ use Rattle.format.specs.Bytes.{bytesOf, numbersOf}
 use Rattle.format.specs.Picture.{cells}
 use Rattle.format.specs.Runs.{Run, runs, spans, positionsFrom, flatRuns, runsIn, runParts, runsKind}
 use Rattle.format.specs.Kinds.{codec}
-use Rattle.format.specs.File.{headerLength}
 use Rattle.format.specs.Accepted.{settingOf, dimensionsOf, wordsCount, firstCount, secondCount, secondAt, positionsOf, headerNumber}
 use Rattle.format.specs.Opened.{viewOf}
 use Rattle.laws.proofs.Tools.{cases, both-true, same-refl, same-true}
@@ -23,11 +22,11 @@ use Rattle.laws.proofs.Bytes.{numbersOf-bytesOf, below-drop}
 use Rattle.laws.proofs.Bounds.{below-runs, below-widen}
 use Rattle.laws.proofs.Positions.{runs-in-flat, length-flatRuns}
 use Rattle.laws.proofs.Check.{bytesOf-numbersOf}
-use Rattle.laws.proofs.RunsBack.{InOrder', lastEnd, lastEmpty, weaker, runs-again, rising-again, length-again, runs-ordered, runs-end, runs-length}
+use Rattle.laws.proofs.RunsBack.{weaker, runs-again, rising-again, length-again, runs-ordered, runs-end, runs-length}
 use Rattle.header.specs.Search.{HeaderView}
 use Rattle.header.specs.Body.{rises, partsRight}
 use Rattle.header.specs.View.{firstSizeOf, secondSizeOf, secondPlace, wordsPlace}
-use Rattle.header.proofs.Frame.{Framed, framed, CountsOf}
+use Rattle.header.proofs.Frame.{framed, CountsOf}
 use Rattle.header.proofs.Body.{rises-true, rising-rises}
 use Rattle.runs.proofs.Pairs.{pairs, length-pairs, pairs-in, flat-pairs}
 use Rattle.runs.proofs.Accepts.{Right, rightFrom, right-true, true-right}
@@ -116,7 +115,8 @@ unfolding wordsPlace secondPlace viewOf
 inside b kind h =
     let f = framed b h in
     let c : CountsOf 1 (settingOf b .width) (settingOf b .step) (wordsCount b) (firstCount b) (secondCount b) = rw kind at (f .counts) in
-    let z : length b ≡ 52 + firstSizeOf (settingOf b .kind) * firstCount b + secondSizeOf (settingOf b .kind) (settingOf b .width) * secondCount b + 4 * wordsCount b = f .size in
+    let z : length b ≡ 52 + firstSizeOf (settingOf b .kind) * firstCount b + secondSizeOf (settingOf b .kind) (settingOf b .width) * secondCount b + 4 * wordsCount b
+    = f .size in
     let y : length b ≡ 52 + 8 * firstCount b + 0 * secondCount b + 4 * wordsCount b = rw kind at z in
     record { long = omega arith; second = c .3; most = rw (← f .cells) (f .cells-most) }
 

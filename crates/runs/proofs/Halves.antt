@@ -1,10 +1,9 @@
--- A search by halves for an edge of a test: what a turn learns. Assumes nothing.
+-- A search by halves for an edge of a test, what a turn learns; and the pair before a run. Assumes nothing.
 use Prim.Native.Nat.{ℕ, zero, suc, _+_, _-_, _/_, _≤_, _<_}
-use mathlib.Core.Path.{_≡_, refl, sym, ap, _∙_}
+use mathlib.Core.Path.{_≡_, refl}
 use mathlib.Core.Bool.{Bool, true, false}
 use mathlib.Core.List.{List}
 use native.Mathlib.Omega.{arith}
-use lib.Dec.{leb}
 use Rattle.runs.specs.Edge.{Edge, lastAt, emptyAt, endBefore, emptyBefore}
 
 -- an edge among n indices lies between two of them

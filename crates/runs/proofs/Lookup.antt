@@ -1,21 +1,21 @@
 -- What the searches of kind 1 answer on an accepted file: the definition's rank and position. Assumes nothing.
 use Prim.Native.Nat.{ℕ, zero, suc, _+_, _-_, _*_, _≤_, _<_}
 use mathlib.Core.Path.{_≡_, refl, sym, ap, ap₂, _∙_}
-use mathlib.Core.Bool.{Bool, true, false}
-use mathlib.Core.List.{List, [], _∷_}
+use mathlib.Core.Bool.{Bool}
+use mathlib.Core.List.{List}
 use native.Mathlib.Omega.{arith}
-use lib.ListN.{length, getD}
-use lib.Dec.{leb, ltb, eqb}
+use lib.ListN.{length}
+use lib.Dec.{leb}
 use borrow.Author.Tests.{leb-true, le-leb, lt-leb, le-ltb}
 use Rattle.format.specs.declared.View.{View}
 use Rattle.format.specs.Tools.{pick}
 use Rattle.format.specs.Bytes.{field}
 use Rattle.format.specs.Picture.{cells}
 use Rattle.format.specs.Stored.{stored}
-use Rattle.format.specs.Answers.{Answer, empty, given, refused}
+use Rattle.format.specs.Answers.{empty, given, refused}
 use Rattle.format.specs.Lookups.{rankIn, positionIn}
-use Rattle.format.specs.Runs.{Run, runs, runsKind, runParts, runRank, runPosition}
-use Rattle.format.specs.Accepted.{settingOf, dimensionsOf, emptyOf, wordsCount, firstCount, positionsOf, wordsOf, checkNumber}
+use Rattle.format.specs.Runs.{Run, runs, runsKind, runParts, runRank}
+use Rattle.format.specs.Accepted.{settingOf, dimensionsOf, emptyOf, firstCount, positionsOf, wordsOf, checkNumber}
 use Rattle.format.specs.Opened.{viewOf}
 use Rattle.laws.proofs.Acceptance.{accepted, accepted-has-file}
 use Rattle.laws.proofs.Files.{positions-back}
@@ -24,23 +24,27 @@ use Rattle.laws.proofs.RunsBack.{lastEnd, lastEmpty, weaker, runs-ordered, runs
 use Rattle.header.specs.Search.{ViewOf}
 use Rattle.header.proofs.Frame.{framed}
 use Rattle.header.proofs.Body.{accepted-parts}
-use Rattle.wire.specs.Wire.{whole}
 use Rattle.wire.proofs.Laws.{whole-there}
 use Rattle.runs.specs.Edge.{lastAt, emptyAt, endBefore, emptyBefore, reaches, holds, Edge}
-use Rattle.runs.proofs.Pairs.{pairAt, pairs, length-pairs, pair-index}
-use Rattle.runs.proofs.Body.{of-kind, Inside, inside, read-back}
-use Rattle.runs.proofs.Walk.{noRun, nth, endsAt, emptiesAt, Ordered, ordered-at, walk, walk-at, walk-past, reachesRun, holdsRun, reaches-mono, holds-mono, ruleRank, rulePosition, rank-walk, position-walk}
+use Rattle.runs.proofs.Pairs.{pairs, length-pairs, pair-index}
+use Rattle.runs.proofs.Body.{of-kind, inside, read-back}
+use Rattle.runs.proofs.Walk.{noRun, nth, endsAt, emptiesAt, Ordered, ordered-at, walk, walk-at, walk-past}
+use Rattle.runs.proofs.Walk.{reachesRun, holdsRun, reaches-mono, holds-mono, ruleRank, rulePosition, rank-walk, position-walk}
 
 -- ---- an accepted file by its view
 
+-- the runs that the pairs say
+abbrev pub runsOf : List ℕ → View → List Run
+runsOf b v = pairs (v .firsts) 52 b
+
 pub record Filed (b : List ℕ) (v : View) : Type 0 where
   pub long : 52 + 8 * v .firsts ≤ length b
-  pub order : InOrder 0 0 (pairs (v .firsts) 52 b)
-  pub cells : lastEnd 0 (pairs (v .firsts) 52 b) ≤ v .cells
-  pub words : lastEnd 0 (pairs (v .firsts) 52 b) ≡ lastEmpty 0 (pairs (v .firsts) 52 b) + v .words
+  pub order : InOrder 0 0 (runsOf b v)
+  pub cells : lastEnd 0 (runsOf b v) ≤ v .cells
+  pub words : lastEnd 0 (runsOf b v) ≡ lastEmpty 0 (runsOf b v) + v .words
   pub size : length (wordsOf b) ≡ v .cells
   pub count : length (stored (emptyOf b) (wordsOf b)) ≡ v .words
-  pub again : runs (stored (emptyOf b) (wordsOf b)) ≡ pairs (v .firsts) 52 b
+  pub again : runs (stored (emptyOf b) (wordsOf b)) ≡ runsOf b v
 
 by-view : (b : List ℕ) → settingOf b .kind ≡ 1 → checkNumber b ≡ 0 → Filed b (viewOf b)
 unfolding viewOf runsKind runParts
@@ -128,32 +132,33 @@ module _ (b : List ℕ) (v : View) (p : ℕ) (f : Filed b v) where
   rank-beyond h = let z = f .size in rw (le-ltb p (length (wordsOf b)) (omega arith))
 
   module _ (h : p < v .cells) (j : ℕ) (g : Edge (reaches b p) (v .firsts) j) where
-    rank-along : rankIn (emptyOf b) (wordsOf b) p ≡ walk (reachesRun p) (ruleRank p) empty 0 0 (pairs (v .firsts) 52 b)
+    rank-along : rankIn (emptyOf b) (wordsOf b) p ≡ walk (reachesRun p) (ruleRank p) empty 0 0 (runsOf b v)
     unfolding runRank
     rank-along =
         let z = f .size in
-        kind-1-rank (emptyOf b) p (wordsOf b) (omega arith) ∙ rw (f .again) (rank-walk p 0 0 (pairs (v .firsts) 52 b))
+        kind-1-rank (emptyOf b) p (wordsOf b) (omega arith) ∙ rw (f .again) (rank-walk p 0 0 (runsOf b v))
 
     pub rank-none : v .firsts ≤ j → empty ≡ rankIn (emptyOf b) (wordsOf b) p
     rank-none k =
         let e = length-pairs (v .firsts) 52 b in
         sym
         (rank-along
-        ∙ walk-past (reachesRun p) (reaches-mono p) (ruleRank p) empty 0 0 (pairs (v .firsts) 52 b) j (f .order) (edge-reaches b (v .firsts) (f .long) p j g) (omega arith))
+        ∙ walk-past (reachesRun p) (reaches-mono p) (ruleRank p) empty 0 0 (runsOf b v) j (f .order) (edge-reaches b (v .firsts) (f .long) p j g) (omega arith))
 
     module _ (k : j < v .firsts) {e w y : ℕ} (qe : e ≡ endBefore b j) (qw : w ≡ emptyBefore b j) (qy : y ≡ emptyAt b j) where
-      in-run : Ordered e w (lastAt b j) y (lastEnd 0 (pairs (v .firsts) 52 b)) (lastEmpty 0 (pairs (v .firsts) 52 b))
+      in-run : Ordered e w (lastAt b j) y (lastEnd 0 (runsOf b v)) (lastEmpty 0 (runsOf b v))
       in-run =
           let n = length-pairs (v .firsts) 52 b in
-          rw (qe, qw, qy, end-run b (v .firsts) (f .long) j k, before-run b (v .firsts) (f .long) j k, last-run b (v .firsts) (f .long) j k, empty-run b (v .firsts) (f .long) j k)
-          (ordered-at 0 0 (pairs (v .firsts) 52 b) j (f .order) (omega arith) (omega arith))
+          let l = last-run b (v .firsts) (f .long) j k in
+          rw (qe, qw, qy, end-run b (v .firsts) (f .long) j k, before-run b (v .firsts) (f .long) j k, l, empty-run b (v .firsts) (f .long) j k)
+          (ordered-at 0 0 (runsOf b v) j (f .order) (omega arith) (omega arith))
 
       rank-rule : rankIn (emptyOf b) (wordsOf b) p ≡ pick (leb (e + (y - w)) p) (given (p - y)) empty
       rank-rule =
           let n = length-pairs (v .firsts) 52 b in
           rw (qe, qw, qy, end-run b (v .firsts) (f .long) j k, before-run b (v .firsts) (f .long) j k, empty-run b (v .firsts) (f .long) j k)
           (rank-along
-          ∙ walk-at (reachesRun p) (reaches-mono p) (ruleRank p) empty 0 0 (pairs (v .firsts) 52 b) j (f .order) (edge-reaches b (v .firsts) (f .long) p j g) (omega arith))
+          ∙ walk-at (reachesRun p) (reaches-mono p) (ruleRank p) empty 0 0 (runsOf b v) j (f .order) (edge-reaches b (v .firsts) (f .long) p j g) (omega arith))
 
       pub ruled : Ruled b v p e w y
       ruled =
@@ -175,15 +180,15 @@ module _ (b : List ℕ) (v : View) (r : ℕ) (f : Filed b v) where
   position-beyond h = let z = f .count in rw (le-ltb r (length (stored (emptyOf b) (wordsOf b))) (omega arith))
 
   module _ (j : ℕ) (g : Edge (holds b r) (v .firsts) j) where
-    position-along : positionIn (emptyOf b) (wordsOf b) r ≡ walk (holdsRun r) (rulePosition r) (refused 8) 0 0 (pairs (v .firsts) 52 b)
-    position-along = kind-1-position (emptyOf b) r (wordsOf b) ∙ rw (f .again) (position-walk r 0 0 (pairs (v .firsts) 52 b))
+    position-along : positionIn (emptyOf b) (wordsOf b) r ≡ walk (holdsRun r) (rulePosition r) (refused 8) 0 0 (runsOf b v)
+    position-along = kind-1-position (emptyOf b) r (wordsOf b) ∙ rw (f .again) (position-walk r 0 0 (runsOf b v))
 
     pub position-none : v .firsts ≤ j → refused 8 ≡ positionIn (emptyOf b) (wordsOf b) r
     position-none k =
         let e = length-pairs (v .firsts) 52 b in
         sym
         (position-along
-        ∙ walk-past (holdsRun r) (holds-mono r) (rulePosition r) (refused 8) 0 0 (pairs (v .firsts) 52 b) j (f .order) (edge-holds b (v .firsts) (f .long) r j g) (omega arith))
+        ∙ walk-past (holdsRun r) (holds-mono r) (rulePosition r) (refused 8) 0 0 (runsOf b v) j (f .order) (edge-holds b (v .firsts) (f .long) r j g) (omega arith))
 
     module _ (k : j < v .firsts) {y : ℕ} (qy : y ≡ emptyAt b j) where
       pub position-given : given (r + y) ≡ positionIn (emptyOf b) (wordsOf b) r
@@ -192,13 +197,13 @@ module _ (b : List ℕ) (v : View) (r : ℕ) (f : Filed b v) where
           rw (qy, empty-run b (v .firsts) (f .long) j k)
           (sym
           (position-along
-          ∙ walk-at (holdsRun r) (holds-mono r) (rulePosition r) (refused 8) 0 0 (pairs (v .firsts) 52 b) j (f .order) (edge-holds b (v .firsts) (f .long) r j g) (omega arith)))
+          ∙ walk-at (holdsRun r) (holds-mono r) (rulePosition r) (refused 8) 0 0 (runsOf b v) j (f .order) (edge-holds b (v .firsts) (f .long) r j g) (omega arith)))
 
       pub position-cells : r + y < v .cells
       position-cells =
           let n = length-pairs (v .firsts) 52 b in
           let t = leb-true (r + emptyAt b j) (lastAt b j) (g .passes k) in
-          let o = ordered-at 0 0 (pairs (v .firsts) 52 b) j (f .order) (omega arith) (omega arith) .cells in
+          let o = ordered-at 0 0 (runsOf b v) j (f .order) (omega arith) (omega arith) .cells in
           let l = last-run b (v .firsts) (f .long) j k in
           let z = f .cells in
           omega arith

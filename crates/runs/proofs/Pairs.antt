@@ -1,17 +1,12 @@
 -- The pairs of the first part as runs, by their place in the file. Assumes nothing.
-use Prim.Native.Nat.{ℕ, zero, suc, _+_, _*_, _^_, _≤_, _<_}
-use mathlib.Core.Path.{_≡_, refl, sym, ap, ap₂, _∙_}
-use mathlib.Core.List.{List, [], _∷_, _++_}
-use native.Mathlib.Nat.{add-zero}
+use Prim.Native.Nat.{ℕ, zero, suc, _+_, _*_, _<_}
+use mathlib.Core.Path.{_≡_, refl, sym, ap, _∙_}
+use mathlib.Core.List.{List, [], _∷_}
 use native.Mathlib.Omega.{arith}
-use lib.ListN.{length, getD, take, drop, length-drop, take-append-drop}
+use lib.ListN.{length, getD, drop}
 use lib.Seq.{drop-drop}
-use Rattle.format.specs.Tools.{Below}
-use Rattle.format.specs.Bytes.{number, bytesOf, field, numbersOf}
+use Rattle.format.specs.Bytes.{field, numbersOf}
 use Rattle.format.specs.Runs.{Run, flatRuns, runsIn}
-use Rattle.laws.proofs.Bytes.{numbersOf-bytesOf, below-drop}
-use Rattle.laws.proofs.Positions.{runs-in-flat, length-flatRuns}
-use Rattle.laws.proofs.Check.{bytesOf-numbersOf}
 
 -- the pair at a place
 abbrev pub pairAt : ℕ → List ℕ → Run

@@ -4,22 +4,16 @@ use Rattle.laws.proofs.Bounds.{upTo-le}
 use borrow.Author.Needs.{needs}
 use Rattle.header.proofs.counts.base_count.Statement.{statement}
 use Rattle.header.proofs.counts.base_count.Tie as tie
-use Rattle.header.proofs.counts.base_count.Reads as reads
-use Rattle.header.proofs.counts.base_count.Lts as lts
 
--- src/counts.rt:16:11
 sub-result : tie.Need-sub-result
 sub-result c = search needs
 
--- src/counts.rt:16:6
 add-result : tie.Need-add-result
 add-result c = search needs
 
--- src/counts.rt:16:5
 div-result : tie.Need-div-result
 div-result c = search needs
 
--- src/counts.rt:12:1
 returns : tie.Need-returns
 returns c = (refl, upTo-le (c .args .n) (c .args .l) (c .pre .1))
 

@@ -7,20 +7,14 @@ use Rattle.header.proofs.EntryCounts.{both-true-right, both-false-right
 use borrow.Author.Needs.{needs}
 use Rattle.header.proofs.counts.base_counts.Statement.{statement}
 use Rattle.header.proofs.counts.base_counts.Tie as tie
-use Rattle.header.proofs.counts.base_counts.Reads as reads
-use Rattle.header.proofs.counts.base_counts.Lts as lts
-use Rattle.header.proofs.counts.base_count.Reads as base-count-reads
 
--- src/counts.rt:52:41
 base-count-requires : tie.Need-base-count-requires
 base-count-requires c κs = search needs
 
--- src/counts.rt:48:1
 returns : tie.Need-returns
 unfolding countsAt basedKind
 returns c = let v = c .before .before .before .before .args .v in rw (c .before .base-count .ensures .0, eq-eqb _ _ (c .before .before .if1 .taken)) (both-true-right (eqb (v .firsts) (upTo (v .words) (v .step))))
 
--- src/counts.rt:48:1
 returns-2 : tie.Need-returns-2
 unfolding countsAt basedKind
 returns-2 c = let v = c .before .before .args .v in rw (ne-eqb _ _ (c .if1 .left)) (both-false-right (eqb (v .firsts) (upTo (v .words) (v .step))))

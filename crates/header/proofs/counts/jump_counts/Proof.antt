@@ -3,15 +3,11 @@ use Rattle.format.specs.Jumps.{jumpsKind}
 use Rattle.header.specs.Number.{countsAt}
 use Rattle.header.proofs.counts.jump_counts.Statement.{statement}
 use Rattle.header.proofs.counts.jump_counts.Tie as tie
-use Rattle.header.proofs.counts.jump_counts.Reads as reads
-use Rattle.header.proofs.counts.jump_counts.Lts as lts
 
--- src/counts.rt:56:1
 returns : tie.Need-returns
 unfolding countsAt jumpsKind
 returns c = rw (le-leb _ _ (c .before .if1 .taken))
 
--- src/counts.rt:56:1
 returns-2 : tie.Need-returns-2
 unfolding countsAt jumpsKind
 returns-2 c = rw (lt-leb _ _ (c .if1 .left))

@@ -6,22 +6,16 @@ use Rattle.header.proofs.EntryCounts.{both-true-right, both-false-right
 use borrow.Author.Needs.{needs}
 use Rattle.header.proofs.counts.page_counts.Statement.{statement}
 use Rattle.header.proofs.counts.page_counts.Tie as tie
-use Rattle.header.proofs.counts.page_counts.Reads as reads
-use Rattle.header.proofs.counts.page_counts.Lts as lts
-use Rattle.header.proofs.counts.upper_count.Reads as upper-count-reads
 
--- src/counts.rt:67:41
 upper-count-requires : tie.Need-upper-count-requires
 upper-count-requires c κs = search needs
 
--- src/counts.rt:63:1
 returns : tie.Need-returns
 unfolding countsAt pagesKind
 returns c =
     let v = c .before .before .before .before .args .v in
     rw (c .before .upper-count .ensures .0, le-leb _ _ (c .before .before .if1 .taken)) (both-true-right (eqb (v .firsts) (upperEntries (v .step) (v .seconds))))
 
--- src/counts.rt:63:1
 returns-2 : tie.Need-returns-2
 unfolding countsAt pagesKind
 returns-2 c =

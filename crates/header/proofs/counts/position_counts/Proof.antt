@@ -3,15 +3,11 @@ use Rattle.format.specs.Positions.{positionsKind}
 use Rattle.header.specs.Number.{countsAt}
 use Rattle.header.proofs.counts.position_counts.Statement.{statement}
 use Rattle.header.proofs.counts.position_counts.Tie as tie
-use Rattle.header.proofs.counts.position_counts.Reads as reads
-use Rattle.header.proofs.counts.position_counts.Lts as lts
 
--- src/counts.rt:41:1
 returns : tie.Need-returns
 unfolding countsAt positionsKind
 returns c = rw (eq-eqb _ _ (c .before .if1 .taken))
 
--- src/counts.rt:41:1
 returns-2 : tie.Need-returns-2
 unfolding countsAt positionsKind
 returns-2 c = rw (ne-eqb _ _ (c .if1 .left))

@@ -8,8 +8,6 @@ use Rattle.laws.proofs.Bounds.{upperEntries-le}
 use Rattle.header.proofs.EntryCounts.{upper-less, upper-turn, upper-end}
 use Rattle.header.proofs.counts.upper_count.Statement.{statement}
 use Rattle.header.proofs.counts.upper_count.Tie as tie
-use Rattle.header.proofs.counts.upper_count.Reads as reads
-use Rattle.header.proofs.counts.upper_count.Lts as lts
 
 abbrev Inv-loop : tie.InvT-loop
 Inv-loop b v level₀ entries₀ level entries = (level ≤ v) × (entries + upperEntries b level ≡ upperEntries b v)
@@ -29,23 +27,18 @@ turn c =
 less : (c : tie.In-loop Inv-loop μ-loop) → upTo (c .before .loop .level) (c .before .before .args .b) < c .before .loop .level
 less c = upper-less (c .before .before .args .b) (c .before .loop .level) (c .before .before .pre .0) (c .loop-test .taken)
 
--- src/counts.rt:26:5
 loop-holds : tie.Need-loop-holds Inv-loop μ-loop
 loop-holds c = search needs
 
--- src/counts.rt:27:27
 sub-level : tie.Need-sub-level Inv-loop μ-loop
 sub-level c = search needs
 
--- src/counts.rt:27:18
 add-level : tie.Need-add-level Inv-loop μ-loop
 add-level c = search needs
 
--- src/counts.rt:27:17
 div-level : tie.Need-div-level Inv-loop μ-loop
 div-level c = search needs
 
--- src/counts.rt:28:9
 add-entries : tie.Need-add-entries Inv-loop μ-loop
 add-entries c =
     let s = c .before .before in
@@ -53,15 +46,12 @@ add-entries c =
     let t = turn c in
     record { fits = omega arith }
 
--- src/counts.rt:26:5
 loop-less : tie.Need-loop-less Inv-loop μ-loop
 loop-less c = less c
 
--- src/counts.rt:26:5
 loop-again : tie.Need-loop-again Inv-loop μ-loop
 loop-again c = let l = less c in (omega arith, turn c)
 
--- src/counts.rt:20:1
 returns : tie.Need-returns Inv-loop μ-loop
 returns c =
     let s = c .before .before in

@@ -16,8 +16,6 @@ use Rattle.header.specs.CellCount.{extentAllowed, countFrom}
 use Rattle.header.proofs.CellCount.{count-cells, count-outside, dimension-allowed, past-allowed, past-refused, count-step, count-refused, count-zero, count-past, count-end}
 use Rattle.header.proofs.extents.cell_count.Statement.{statement}
 use Rattle.header.proofs.extents.cell_count.Tie as tie
-use Rattle.header.proofs.extents.cell_count.Reads as reads
-use Rattle.header.proofs.extents.cell_count.Lts as lts
 
 abbrev Inv-loop : tie.InvT-loop
 Inv-loop count extents dimensions cells₀ i₀ cells i =
@@ -103,9 +101,10 @@ loop-again c =
     let e = s .args .d .extents in
     let f = four s in
     let n = s .args .d .count - l .i in
+    let small : l .cells * getD e (l .i) 0 ≤ 16777216 = omega arith in
     let ok : extentAllowed n (getD e (l .i) 0) ≡ true =
     ⊎-elim (λ w. past-allowed n (getD e (l .i) 0) (omega (arith, w .0 .taken)) (w .1 .left)) (λ w. dimension-allowed n (getD e (l .i) 0) (omega (arith, w .left)) (c .before .before .if3 .left)) (c .before .if4 .came) in
-    (omega arith, c .if6 .left, sym (count-step (s .args .d .count) (l .cells) (l .i) e (omega arith) ok (c .if6 .left)) ∙ l .inv .2)
+    (omega arith, small, sym (count-step (s .args .d .count) (l .cells) (l .i) e (omega arith) ok small) ∙ l .inv .2)
 
 cast-result : tie.Need-cast-result Inv-loop μ-loop
 cast-result c = search needs
@@ -114,11 +113,9 @@ returns-6 : tie.Need-returns-6 Inv-loop μ-loop
 returns-6 c =
     let l = c .before .loop in
     let s = c .before .before .before .before .before in
-    let f = four s in (
-      sym (count-end (s .args .d .count) (l .cells) (l .i) (s .args .d .extents) (omega arith)) ∙ l .inv .2
-          ∙ count-cells (s .args .d) (omega arith) (omega arith) f,
-      omega arith,
-    )
+    let f = four s in
+    (sym (count-end (s .args .d .count) (l .cells) (l .i) (s .args .d .extents) (omega arith)) ∙ l .inv .2
+    ∙ count-cells (s .args .d) (omega arith) (omega arith) f, omega arith)
 
 pub cell-count-spec : {M : Type 1} → statement M
 cell-count-spec =

@@ -3,27 +3,19 @@ use Rattle.header.specs.Number.{endPlace}
 use borrow.Author.Needs.{needs}
 use Rattle.header.proofs.number.end_at.Statement.{statement}
 use Rattle.header.proofs.number.end_at.Tie as tie
-use Rattle.header.proofs.number.end_at.Reads as reads
-use Rattle.header.proofs.number.end_at.Lts as lts
-use Rattle.header.proofs.places.words_at.Reads as words-at-reads
 
--- src/number.rt:21:5
 words-at-requires : tie.Need-words-at-requires
 words-at-requires c κs = search needs
 
--- src/number.rt:21:23
 cast-result : tie.Need-cast-result
 cast-result c = search needs
 
--- src/number.rt:21:19
 mul-result : tie.Need-mul-result
 mul-result c = search needs
 
--- src/number.rt:21:5
 add-result : tie.Need-add-result
 add-result c = search needs
 
--- src/number.rt:18:1
 returns : tie.Need-returns
 unfolding endPlace
 returns c = let e = c .before .words-at .ensures .0 in (rw e, omega arith)

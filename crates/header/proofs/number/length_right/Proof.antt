@@ -4,29 +4,20 @@ use Rattle.header.proofs.HeaderNumber.{test-false, test-true}
 use borrow.Author.Needs.{needs}
 use Rattle.header.proofs.number.length_right.Statement.{statement}
 use Rattle.header.proofs.number.length_right.Tie as tie
-use Rattle.header.proofs.number.length_right.Reads as reads
-use Rattle.header.proofs.number.length_right.Lts as lts
-use Rattle.header.proofs.number.end_at.Reads as end-at-reads
-use Rattle.wire.proofs.get_u32.Reads as get-u32-reads
 
--- src/number.rt:43:9
 end-at-requires : tie.Need-end-at-requires
 end-at-requires c κs = search needs
 
--- src/number.rt:44:8
 get-u32-requires : tie.Need-get-u32-requires
 get-u32-requires c κs = search needs
 
--- src/number.rt:44:8
 cast-if1 : tie.Need-cast-if1
 cast-if1 c = search needs
 
--- src/number.rt:45:9
 returns : tie.Need-returns
 unfolding viewLength
 returns c = rw (test-false (c .before .get-u32 .ensures .0) (c .before .before .end-at .ensures .0) (c .if1 .taken))
 
--- src/number.rt:39:1
 returns-2 : tie.Need-returns-2
 unfolding viewLength
 returns-2 c =

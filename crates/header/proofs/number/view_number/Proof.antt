@@ -5,58 +5,42 @@ use Rattle.header.proofs.HeaderNumber.{view-most, view-setting, view-al
 use borrow.Author.Needs.{needs}
 use Rattle.header.proofs.number.view_number.Statement.{statement}
 use Rattle.header.proofs.number.view_number.Tie as tie
-use Rattle.header.proofs.number.view_number.Reads as reads
-use Rattle.header.proofs.number.view_number.Lts as lts
-use Rattle.header.proofs.counts.counts_right.Reads as counts-right-reads
-use Rattle.header.proofs.number.length_right.Reads as length-right-reads
-use Rattle.header.proofs.number.offsets_right.Reads as offsets-right-reads
-use Rattle.header.proofs.setting.setting_number.Reads as setting-number-reads
 
--- src/number.rt:60:9
 setting-number-requires : tie.Need-setting-number-requires
 setting-number-requires c κs = search needs
 
--- src/number.rt:62:9
 returns : tie.Need-returns
 returns c =
     let e = c .before .setting-number .ensures in
     e ∙ view-setting (now (c .before .before .before .args .file)) (c .before .before .before .args .v) (c .before .before .before .pre .0) (c .before .before .before .pre .1) (λ z. c .if1 .taken (e ∙ z))
 
--- src/number.rt:65:9
 returns-2 : tie.Need-returns-2
 returns-2 c = view-extent (now (c .before .before .before .before .before .args .file)) (c .before .before .before .before .before .args .v) (c .before .before .before .before .before .pre .0) (c .before .before .before .before .before .pre .1) (sym (c .before .before .before .setting-number .ensures) ∙ c .before .before .if1 .left) (c .if2 .taken)
 
--- src/number.rt:67:9
 counts-right-requires : tie.Need-counts-right-requires
 counts-right-requires c κs = (view-most (now (c .before .before .before .before .before .args .file)) (c .before .before .before .before .before .args .v) (c .before .before .before .before .before .pre .0) (c .before .before .before .before .before .pre .1), view-allowed (now (c .before .before .before .before .before .args .file)) (c .before .before .before .before .before .args .v) (c .before .before .before .before .before .pre .0) (c .before .before .before .before .before .pre .1) (sym (c .before .before .before .setting-number .ensures) ∙ c .before .before .if1 .left))
 
--- src/number.rt:68:9
 returns-3 : tie.Need-returns-3
 returns-3 c =
     let n = view-counts (now (c .before .before .before .before .before .before .before .args .file)) (c .before .before .before .before .before .before .before .args .v) (c .before .before .before .before .before .before .before .pre .0) (c .before .before .before .before .before .before .before .pre .1) (sym (c .before .before .before .before .before .setting-number .ensures) ∙ c .before .before .before .before .if1 .left) (c .before .before .if2 .left) in
     rw (n, sym (c .before .counts-right .ensures) ∙ not-true _ (c .if3 .taken))
 
--- src/number.rt:70:9
 offsets-right-requires : tie.Need-offsets-right-requires
 offsets-right-requires c κs = search needs
 
--- src/number.rt:71:9
 returns-4 : tie.Need-returns-4
 returns-4 c =
     let n = view-counts (now (c .before .before .before .before .before .before .before .before .before .args .file)) (c .before .before .before .before .before .before .before .before .before .args .v) (c .before .before .before .before .before .before .before .before .before .pre .0) (c .before .before .before .before .before .before .before .before .before .pre .1) (sym (c .before .before .before .before .before .before .before .setting-number .ensures) ∙ c .before .before .before .before .before .before .if1 .left) (c .before .before .before .before .if2 .left) in
     rw (n, sym (c .before .before .before .counts-right .ensures) ∙ not-false _ (c .before .before .if3 .left), sym (c .before .offsets-right .ensures) ∙ not-true _ (c .if4 .taken))
 
--- src/number.rt:73:9
 length-right-requires : tie.Need-length-right-requires
 length-right-requires c κs = search needs
 
--- src/number.rt:74:9
 returns-5 : tie.Need-returns-5
 returns-5 c =
     let n = view-counts (now (c .before .before .before .before .before .before .before .before .before .before .before .args .file)) (c .before .before .before .before .before .before .before .before .before .before .before .args .v) (c .before .before .before .before .before .before .before .before .before .before .before .pre .0) (c .before .before .before .before .before .before .before .before .before .before .before .pre .1) (sym (c .before .before .before .before .before .before .before .before .before .setting-number .ensures) ∙ c .before .before .before .before .before .before .before .before .if1 .left) (c .before .before .before .before .before .before .if2 .left) in
     rw (n, sym (c .before .before .before .before .before .counts-right .ensures) ∙ not-false _ (c .before .before .before .before .if3 .left), sym (c .before .before .before .offsets-right .ensures) ∙ not-false _ (c .before .before .if4 .left), sym (c .before .length-right .ensures) ∙ not-true _ (c .if5 .taken))
 
--- src/number.rt:51:1
 returns-6 : tie.Need-returns-6
 returns-6 c =
     let n = view-counts (now (c .before .before .before .before .before .before .before .before .before .before .before .args .file)) (c .before .before .before .before .before .before .before .before .before .before .before .args .v) (c .before .before .before .before .before .before .before .before .before .before .before .pre .0) (c .before .before .before .before .before .before .before .before .before .before .before .pre .1) (sym (c .before .before .before .before .before .before .before .before .before .setting-number .ensures) ∙ c .before .before .before .before .before .before .before .before .if1 .left) (c .before .before .before .before .before .before .if2 .left) in

@@ -4,30 +4,23 @@ use Rattle.header.specs.Setting.{allowedNumber}
 use Rattle.header.proofs.SettingNumber.{within-in, within-below, within-above}
 use Rattle.header.proofs.setting.base_number.Statement.{statement}
 use Rattle.header.proofs.setting.base_number.Tie as tie
-use Rattle.header.proofs.setting.base_number.Reads as reads
-use Rattle.header.proofs.setting.base_number.Lts as lts
 
--- src/setting.rt:21:1
 returns : tie.Need-returns
 unfolding allowedNumber basedKind
 returns c = rw (within-in 1 2 (c .before .before .before .before .args .width) (omega arith) (omega arith), within-in 1 255 (c .before .before .before .before .args .step) (omega arith) (omega arith))
 
--- src/setting.rt:21:1
 returns-2 : tie.Need-returns-2
 unfolding allowedNumber basedKind
 returns-2 c = rw (within-in 1 2 (c .before .before .before .args .width) (omega arith) (omega arith), within-below 1 255 (c .before .before .before .args .step) (omega arith))
 
--- src/setting.rt:21:1
 returns-3 : tie.Need-returns-3
 unfolding allowedNumber basedKind
 returns-3 c = rw (within-in 1 2 (c .before .before .before .before .args .width) (omega arith) (omega arith), within-above 1 255 (c .before .before .before .before .args .step) (omega arith))
 
--- src/setting.rt:21:1
 returns-4 : tie.Need-returns-4
 unfolding allowedNumber basedKind
 returns-4 c = rw (within-below 1 2 (c .before .args .width) (omega arith))
 
--- src/setting.rt:21:1
 returns-5 : tie.Need-returns-5
 unfolding allowedNumber basedKind
 returns-5 c = rw (within-above 1 2 (c .before .before .args .width) (omega arith))

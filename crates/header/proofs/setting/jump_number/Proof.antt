@@ -5,25 +5,19 @@ use Rattle.header.specs.Setting.{allowedNumber}
 use Rattle.header.proofs.SettingNumber.{within-in, within-below, within-above}
 use Rattle.header.proofs.setting.jump_number.Statement.{statement}
 use Rattle.header.proofs.setting.jump_number.Tie as tie
-use Rattle.header.proofs.setting.jump_number.Reads as reads
-use Rattle.header.proofs.setting.jump_number.Lts as lts
 
--- src/setting.rt:34:1
 returns : tie.Need-returns
 unfolding allowedNumber jumpsKind
 returns c = rw (within-in 1 2 (c .before .before .before .args .width) (omega arith) (omega arith), c .match .keys1)
 
--- src/setting.rt:34:1
 returns-2 : tie.Need-returns-2
 unfolding allowedNumber jumpsKind
 returns-2 c = rw (within-in 1 2 (c .before .before .before .args .width) (omega arith) (omega arith), ne-eqb _ 0 (c .match .rest .1))
 
--- src/setting.rt:34:1
 returns-3 : tie.Need-returns-3
 unfolding allowedNumber jumpsKind
 returns-3 c = rw (within-below 1 2 (c .before .args .width) (omega arith))
 
--- src/setting.rt:34:1
 returns-4 : tie.Need-returns-4
 unfolding allowedNumber jumpsKind
 returns-4 c = rw (within-above 1 2 (c .before .before .args .width) (omega arith))

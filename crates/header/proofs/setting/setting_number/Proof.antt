@@ -4,50 +4,34 @@ use Rattle.header.proofs.SettingNumber.{number-at, number-plain, number
 use borrow.Author.Needs.{needs}
 use Rattle.header.proofs.setting.setting_number.Statement.{statement}
 use Rattle.header.proofs.setting.setting_number.Tie as tie
-use Rattle.header.proofs.setting.setting_number.Reads as reads
-use Rattle.header.proofs.setting.setting_number.Lts as lts
-use Rattle.header.proofs.setting.base_number.Reads as base-number-reads
-use Rattle.header.proofs.setting.jump_number.Reads as jump-number-reads
-use Rattle.header.proofs.setting.page_number.Reads as page-number-reads
-use Rattle.header.proofs.setting.plain_number.Reads as plain-number-reads
 
--- src/setting.rt:66:14
 base-number-requires : tie.Need-base-number-requires
 base-number-requires c κs = search needs
 
--- src/setting.rt:67:14
 jump-number-requires : tie.Need-jump-number-requires
 jump-number-requires c κs = search needs
 
--- src/setting.rt:68:14
 page-number-requires : tie.Need-page-number-requires
 page-number-requires c κs = search needs
 
--- src/setting.rt:65:18
 plain-number-requires : tie.Need-plain-number-requires
 plain-number-requires c κs = search needs
 
--- src/setting.rt:60:1
 returns : tie.Need-returns
 returns c = c .base-number .ensures ∙ number-at _ 3 (c .before .match .keys1) (omega arith) (omega arith)
 
--- src/setting.rt:60:1
 returns-2 : tie.Need-returns-2
 returns-2 c = c .jump-number .ensures ∙ number-at _ 4 (c .before .match .keys2) (omega arith) (omega arith)
 
--- src/setting.rt:60:1
 returns-3 : tie.Need-returns-3
 returns-3 c = c .page-number .ensures ∙ number-at _ 5 (c .before .match .keys3) (omega arith) (omega arith)
 
--- src/setting.rt:60:1
 returns-4 : tie.Need-returns-4
 returns-4 c = c .plain-number .ensures ∙ number-plain (c .before .before .before .before .args .s) (omega arith) (omega arith)
 
--- src/setting.rt:60:1
 returns-5 : tie.Need-returns-5
 returns-5 c = number-none (c .before .before .args .s) (within-below 1 5 (c .before .before .args .s .kind) (omega arith))
 
--- src/setting.rt:60:1
 returns-6 : tie.Need-returns-6
 returns-6 c = let r = c .before .before .match .rest in number-above (c .before .before .before .args .s) (c .if2 .left) (r .0 .0 .1) (r .0 .1) (r .1)
 

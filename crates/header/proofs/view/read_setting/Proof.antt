@@ -2,23 +2,16 @@ use borrow.Author.Needs.{needs}
 use Rattle.header.proofs.Fields.{setting-fields}
 use Rattle.header.proofs.view.read_setting.Statement.{statement}
 use Rattle.header.proofs.view.read_setting.Tie as tie
-use Rattle.header.proofs.view.read_setting.Reads as reads
-use Rattle.header.proofs.view.read_setting.Lts as lts
-use Rattle.wire.proofs.get_u8.Reads as get-u8-reads
 
--- src/view.rt:25:15
 get-u8-requires : tie.Need-get-u8-requires
 get-u8-requires c κs = search needs
 
--- src/view.rt:26:16
 get-u8-requires-2 : tie.Need-get-u8-requires-2
 get-u8-requires-2 c κs = search needs
 
--- src/view.rt:27:15
 get-u8-requires-3 : tie.Need-get-u8-requires-3
 get-u8-requires-3 c κs = search needs
 
--- src/view.rt:20:1
 returns : tie.Need-returns
 returns c = setting-fields _ (c .before .before .get-u8 .ensures .0) (c .before .get-u82 .ensures .0) (c .get-u83 .ensures .0)
 

@@ -3,19 +3,13 @@ use borrow.Author.Tests.{lt-ltb, le-ltb}
 use borrow.Author.Needs.{needs}
 use Rattle.header.proofs.view.view_or_none.Statement.{statement}
 use Rattle.header.proofs.view.view_or_none.Tie as tie
-use Rattle.header.proofs.view.view_or_none.Reads as reads
-use Rattle.header.proofs.view.view_or_none.Lts as lts
-use Rattle.header.proofs.view.read_view.Reads as read-view-reads
 
--- src/view.rt:86:9
 returns : tie.Need-returns
 returns c = rw (lt-ltb _ _ (c .if1 .taken))
 
--- src/view.rt:97:5
 read-view-requires : tie.Need-read-view-requires
 read-view-requires c κs = search needs
 
--- src/view.rt:82:1
 returns-2 : tie.Need-returns-2
 returns-2 c = c .read-view .ensures ∙ rw (le-ltb _ _ (c .before .if1 .left))
 

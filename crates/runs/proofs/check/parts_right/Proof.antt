@@ -1,8 +1,7 @@
 -- `runs::check::parts_right` meets its contract. The invariant: what is left gives the whole, unless a pair was found wrong. Assumes nothing.
-use Prim.Native.Nat.{ℕ, _+_, _*_, _≤_, _<_, _^_}
-use mathlib.Core.Path.{_≡_, refl, sym, ap, _∙_}
-use mathlib.Core.Bool.{not, false, true}
-use native.Mathlib.Numerals.{add-one}
+use Prim.Native.Nat.{_+_, _*_, _≤_, _<_, _^_}
+use mathlib.Core.Path.{_≡_, refl, sym, _∙_}
+use mathlib.Core.Bool.{not}
 use native.Mathlib.Omega.{arith}
 use lib.ListN.{length}
 use borrow.Author.Needs.{needs}
@@ -93,7 +92,8 @@ loop-again c =
       omega arith,
       omega arith,
       next-least (l .result) (y .result),
-      sym (turn (a .v .cells) (a .v .words) (o .at) (o .left) (o .end) (o .empty) (o .least) (l .result) (y .result) (o .bad) (a .file .now) t (o .inv .3) (l .ensures .0) (y .ensures .0))
+      sym (turn (a .v .cells) (a .v .words) (o .at) (o .left) (o .end) (o .empty) (o .least) (l .result) (y .result) (o .bad) (a .file .now)
+          t (o .inv .3) (l .ensures .0) (y .ensures .0))
           ∙ o .inv .4,
     )
 
@@ -120,7 +120,8 @@ returns-3 : tie.Need-returns-3 Inv-loop μ-loop
 returns-3 c =
     let a = c .before .before .before .before .before .before .before .args in
     let o = c .before .before .before .before .before .loop in
-    sym (end-right (a .v .cells) (a .v .words) (o .at) (o .left) (o .end) (o .empty) (a .file .now) (c .before .before .before .before .loop-test .left) (c .before .if2 .left))
+    sym (end-right (a .v .cells) (a .v .words) (o .at) (o .left) (o .end) (o .empty) (a .file .now)
+    (c .before .before .before .before .loop-test .left) (c .before .if2 .left))
     ∙ rw (c .before .before .before .if1 .left) at (whole (c .before .before .before .before))
 
 pub parts-right-spec : {M : Type 1} → statement M

@@ -1,6 +1,6 @@
 -- `runs::search::position_of` meets its contract. Assumes nothing.
 use native.Mathlib.Omega.{arith}
-use Rattle.format.specs.Opened.{Free, beyond, number}
+use Rattle.format.specs.Opened.{beyond, number}
 use Rattle.runs.proofs.Lookup.{filed, position-beyond, position-none, position-given, position-cells}
 use borrow.Author.Needs.{needs}
 use Rattle.runs.proofs.search.position_of.Statement.{statement}
@@ -47,7 +47,8 @@ returns-3 c =
     record {
       right =
           λ k w.
-          let l = position-cells b (a .v) (a .r .0) (filed b (a .v) k w) (j .result) (j .ensures) (c .before .before .before .if2 .left) (c .before .before .empty-at .ensures .0) in
+          let l = position-cells b (a .v) (a .r .0) (filed b (a .v) k w) (j .result) (j .ensures) (c .before .before .before .if2 .left)
+          (c .before .before .empty-at .ensures .0) in
           absurd (omega arith);
       free = beyond;
     }
@@ -61,7 +62,10 @@ returns-4 c =
     let b = a .file .now in
     let j = c .before .before .before .before .before .run-with in
     record {
-      right = λ k w. position-given b (a .v) (a .r .0) (filed b (a .v) k w) (j .result) (j .ensures) (c .before .before .before .if2 .left) (c .before .before .empty-at .ensures .0);
+      right =
+          λ k w.
+          position-given b (a .v) (a .r .0) (filed b (a .v) k w) (j .result) (j .ensures) (c .before .before .before .if2 .left)
+          (c .before .before .empty-at .ensures .0);
       free = number _ (c .if3 .left);
     }
 

@@ -2,7 +2,7 @@
 use mathlib.Core.Path.{_≡_}
 use native.Mathlib.Omega.{arith}
 use Rattle.header.specs.Search.{ViewOf}
-use Rattle.format.specs.Opened.{Free, beyond, none, number}
+use Rattle.format.specs.Opened.{beyond, none, number}
 use Rattle.runs.proofs.Lookup.{filed, rank-beyond, rank-none, Ruled, ruled}
 use borrow.Author.Needs.{needs}
 use Rattle.runs.proofs.search.rank_at.Statement.{statement}
@@ -38,7 +38,8 @@ abbrev start : tie.After-end-before → tie.Start
 start c = c .before .before .before .before .before .before .before .before .before
 
 in-run : (c : tie.After-end-before) → start c .args .v .kind ≡ 1 → ViewOf (start c .args .file .now) (start c .args .v)
-    → Ruled (start c .args .file .now) (start c .args .v) (start c .args .p .0) (c .end-before .result) (c .before .empty-before .result) (c .before .before .empty-at .result)
+    → Ruled (start c .args .file .now) (start c .args .v) (start c .args .p .0) (c .end-before .result)
+    (c .before .empty-before .result) (c .before .before .empty-at .result)
 in-run c k w =
     let a = start c .args in
     let h = c .before .before .before .before .before .before .if1 .left in
@@ -79,7 +80,10 @@ cast-if5 c = search needs
 returns-5 : tie.Need-returns-5
 returns-5 c =
     let t = c .if5 .taken in
-    record { right = λ k w. let l = in-run (c .before .before .before .before) k w .words (c .before .before .before .if3 .left) in absurd (omega arith); free = none }
+    record {
+      right = λ k w. let l = in-run (c .before .before .before .before) k w .words (c .before .before .before .if3 .left) in absurd (omega arith);
+      free = none;
+    }
 
 cast-t14 : tie.Need-cast-t14
 cast-t14 c = search needs

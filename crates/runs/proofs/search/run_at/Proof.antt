@@ -1,8 +1,7 @@
 -- `runs::search::run_at` meets its contract. Assumes nothing.
-use Prim.Native.Nat.{ℕ, _+_, _-_, _/_}
-use mathlib.Core.Path.{_≡_, sym, ap, _∙_}
+use Prim.Native.Nat.{_+_, _-_, _/_}
+use mathlib.Core.Path.{_≡_}
 use native.Mathlib.Omega.{arith}
-use lib.Dec.{leb}
 use borrow.Author.Tests.{le-leb, lt-leb}
 use Rattle.runs.specs.Edge.{lastAt, reaches}
 use Rattle.runs.proofs.Halves.{Between, between-all, lower-half, upper-half, edge-found}
@@ -40,7 +39,8 @@ loop-again c =
     let o = c .before .before .before .loop in
     let l : c .before .last-at .result ≡ lastAt (a .file .now) (o .low + (o .high - o .low) / 2) = c .before .last-at .ensures .0 in
     let t = c .if1 .taken in
-    lower-half (reaches (a .file .now) (a .p)) (a .n) (o .low) (o .high) (o .inv) (c .before .before .loop-test .taken) (le-leb (a .p) _ (omega arith))
+    lower-half (reaches (a .file .now) (a .p)) (a .n) (o .low) (o .high) (o .inv) (c .before .before .loop-test .taken)
+    (le-leb (a .p) _ (omega arith))
 
 add-low : tie.Need-add-low Inv-loop μ-loop
 add-low c = search needs
@@ -54,7 +54,8 @@ loop-again-2 c =
     let o = c .before .before .before .loop in
     let l : c .before .last-at .result ≡ lastAt (a .file .now) (o .low + (o .high - o .low) / 2) = c .before .last-at .ensures .0 in
     let t = c .if1 .left in
-    upper-half (reaches (a .file .now) (a .p)) (a .n) (o .low) (o .high) (o .inv) (c .before .before .loop-test .taken) (lt-leb (a .p) _ (omega arith))
+    upper-half (reaches (a .file .now) (a .p)) (a .n) (o .low) (o .high) (o .inv) (c .before .before .loop-test .taken)
+    (lt-leb (a .p) _ (omega arith))
 
 returns : tie.Need-returns Inv-loop μ-loop
 returns c =

@@ -1,8 +1,7 @@
 -- `runs::search::run_with` meets its contract. Assumes nothing.
-use Prim.Native.Nat.{ℕ, _+_, _-_, _/_}
-use mathlib.Core.Path.{_≡_, sym, ap, _∙_}
+use Prim.Native.Nat.{_+_, _-_, _/_}
+use mathlib.Core.Path.{_≡_}
 use native.Mathlib.Omega.{arith}
-use lib.Dec.{leb}
 use borrow.Author.Tests.{le-leb, lt-leb}
 use Rattle.runs.specs.Edge.{lastAt, emptyAt, holds}
 use Rattle.runs.proofs.Halves.{Between, between-all, lower-half, upper-half, edge-found}
@@ -48,7 +47,8 @@ loop-again c =
     let l : c .before .last-at .result ≡ lastAt (a .file .now) (o .low + (o .high - o .low) / 2) = c .before .last-at .ensures .0 in
     let y : c .before .before .empty-at .result ≡ emptyAt (a .file .now) (o .low + (o .high - o .low) / 2) = c .before .before .empty-at .ensures .0 in
     let t = c .if1 .taken in
-    lower-half (holds (a .file .now) (a .r)) (a .n) (o .low) (o .high) (o .inv) (c .before .before .before .loop-test .taken) (le-leb (a .r + _) _ (omega arith))
+    lower-half (holds (a .file .now) (a .r)) (a .n) (o .low) (o .high) (o .inv) (c .before .before .before .loop-test .taken)
+    (le-leb (a .r + _) _ (omega arith))
 
 add-low : tie.Need-add-low Inv-loop μ-loop
 add-low c = search needs
@@ -63,7 +63,8 @@ loop-again-2 c =
     let l : c .before .last-at .result ≡ lastAt (a .file .now) (o .low + (o .high - o .low) / 2) = c .before .last-at .ensures .0 in
     let y : c .before .before .empty-at .result ≡ emptyAt (a .file .now) (o .low + (o .high - o .low) / 2) = c .before .before .empty-at .ensures .0 in
     let t = c .if1 .left in
-    upper-half (holds (a .file .now) (a .r)) (a .n) (o .low) (o .high) (o .inv) (c .before .before .before .loop-test .taken) (lt-leb (a .r + _) _ (omega arith))
+    upper-half (holds (a .file .now) (a .r)) (a .n) (o .low) (o .high) (o .inv) (c .before .before .before .loop-test .taken)
+    (lt-leb (a .r + _) _ (omega arith))
 
 returns : tie.Need-returns Inv-loop μ-loop
 returns c =
