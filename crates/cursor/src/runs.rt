@@ -1,0 +1,64 @@
+// Kinds 1 and 5: along the cells of a run, then to the next run.
+use super::Cursor;
+use super::pairs::load_pair;
+use format::View;
+use std::num::wrapping_add_u32;
+ghost use mathlib.Core.Path.{_≡_};
+ghost use Rattle.cursor.specs.Cursor.{runNext, pageOf, pagedFrom, pagedNext};
+
+// Kind 1. The position of a stored cell is its rank and the empty cells before it.
+pub fn next_run(file: &[u8], mut c: Cursor) -> Cursor
+    ensures { λ r. ⌜ r ≡ runNext (now (file .entry)) c ⌝ }
+{
+    c.rank = wrapping_add_u32(c.rank, 1);
+    if c.at < c.last {
+        c.at += 1;
+        return c;
+    }
+    let run = load_pair(file, 52 + 8 * c.next as usize);
+    c.at = wrapping_add_u32(c.rank, run.second);
+    c.next = wrapping_add_u32(c.next, 1);
+    c.last = run.first;
+    c
+}
+
+// The page of the next entry: the same, or the one after the run where the cursor stands at the end.
+pub fn page_of(step: u32, mut c: Cursor) -> Cursor
+    ensures { λ r. ⌜ r ≡ pageOf step c ⌝ }
+{
+    if c.used < step {
+        c.used += 1;
+        return c;
+    }
+    c.used = 1;
+    c.base = c.at;
+    c.empty = 0;
+    if c.rank <= c.at {
+        c.empty = c.at - c.rank;
+    }
+    c
+}
+
+// The next entry of level 0, in the page p. It counts the cells and the empty cells from the page's start.
+pub fn enter(file: &[u8], v: View, mut p: Cursor) -> Cursor
+    ensures { λ r. ⌜ r ≡ pagedFrom (now (file .entry)) v p ⌝ }
+{
+    let entry = load_pair(file, 52 + 8 * v.firsts as usize + 8 * p.next as usize);
+    p.rank = wrapping_add_u32(p.rank, 1);
+    p.at = wrapping_add_u32(p.rank, wrapping_add_u32(p.empty, entry.second));
+    p.next = wrapping_add_u32(p.next, 1);
+    p.last = wrapping_add_u32(p.base, entry.first);
+    p
+}
+
+// Kind 5, along level 0.
+pub fn next_paged(file: &[u8], v: View, mut c: Cursor) -> Cursor
+    ensures { λ r. ⌜ r ≡ pagedNext (now (file .entry)) v c ⌝ }
+{
+    if c.at < c.last {
+        c.rank = wrapping_add_u32(c.rank, 1);
+        c.at += 1;
+        return c;
+    }
+    enter(file, v, page_of(v.step, c))
+}

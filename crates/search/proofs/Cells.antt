@@ -1,0 +1,95 @@
+-- The word of a cell by its rank, and the searches of one kind as those of all. Assumes nothing.
+use Prim.Native.Nat.{ℕ, zero, suc, _+_, _*_, _≤_, _<_}
+use mathlib.Core.Path.{_≡_, refl, sym, ap, _∙_}
+use mathlib.Core.Bool.{Bool, true, false}
+use mathlib.Core.List.{List, [], _∷_}
+use native.Mathlib.Nat.{add-comm}
+use native.Mathlib.Omega.{arith}
+use lib.ListN.{length, getD, take}
+use lib.Dec.{eqb, ltb}
+use borrow.Author.Tests.{eqb-true, ltb-true}
+use Rattle.format.specs.declared.View.{View}
+use Rattle.format.specs.Tools.{pick}
+use Rattle.format.specs.Signals.{BEYOND}
+use Rattle.format.specs.Answers.{Answer, refused, empty, given}
+use Rattle.format.specs.Stored.{stored, kept, rankAt}
+use Rattle.format.specs.Accepted.{settingOf, emptyOf, wordsOf, wordsCount, wordsAt, keptOf, checkNumber}
+use Rattle.format.specs.Lookups.{cellIn, rankIn}
+use Rattle.format.specs.Opened.{viewOf, Free, FreeWord}
+use Rattle.wire.specs.Wire.{whole}
+use Rattle.wire.proofs.Laws.{whole-there}
+use Rattle.laws.proofs.Tools.{cases}
+use Rattle.laws.proofs.Numbers.{numbers-at}
+use Rattle.laws.proofs.Stored.{length-stored}
+use Rattle.laws.proofs.Files.{kept-back, words-count-back}
+use Rattle.laws.proofs.Limits.{small-setting}
+use Rattle.laws.proofs.Acceptance.{accepted, header-right, accepted-has-file}
+use Rattle.header.specs.View.{wordsPlace}
+use Rattle.header.specs.Search.{ViewOf, CellSearched, RankSearched}
+use Rattle.header.proofs.Frame.{Framed, framed}
+
+-- the word at the rank of a stored cell is the cell's
+kept-at : (E p : ℕ) (ws : List ℕ) → p < length ws → eqb (getD ws p 0) E ≡ false → getD (kept E ws) (length (kept E (take p ws))) 0 ≡ getD ws p 0
+unfolding kept
+kept-at E p [] h e = absurd (omega arith)
+kept-at E zero (x ∷ ws) h e = rw e
+kept-at E (suc p) (x ∷ ws) h e =
+    cases (eqb x E)
+    (λ t. rw t (kept-at E p ws (omega arith) e))
+    (λ t. rw t (kept-at E p ws (omega arith) e))
+
+-- an accepted file has one of the five kinds
+pub kind-known : (b : List ℕ) (v : View) → ViewOf b v → (1 ≤ v .kind) × (v .kind ≤ 5)
+unfolding viewOf
+kind-known b v o =
+    let s = small-setting (settingOf b) (header-right b (accepted b (o .accepted) .header) .setting) in
+    let k : v .kind ≡ settingOf b .kind = ap (λ (x : View). x .kind) (o .view) in
+    rw k (s .kind-least, s .kind)
+
+-- what a cell is, by the answer of the rank search
+abbrev pub cellBy : List ℕ → View → Answer → Answer
+cellBy b v (refused n) = refused n
+cellBy b v empty = given (v .empty)
+cellBy b v (given r) = given (whole 4 (wordsPlace v + 4 * r) b)
+
+word-at : (b : List ℕ) (v : View) → ViewOf b v → (r : ℕ) → r < wordsCount b → whole 4 (wordsPlace v + 4 * r) b ≡ getD (keptOf b) r 0
+unfolding keptOf
+word-at b v o r h =
+    let f = framed b (accepted b (o .accepted) .header) in
+    let w : wordsPlace v ≡ wordsAt b = ap wordsPlace (o .view) ∙ sym (f .words-at) in
+    rw (w, whole-there 4 (wordsAt b + 4 * r) b (omega (arith, f .size, f .words-at))) (sym (numbers-at 4 (wordsCount b) (wordsAt b) r b h))
+
+ranks-below : (E p : ℕ) (ws : List ℕ) → p < length ws → eqb (getD ws p 0) E ≡ false → length (kept E (take p ws)) < length (kept E ws)
+unfolding kept
+ranks-below E p [] h e = absurd (omega arith)
+ranks-below E zero (x ∷ ws) h e = rw e (omega arith)
+ranks-below E (suc p) (x ∷ ws) h e =
+    let i = ranks-below E p ws (omega arith) e in
+    cases (eqb x E) (λ t. rw t i) (λ t. rw t (omega arith))
+
+cell-by-rank : (b : List ℕ) (v : View) → ViewOf b v → (p : ℕ) → cellBy b v (rankIn (emptyOf b) (wordsOf b) p) ≡ cellIn (wordsOf b) p
+unfolding rankIn cellIn rankAt stored viewOf
+cell-by-rank b v o p =
+    let h = accepted-has-file b (o .accepted) in
+    let ws = wordsOf b in
+    let E = emptyOf b in
+    cases (ltb p (length ws))
+    (λ t.
+    let k = ltb-true p (length ws) t in
+    cases (eqb (getD ws p 0) E)
+    (λ e. rw (t, e) (ap given (ap (λ (x : View). x .empty) (o .view) ∙ sym (eqb-true (getD ws p 0) E e))))
+    (λ e.
+    let l = length-stored E 0 (take p ws) in
+    let n : length (kept E (take p ws)) < wordsCount b = rw (words-count-back _ _ _ _ b h) (ranks-below E p ws k e) in
+    rw (t, e, l) (ap given (word-at b v o _ n ∙ ap (λ (x : List ℕ). getD x (length (kept E (take p ws))) 0) (kept-back _ _ _ _ b h) ∙ kept-at E p ws k e))))
+    (λ t. rw t)
+
+-- a free answer by a free rank
+cell-free : (b : List ℕ) (v : View) (bound : ℕ) (a : Answer) → Free bound a → FreeWord (cellBy b v a)
+cell-free b v bound a Free.beyond = FreeWord.beyond
+cell-free b v bound a Free.none = FreeWord.word (v .empty)
+cell-free b v bound a (Free.number n h) = FreeWord.word _
+
+pub cell-searched : (b : List ℕ) (v : View) (p : ℕ) (a : Answer) → RankSearched b v p a → CellSearched b v p (cellBy b v a)
+cell-searched b v p a s =
+    record { right = λ o. ap (cellBy b v) (s .right o) ∙ cell-by-rank b v o p; free = cell-free b v (v .words) a (s .free) }

@@ -1,0 +1,1 @@
+// The lookups over a view of a file.
