@@ -1,1 +1,2 @@
 pub mod Scattered
+pub mod Turn

@@ -115,8 +115,12 @@ module _ (k rest : ℕ) (es cs : List ℕ) (h : k < length es) (g : k < length c
 
   pub back-row : rowOrder (rest / getD es k 0) (drop k es) (drop k (set cs k (rest % getD es k 0))) ≡ rowOrder rest (drop (k + 1) es) (drop (k + 1) cs)
   back-row =
-      rw (back-extents, back-list, row-cons (rest / getD es k 0) (getD es k 0) (drop (k + 1) es) (rest % getD es k 0 ∷ drop (k + 1) cs),
-      div-add-mod' rest (getD es k 0))
+      rw (
+        back-extents,
+        back-list,
+        row-cons (rest / getD es k 0) (getD es k 0) (drop (k + 1) es) (rest % getD es k 0 ∷ drop (k + 1) cs),
+        div-add-mod' rest (getD es k 0),
+      )
 
   pub back-inside : 1 ≤ getD es k 0 → insideExtents (drop k es) (drop k (set cs k (rest % getD es k 0))) ≡ insideExtents (drop (k + 1) es) (drop (k + 1) cs)
   unfolding insideExtents

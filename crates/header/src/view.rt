@@ -1,10 +1,10 @@
 // The header's fields, read once into numbers (document 01, "The file").
+use super::extents::cell_count;
 use format::Dimensions;
 use format::Setting;
 use format::View;
-use super::extents::cell_count;
-use wire::get_u32;
 use wire::get_u8;
+use wire::get_u32;
 ghost use mathlib.Core.Path.{_≡_};
 ghost use Prim.Native.Nat.{_≤_};
 ghost use lib.ListN.{length};
@@ -41,7 +41,12 @@ pub fn read_dimensions(file: &[u8]) -> Dimensions
 {
     Dimensions {
         count: get_u8(file, 1),
-        extents: [get_u32(file, 4), get_u32(file, 8), get_u32(file, 12), get_u32(file, 16)],
+        extents: [
+            get_u32(file, 4),
+            get_u32(file, 8),
+            get_u32(file, 12),
+            get_u32(file, 16),
+        ],
     }
 }
 

@@ -35,7 +35,6 @@ pos c =
     let f = four s in
     extent-least (c .before .loop .i - 1) (s .args .d .extents) (omega arith) (product-some (s .args .d) (some (c .before .before .before .before)))
 
-
 cell-count-requires : tie.Need-cell-count-requires Inv-loop μ-loop
 cell-count-requires c κs = search needs
 
@@ -89,12 +88,13 @@ loop-again c =
     let up : l .i ≡ k + 1 = omega arith in
     let f = four s in
     let h : k < length es = omega arith in
-    let g : k < length (l .at) = omega arith in
-    (omega arith,
-    rw length-set (l .inv .1),
-    back-row k (l .rest) es (l .at) h g ∙ rw up at (l .inv .2),
-    back-inside k (l .rest) es (l .at) h g (pos c) ∙ rw up at (l .inv .3),
-    back-room k (l .rest) es (l .at) h g _ (rw up at (l .inv .4)))
+    let g : k < length (l .at) = omega arith in (
+      omega arith,
+      rw length-set (l .inv .1),
+      back-row k (l .rest) es (l .at) h g ∙ rw up at (l .inv .2),
+      back-inside k (l .rest) es (l .at) h g (pos c) ∙ rw up at (l .inv .3),
+      back-room k (l .rest) es (l .at) h g _ (rw up at (l .inv .4)),
+    )
 
 returns-3 : tie.Need-returns-3 Inv-loop μ-loop
 unfolding coordinatesAt

@@ -59,7 +59,6 @@ next c =
     let b = room-below _ (c .before .before .loop .i + 1) _ (s .args .d .extents) (product-some (s .args .d) (some e)) (room c) in
     omega (arith, most e)
 
-
 cell-count-requires : tie.Need-cell-count-requires Inv-loop μ-loop
 cell-count-requires c κs = search needs
 
@@ -106,11 +105,12 @@ loop-again c =
     let s = c .before .before .before .before .before .before in
     let l = c .before .before .loop in
     let f = four s in
-    let h : l .i < length (s .args .d .extents) = omega arith in
-    (omega arith,
-    sym (row-turn (l .i) (l .p) (s .args .d .extents) (s .args .t2) h) ∙ l .inv .1,
-    sym (inside-turn (l .i) (l .p) (s .args .d .extents) (s .args .t2) h (below c)) ∙ l .inv .2,
-    room c)
+    let h : l .i < length (s .args .d .extents) = omega arith in (
+      omega arith,
+      sym (row-turn (l .i) (l .p) (s .args .d .extents) (s .args .t2) h) ∙ l .inv .1,
+      sym (inside-turn (l .i) (l .p) (s .args .d .extents) (s .args .t2) h (below c)) ∙ l .inv .2,
+      room c,
+    )
 
 returns-3 : tie.Need-returns-3 Inv-loop μ-loop
 returns-3 c =

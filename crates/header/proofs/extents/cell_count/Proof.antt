@@ -113,9 +113,11 @@ returns-6 : tie.Need-returns-6 Inv-loop μ-loop
 returns-6 c =
     let l = c .before .loop in
     let s = c .before .before .before .before .before in
-    let f = four s in
-    (sym (count-end (s .args .d .count) (l .cells) (l .i) (s .args .d .extents) (omega arith)) ∙ l .inv .2
-    ∙ count-cells (s .args .d) (omega arith) (omega arith) f, omega arith)
+    let f = four s in (
+      sym (count-end (s .args .d .count) (l .cells) (l .i) (s .args .d .extents) (omega arith)) ∙ l .inv .2
+          ∙ count-cells (s .args .d) (omega arith) (omega arith) f,
+      omega arith,
+    )
 
 pub cell-count-spec : {M : Type 1} → statement M
 cell-count-spec =
