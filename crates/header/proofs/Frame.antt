@@ -71,7 +71,7 @@ counts-of (suc (suc (suc (suc (suc zero))))) w l n c1 c2 a h =
 counts-of (suc (suc (suc (suc (suc (suc k)))))) w l n c1 c2 a h = never a
 
 -- the entry sizes are the kind's
-entry-of : (w : ℕ) → 1 ≤ w → w ≤ 2 → entrySize w ≡ w
+pub entry-of : (w : ℕ) → 1 ≤ w → w ≤ 2 → entrySize w ≡ w
 entry-of zero h k = absurd (omega arith)
 entry-of (suc zero) h k = refl
 entry-of (suc (suc zero)) h k = refl

@@ -35,9 +35,9 @@ rises-climbs a B (l ∷ ls) h =
     (λ e. rw (e, rises-climbs (suc l) B ls (ltb-true l B e)))
     (λ e. let t = ltb-false l B e in rw (e, climbs-past (suc l) B ls (omega arith)))
 
-pub rises-none : (B n : ℕ) (b : List ℕ) → n ≡ 0 → rises 0 B (numbersOf 4 n b) ≡ true
+pub rises-none : (w B n : ℕ) (b : List ℕ) → n ≡ 0 → rises 0 B (numbersOf w n b) ≡ true
 unfolding rises
-rises-none B n b h = rw (numbers-end 4 n b (omega arith))
+rises-none w B n b h = rw (numbers-end w n b (omega arith))
 
 -- ---- a loop along numbers of w bytes
 

@@ -34,7 +34,7 @@ six-left {r} p q s t u v = rw (p, q, s, t, u, v) (whole-left r)
     whole-left true = refl
     whole-left false = refl
 
-same-of : (xs ys : List ℕ) → xs ≡ ys → same xs ys ≡ true
+pub same-of : (xs ys : List ℕ) → xs ≡ ys → same xs ys ≡ true
 same-of xs ys e = rw e (same-refl ys)
 
 module _ (b : List ℕ) (v : View) (o : HeaderView 2 b v) where

@@ -25,7 +25,7 @@ abbrev μ-loop : tie.MeasureT-loop
 returns : tie.Need-returns Inv-loop μ-loop
 returns c =
     let a = c .before .before .args in
-    sym (rises-none (a .cells) (a .n) (drop (a .at) (a .file .now)) (c .if1 .taken))
+    sym (rises-none 4 (a .cells) (a .n) (drop (a .at) (a .file .now)) (c .if1 .taken))
 
 -- src/check.rt:19:9
 get-u32-requires : tie.Need-get-u32-requires Inv-loop μ-loop

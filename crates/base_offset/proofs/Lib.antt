@@ -1,0 +1,10 @@
+pub mod RankByRank
+pub mod Groups
+pub mod Pieces
+pub mod Known
+pub mod PartsRight
+pub mod OneGroup
+pub mod Turn
+pub mod TwoLevel
+pub mod Searched
+pub mod Places

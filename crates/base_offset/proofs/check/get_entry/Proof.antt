@@ -1,0 +1,31 @@
+use native.Mathlib.Omega.{arith}
+use Rattle.base_offset.proofs.OneGroup.{entry-none}
+use Rattle.base_offset.proofs.check.get_entry.Statement.{statement}
+use Rattle.base_offset.proofs.check.get_entry.Tie as tie
+use Rattle.base_offset.proofs.check.get_entry.Reads as reads
+use Rattle.base_offset.proofs.check.get_entry.Lts as lts
+use Rattle.wire.proofs.get_u16.Reads as get-u16-reads
+use Rattle.wire.proofs.get_u8.Reads as get-u8-reads
+
+-- src/check.rt:23:14
+get-u8-requires : tie.Need-get-u8-requires
+get-u8-requires c κs = rw (c .match .keys1) at (c .before .before .pre)
+
+-- src/check.rt:24:14
+get-u16-requires : tie.Need-get-u16-requires
+get-u16-requires c κs = rw (c .match .keys2) at (c .before .before .pre)
+
+-- src/check.rt:18:1
+returns : tie.Need-returns
+returns c = rw (c .before .match .keys1) (c .get-u8 .ensures .0, omega arith)
+
+-- src/check.rt:18:1
+returns-2 : tie.Need-returns-2
+returns-2 c = rw (c .before .match .keys2) (c .get-u16 .ensures)
+
+-- src/check.rt:18:1
+returns-3 : tie.Need-returns-3
+returns-3 c = (entry-none _ _ _ (c .match .rest .0 .1) (c .match .rest .1), omega arith)
+
+pub get-entry-spec : {M : Type 1} → statement M
+get-entry-spec = tie.close (tie.spec get-u8-requires get-u16-requires returns returns-2 returns-3)

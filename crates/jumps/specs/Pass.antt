@@ -1,0 +1,43 @@
+-- Kind 4 as one pass goes through it. Assumes nothing.
+use Prim.Native.Nat.{ℕ, zero, suc, _+_, _-_, _*_, _^_}
+use mathlib.Core.Bool.{Bool, false}
+use mathlib.Core.List.{List, [], _∷_}
+use lib.ListN.{drop}
+use lib.Dec.{leb, ltb, eqb}
+use Rattle.format.specs.declared.View.{View}
+use Rattle.format.specs.Tools.{both, first}
+use Rattle.format.specs.Bytes.{numbersOf}
+use Rattle.format.specs.File.{headerLength}
+use Rattle.header.specs.View.{secondPlace}
+
+-- the entries from the i-th on, of a part of n entries of w bytes each that begins at `at`
+unfoldable pub entriesFrom : ℕ → ℕ → ℕ → ℕ → List ℕ → List ℕ
+entriesFrom w at n i b = numbersOf w (n - i) (drop (at + w * i) b)
+
+-- The ranks with the differences ds, js being the jumps that are left: each jump is at least `least`, which is past what a difference reaches from the
+-- position before, all jumps are used, and the last position is below the bound.
+unfoldable pub passes : ℕ → ℕ → ℕ → List ℕ → List ℕ → Bool
+passes w bound least [] [] = ltb least (bound + 256 ^ w)
+passes w bound least (j ∷ js) [] = false
+passes w bound least js (suc d ∷ ds) = passes w bound (least + suc d) js ds
+passes w bound least [] (zero ∷ ds) = false
+passes w bound least (j ∷ js) (zero ∷ ds) = both (leb least j) (passes w bound (j + 256 ^ w) js ds)
+
+-- all ranks: that of rank 0 is a jump, which may have any position
+unfoldable pub passesAll : ℕ → ℕ → List ℕ → List ℕ → Bool
+passesAll w bound js ds = both (eqb (first ds) 0) (passes w bound 0 js ds)
+
+-- the jumps from the i-th on, and the differences from rank r on, by a view
+unfoldable pub jumpsLeft : View → ℕ → List ℕ → List ℕ
+jumpsLeft v i b = entriesFrom 4 headerLength (v .firsts) i b
+
+unfoldable pub differencesLeft : View → ℕ → List ℕ → List ℕ
+differencesLeft v r b = entriesFrom (v .width) (secondPlace v) (v .words) r b
+
+-- what is left of the pass after i ranks and t jumps
+unfoldable pub passesFrom : View → List ℕ → ℕ → ℕ → ℕ → Bool
+passesFrom v b least t i = passes (v .width) (v .cells) least (jumpsLeft v t b) (differencesLeft v i b)
+
+-- rank 0 has the difference 0
+unfoldable pub starts : View → List ℕ → Bool
+starts v b = eqb (first (differencesLeft v 0 b)) 0
