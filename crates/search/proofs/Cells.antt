@@ -1,6 +1,7 @@
 -- The word of a cell by its rank, and the searches of one kind as those of all. Assumes nothing.
 use Prim.Native.Nat.{ℕ, zero, suc, _+_, _*_, _≤_, _<_}
 use mathlib.Core.Path.{_≡_, refl, sym, ap, _∙_}
+use mathlib.Core.Logic.{_⊎_, ⊎-elim}
 use mathlib.Core.Bool.{Bool, true, false}
 use mathlib.Core.List.{List, [], _∷_}
 use native.Mathlib.Nat.{add-comm}
@@ -8,10 +9,15 @@ use native.Mathlib.Omega.{arith}
 use lib.ListN.{length, getD, take}
 use lib.Dec.{eqb, ltb}
 use borrow.Author.Tests.{eqb-true, ltb-true}
+use types.Run.{OneOf}
+use denote.Enum.Declared.{tagOf}
+use Rattle.format.proofs.RankAnswer.{the-type}
 use Rattle.format.specs.declared.View.{View}
+use Rattle.format.specs.declared.RankAnswer.{RankAnswer}
+use Rattle.format.specs.declared.RankAnswer.the-variants as ra
 use Rattle.format.specs.Tools.{pick}
 use Rattle.format.specs.Signals.{BEYOND}
-use Rattle.format.specs.Answers.{Answer, refused, empty, given}
+use Rattle.format.specs.Answers.{Answer, refused, empty, given, rankSays}
 use Rattle.format.specs.Stored.{stored, kept, rankAt}
 use Rattle.format.specs.Accepted.{settingOf, emptyOf, wordsOf, wordsCount, wordsAt, keptOf, checkNumber}
 use Rattle.format.specs.Lookups.{cellIn, rankIn}
@@ -93,3 +99,19 @@ cell-free b v bound a (Free.number n h) = FreeWord.word _
 pub cell-searched : (b : List ℕ) (v : View) (p : ℕ) (a : Answer) → RankSearched b v p a → CellSearched b v p (cellBy b v a)
 cell-searched b v p a s =
     record { right = λ o. ap (cellBy b v) (s .right o) ∙ cell-by-rank b v o p; free = cell-free b v (v .words) a (s .free) }
+
+-- an answer that is neither a rank nor refused is "empty"
+pub cell-empty : (b : List ℕ) (v : View) (p : ℕ) (a : RankAnswer) → OneOf (1 ∷ (2 ∷ [])) (tagOf the-type a) → OneOf (0 ∷ (1 ∷ [])) (tagOf the-type a)
+    → RankSearched b v p (rankSays a) → CellSearched b v p (given (v .empty))
+cell-empty b v p (ra.Rank r) h k s = absurd (⊎-elim (λ z. omega arith) (λ z. omega arith) h)
+cell-empty b v p ra.Empty h k s = cell-searched b v p empty s
+cell-empty b v p (ra.Refused n) h k s = absurd (⊎-elim (λ z. omega arith) (λ z. omega arith) k)
+
+pub no-kind : (k : ℕ) → (1 ≤ k) × (k ≤ 5) → (k ≡ 1 → ⊥) → (k ≡ 2 → ⊥) → (k ≡ 3 → ⊥) → (k ≡ 4 → ⊥) → (k ≡ 5 → ⊥) → ⊥
+no-kind zero h a b c d e = omega arith
+no-kind (suc zero) h a b c d e = a refl
+no-kind (suc (suc zero)) h a b c d e = b refl
+no-kind (suc (suc (suc zero))) h a b c d e = c refl
+no-kind (suc (suc (suc (suc zero)))) h a b c d e = d refl
+no-kind (suc (suc (suc (suc (suc zero))))) h a b c d e = e refl
+no-kind (suc (suc (suc (suc (suc (suc k)))))) h a b c d e = omega arith

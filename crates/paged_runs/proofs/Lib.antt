@@ -1,0 +1,9 @@
+pub mod Reading
+pub mod Steps
+pub mod Sizes
+pub mod Whole
+pub mod Bounded
+pub mod Cutting
+pub mod Held
+pub mod Answering
+pub mod Finding

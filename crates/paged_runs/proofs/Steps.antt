@@ -1,0 +1,170 @@
+-- One step of the walk along a page, and of the descent to the page below. Assumes nothing.
+use Prim.Native.Nat.{ℕ, zero, suc, _+_, _-_, _*_, _^_, _≤_, _<_, min}
+use mathlib.Core.Path.{_≡_, refl, sym, ap, ap₂, _∙_}
+use mathlib.Core.Bool.{Bool, true, false}
+use mathlib.Core.List.{List, [], _∷_}
+use native.Mathlib.Nat.{sub-zero, zero-sub, lt-of-not-le, mul-le-mul}
+use native.Mathlib.Decide.{decLe}
+use native.Mathlib.Numerals.{add-one}
+use native.Mathlib.Omega.{arith}
+use lib.ListN.{length, take, drop, getD, length-take, length-drop, drop-of-length-le}
+use lib.Seq.{drop-drop, drop-cons, take-take, take-all, take-nil}
+use lib.Dec.{ltb}
+use borrow.Author.Tests.{lt-ltb, le-ltb}
+use Rattle.format.specs.Runs.{Span}
+use Rattle.format.specs.PagedRuns.{plus, less, none, Place, lost, at, walkFrom, stepDown, through}
+use Rattle.laws.proofs.Tools.{cases}
+use Rattle.paged_runs.specs.declared.search.Found.{Found}
+use Rattle.paged_runs.specs.declared.search.Found.the-variants.{Run, Nowhere}
+use Rattle.paged_runs.specs.Levels.{cut, total}
+use Rattle.paged_runs.specs.Descent.{counted, ofEmpty, foundAt, descended, walked, PageFits, LevelsFit}
+
+-- ---- places that differ in sums of cells only
+
+abbrev Like : Place → Place → Type 0
+Like lost lost = Unit
+Like lost (at i p a x) = ⊥
+Like (at i p a x) lost = ⊥
+Like (at i p a x) (at j q c y) = (i ≡ j) × (p ≡ q) × (a .empty ≡ c .empty) × (x .empty ≡ y .empty)
+
+walk-like : (m : Span → ℕ) (i p : ℕ) (a d c : Span) (ys : List Span) → a .empty ≡ d .empty → Like (walkFrom m i p a c ys) (walkFrom m i p d c ys)
+unfolding walkFrom
+walk-like m i p a d c [] h = tt
+walk-like m i p a d c (y ∷ ys) h =
+    cases (ltb p (m y)) (λ e. rw e (refl, refl, ap (λ (z : ℕ). z + c .empty) h, refl)) (λ e. rw e (walk-like m (suc i) p a d y ys h))
+
+step-like : (m : Span → ℕ) (b : ℕ) (ys : List Span) (q r : Place) → Like q r → Like (stepDown m b ys q) (stepDown m b ys r)
+step-like m b ys lost lost h = tt
+step-like m b ys lost (at i p a x) h = absurd h
+step-like m b ys (at i p a x) lost h = absurd h
+step-like m b ys (at i p a x) (at j q c y) h = rw (h .0, h .1) (walk-like m (j * b) q a c none (take b (drop (j * b) ys)) (h .2))
+
+found-like : (q r : Place) → Like q r → foundAt q ≡ foundAt r
+found-like lost lost h = refl
+found-like lost (at i p a x) h = absurd h
+found-like (at i p a x) lost h = absurd h
+found-like (at i p a x) (at j q c y) h = rw (h .1, h .2, h .3)
+
+through-like : (m : Span → ℕ) (b : ℕ) (ls : List (List Span)) (q r : Place) → Like q r → foundAt (through m b ls q) ≡ foundAt (through m b ls r)
+unfolding through
+through-like m b [] q r h = found-like q r h
+through-like m b (ys ∷ ls) q r h = through-like m b ls (stepDown m b ys q) (stepDown m b ys r) (step-like m b ys q r h)
+
+through-lost : (m : Span → ℕ) (b : ℕ) (ls : List (List Span)) → through m b ls lost ≡ lost
+unfolding through
+through-lost m b [] = refl
+through-lost m b (ys ∷ ls) = through-lost m b ls
+
+-- ---- along a page
+
+module _ (es : List Span) (sizes : List ℕ) (step : ℕ) (stored : Bool) (level start entry before : ℕ) (c : Span) (p : ℕ) where
+  pub walk-end : (left : ℕ) → left ≡ 0 → foundAt (walked es sizes step stored level start entry left before c p) ≡ Nowhere
+  unfolding walked descended walkFrom
+  walk-end zero e = rw (through-lost (counted stored) step (cut sizes level (drop (start + getD sizes level 0) es)))
+  walk-end (suc n) e = absurd (omega arith)
+
+  -- the first of the entries left
+  page-cons : (n : ℕ) → start + entry < length es → take (suc n) (drop (start + entry) es) ≡ getD es (start + entry) none ∷ take n (drop (start + (entry + 1)) es)
+  page-cons n h =
+      let e : start + (entry + 1) ≡ suc (start + entry) = omega arith in
+      rw (drop-cons es (start + entry) none h, e)
+
+  pub walk-here : (left : ℕ) (y : Span) → (left ≡ 0 → ⊥) → start + entry < length es → y ≡ getD es (start + entry) none → p < counted stored y
+      → foundAt (walked es sizes step stored level start entry left before c p)
+      ≡ foundAt (descended es sizes step stored level (start + getD sizes level 0)
+      (at entry (p - counted stored c) (ofEmpty (before + c .empty)) (ofEmpty (y .empty - c .empty))))
+  unfolding walked descended walkFrom
+  walk-here zero y n h e t = absurd (n refl)
+  walk-here (suc left) y n h e t =
+      rw (page-cons left h, ← e, lt-ltb p (counted stored y) t)
+      (through-like (counted stored) step (cut sizes level (drop (start + getD sizes level 0) es)) _ _ (refl, refl, refl, refl))
+
+  pub walk-on : (left : ℕ) (y : Span) → (left ≡ 0 → ⊥) → start + entry < length es → y ≡ getD es (start + entry) none → counted stored y ≤ p
+      → walked es sizes step stored level start entry left before c p ≡ walked es sizes step stored level start (entry + 1) (left - 1) before y p
+  unfolding walked walkFrom
+  walk-on zero y n h e t = absurd (n refl)
+  walk-on (suc left) y n h e t =
+      let d : suc left - 1 ≡ left = omega arith in
+      rw (page-cons left h, ← e, le-ltb p (counted stored y) t, d, add-one entry)
+
+-- ---- to the page below
+
+drop-take : (f s : ℕ) (l : List Span) → drop f (take s l) ≡ take (s - f) (drop f l)
+drop-take zero s l = rw (sub-zero s)
+drop-take (suc f) zero l = rw (zero-sub (suc f))
+drop-take (suc f) (suc s) [] = sym (take-nil (suc s - suc f))
+drop-take (suc f) (suc s) (x ∷ l) = let e : suc s - suc f ≡ s - f = omega arith in rw e (drop-take f s l)
+
+take-least : (b n : ℕ) (l : List Span) → take b (take n l) ≡ take (min b n) l
+take-least b n l =
+    elim (decLe b n) [
+      | yes h ↦ (let e : min b n ≡ b = omega arith in rw e (take-take b n l h))
+      | no h ↦ (let k = lt-of-not-le h in
+          let e : min b n ≡ n = omega arith in
+          let s : length (take n l) ≤ b = rw (length-take n l) (omega arith) in
+          rw e (take-all b (take n l) s))
+    ]
+
+module _ (es : List Span) (sizes : List ℕ) (step : ℕ) (stored : Bool) (start entry rest before : ℕ) (x : Span) where
+  pub descent-leaf : (level : ℕ) → level ≡ 0 → foundAt (descended es sizes step stored level start (at entry rest (ofEmpty before) x)) ≡ Run before (x .empty) rest
+  unfolding descended through
+  descent-leaf zero e = refl
+  descent-leaf (suc n) e = absurd (omega arith)
+
+  -- the page below: of the level's entries those from the page's start on
+  page-below : (size : ℕ) → take step (drop (entry * step) (take size (drop start es))) ≡ take (min step (size - entry * step)) (drop (start + entry * step) es)
+  page-below size =
+      ap (take step) (drop-take (entry * step) size (drop start es) ∙ rw (drop-drop (entry * step) start es))
+      ∙ take-least step (size - entry * step) (drop (start + entry * step) es)
+
+  pub descent-page : (level : ℕ) → (level ≡ 0 → ⊥)
+      → foundAt (descended es sizes step stored level start (at entry rest (ofEmpty before) x))
+      ≡ foundAt (walked es sizes step stored (level - 1) start (entry * step) (min step (getD sizes (level - 1) 0 - entry * step)) before none rest)
+  unfolding descended walked through
+  descent-page zero n = absurd (n refl)
+  descent-page (suc k) n =
+      let d : suc k - 1 ≡ k = omega arith in
+      rw d
+      (ap₂ (λ (l : List Span) (r : List Span). foundAt (through (counted stored) step (cut sizes k r) (walkFrom (counted stored) (entry * step) rest (ofEmpty before) none l)))
+      (page-below (getD sizes k 0)) (drop-drop (getD sizes k 0) start es))
+
+-- ---- what a step asks
+
+pub none-counted : (stored : Bool) (p : ℕ) → counted stored none ≤ p
+none-counted true p = omega arith
+none-counted false p = omega arith
+
+entry-small : (entry step : ℕ) → entry < 2 ^ 32 → step ≤ 64 → entry * step ≤ 2 ^ 38
+entry-small entry step h k = let l : entry ≤ 2 ^ 32 = omega arith in mul-le-mul l k
+
+pub first-fits : (entry step : ℕ) → entry < 2 ^ 32 → step ≤ 64 → entry * step < 2 ^ 64
+first-fits entry step h k = omega (arith, entry-small entry step h k)
+
+module _ (file sizes : List ℕ) (step level start entry before : ℕ) where
+  pub entry-in-file : (left : ℕ) → PageFits file sizes step level start entry left before → (left ≡ 0 → ⊥) → 60 + 8 * (start + entry) ≤ length file
+  entry-in-file zero f n = absurd (n refl)
+  entry-in-file (suc left) f n = omega arith
+
+  pub page-down : (left e : ℕ) → PageFits file sizes step level start entry left before → (left ≡ 0 → ⊥) → getD sizes level 0 < 2 ^ 32 → e < 2 ^ 32
+      → LevelsFit file sizes step level (start + getD sizes level 0) entry (before + e)
+  page-down zero e f n h k = absurd (n refl)
+  page-down (suc left) e f n h k =
+      record { inside = omega arith; number = omega arith; levels = omega arith; sum = omega arith; steps = omega arith }
+
+  pub page-on : (left : ℕ) → PageFits file sizes step level start entry left before → (left ≡ 0 → ⊥)
+      → PageFits file sizes step level start (entry + 1) (left - 1) before
+  page-on zero f n = absurd (n refl)
+  page-on (suc left) f n =
+      record { inside = omega arith; page = omega arith; levels = omega arith; sum = omega arith; steps = omega arith }
+
+pub page-fits : (file sizes : List ℕ) (step level start entry before : ℕ) → LevelsFit file sizes step level start entry before → (level ≡ 0 → ⊥)
+    → entry * step < getD sizes (level - 1) 0
+    → PageFits file sizes step (level - 1) start (entry * step) (min step (getD sizes (level - 1) 0 - entry * step)) before
+page-fits file sizes step zero start entry before f n h = absurd (n refl)
+page-fits file sizes step (suc k) start entry before f n h =
+    let d : suc k - 1 ≡ k = omega arith in
+    rw d (small (rw d at h))
+  where
+    small : entry * step < getD sizes k 0 → PageFits file sizes step k start (entry * step) (min step (getD sizes k 0 - entry * step)) before
+    small h =
+        record { inside = omega arith; page = omega arith; levels = omega arith; sum = omega arith; steps = omega arith }

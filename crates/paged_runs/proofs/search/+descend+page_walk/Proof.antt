@@ -1,0 +1,225 @@
+-- `page_walk` and `descend` meet their contracts. The levels below fall with each descent, and within a level the entries left do. Assumes nothing.
+use Prim.Native.Nat.{ℕ, _+_, _-_, _*_, _≤_, _<_, min}
+use mathlib.Core.Path.{_≡_, refl, sym, ap, _∙_}
+use native.Mathlib.Omega.{arith}
+use lib.ListN.{length, getD}
+use borrow.Author.Needs.{needs}
+use borrow.Fn.Kinds.{In}
+use borrow.Fn.PlainCycle.{Measures, is, falls, and}
+use Rattle.paged_runs.specs.Levels.{entries, spanOf}
+use Rattle.paged_runs.specs.Descent.{counted, foundAt}
+use Rattle.paged_runs.proofs.Reading.{length-entries}
+use Rattle.paged_runs.proofs.Steps.{walk-end, walk-here, walk-on, descent-leaf, descent-page, first-fits, entry-in-file, page-down, page-on, page-fits, none-counted}
+use Rattle.paged_runs.proofs.search.descend.Reads as descend
+use Rattle.paged_runs.proofs.search.descend.Kinds as descend-kinds
+use Rattle.paged_runs.proofs.search.+descend+page_walk.Lts-descend as descend-lts
+use Rattle.paged_runs.proofs.search.page_walk.Reads as page-walk
+use Rattle.paged_runs.proofs.search.page_walk.Kinds as page-walk-kinds
+use Rattle.paged_runs.proofs.search.+descend+page_walk.Lts-page_walk as page-walk-lts
+use Rattle.paged_runs.proofs.entry.pair_at.Reads as pair-at-reads
+use Rattle.paged_runs.proofs.search.count.Reads as count-reads
+use Rattle.paged_runs.proofs.search.less.Reads as less-reads
+use Rattle.paged_runs.proofs.search.least.Reads as least-reads
+use Rattle.paged_runs.proofs.search.size_at.Reads as size-at-reads
+use Rattle.paged_runs.proofs.search.+descend+page_walk.{statement}
+use Rattle.paged_runs.proofs.search.+descend+page_walk.Tie.{close}
+
+-- a page has at most 64 entries
+abbrev μ-descend : Measures 1 descend-kinds.ps ℕ
+μ-descend κs a = a .1 .1 .1 .1 .0 * 66
+
+abbrev μ-page-walk : Measures 1 page-walk-kinds.ps ℕ
+μ-page-walk κs a = a .1 .1 .1 .1 .0 * 66 + a .1 .1 .1 .1 .1 .1 .1 .0 + 1
+
+abbrev descend-at : ℕ → In 1 descend-kinds.ps
+descend-at t = and 1 descend-kinds.ps (is 1 descend-kinds.ps μ-descend t) descend.Pre
+
+abbrev descend-below : ℕ → In 1 descend-kinds.ps
+descend-below t = and 1 descend-kinds.ps (falls 1 descend-kinds.ps _<_ μ-descend t) descend.Pre
+
+abbrev page-walk-at : ℕ → In 1 page-walk-kinds.ps
+page-walk-at t = and 1 page-walk-kinds.ps (is 1 page-walk-kinds.ps μ-page-walk t) page-walk.Pre
+
+abbrev page-walk-below : ℕ → In 1 page-walk-kinds.ps
+page-walk-below t = and 1 page-walk-kinds.ps (falls 1 page-walk-kinds.ps _<_ μ-page-walk t) page-walk.Pre
+
+abbrev descend-calls : ℕ → descend-lts.Claims
+descend-calls t = (size-at-reads.Asked, size-at-reads.Learnt, least-reads.Asked, least-reads.Learnt, page-walk-below t, page-walk.Post)
+
+abbrev page-walk-calls : ℕ → page-walk-lts.Claims
+page-walk-calls t = (
+  pair-at-reads.Asked,
+  pair-at-reads.Learnt,
+  count-reads.Asked,
+  count-reads.Learnt,
+  less-reads.Asked,
+  less-reads.Learnt,
+  size-at-reads.Asked,
+  size-at-reads.Learnt,
+  descend-below t,
+  descend.Post,
+  page-walk-below t,
+  page-walk.Post,
+)
+
+-- ---- to the page below
+
+descend-returns : (t : ℕ) → descend-lts.Need-returns (descend-calls t) (descend-at t) descend.Post
+descend-returns t c = sym (descent-leaf _ _ _ _ _ _ _ _ _ _ (c .if1 .taken))
+
+descend-sub-below : (t : ℕ) → descend-lts.Need-sub-below (descend-calls t) (descend-at t) descend.Post
+descend-sub-below t c = omega (arith, c .if1 .left)
+
+descend-size-at-requires : (t : ℕ) → descend-lts.Need-size-at-requires (descend-calls t) (descend-at t) descend.Post
+descend-size-at-requires t c κs = omega (arith, c .if1 .left)
+
+descend-mul-first : (t : ℕ) → descend-lts.Need-mul-first (descend-calls t) (descend-at t) descend.Post
+descend-mul-first t c =
+    let a = c .before .before .before .args in
+    let f = c .before .before .before .pre .1 in
+    record { fits = first-fits (a .entry) (a .step) (f .number) (f .steps) }
+
+descend-returns-2 : (t : ℕ) → descend-lts.Need-returns-2 (descend-calls t) (descend-at t) descend.Post
+descend-returns-2 t c =
+    let a = c .before .before .before .before .args in
+    let e = c .before .size-at .ensures .0 in
+    let z : min (a .step) (getD (a .sizes .now) (a .level - 1) 0 - a .entry * a .step) ≡ 0 = omega (arith, e) in
+    sym (descent-page _ _ _ _ _ _ _ _ _ _ (c .before .before .if1 .left) ∙ walk-end _ _ _ _ _ _ _ _ _ _ _ z)
+
+descend-sub-least : (t : ℕ) → descend-lts.Need-sub-least (descend-calls t) (descend-at t) descend.Post
+descend-sub-least t c = omega arith
+
+descend-least-requires : (t : ℕ) → descend-lts.Need-least-requires (descend-calls t) (descend-at t) descend.Post
+descend-least-requires t c κs = tt
+
+descend-page-walk-requires : (t : ℕ) → descend-lts.Need-page-walk-requires (descend-calls t) (descend-at t) descend.Post
+descend-page-walk-requires t c κs =
+    let a = c .before .before .before .before .before .args in
+    let f = c .before .before .before .before .before .pre in
+    let e = c .before .before .size-at .ensures .0 in
+    let h : a .entry * a .step < getD (a .sizes .now) (a .level - 1) 0 = omega (arith, e) in (
+      omega (arith, c .before .before .before .if1 .left, c .least .ensures),
+      (rw (c .least .ensures, e) (page-fits _ _ _ _ _ _ _ (f .1) (c .before .before .before .if1 .left) h), none-counted (a .stored) (a .rest)),
+    )
+
+descend-returns-3 : (t : ℕ) → descend-lts.Need-returns-3 (descend-calls t) (descend-at t) descend.Post
+descend-returns-3 t c =
+    c .page-walk .ensures
+    ∙ rw (c .before .least .ensures, c .before .before .before .size-at .ensures .0)
+    (sym (descent-page _ _ _ _ _ _ _ _ _ _ (c .before .before .before .before .if1 .left)))
+
+-- ---- along a page
+
+page-walk-returns : (t : ℕ) → page-walk-lts.Need-returns (page-walk-calls t) (page-walk-at t) page-walk.Post
+page-walk-returns t c = sym (walk-end _ _ _ _ _ _ _ _ _ _ _ (c .if1 .taken))
+
+page-walk-add-pair-at : (t : ℕ) → page-walk-lts.Need-add-pair-at (page-walk-calls t) (page-walk-at t) page-walk.Post
+page-walk-add-pair-at t c = omega (arith, entry-in-file _ _ _ _ _ _ _ _ (c .before .before .pre .1 .0) (c .if1 .left))
+
+page-walk-pair-at-requires : (t : ℕ) → page-walk-lts.Need-pair-at-requires (page-walk-calls t) (page-walk-at t) page-walk.Post
+page-walk-pair-at-requires t c κs = entry-in-file _ _ _ _ _ _ _ _ (c .before .before .pre .1 .0) (c .if1 .left)
+
+page-walk-count-requires : (t : ℕ) → page-walk-lts.Need-count-requires (page-walk-calls t) (page-walk-at t) page-walk.Post
+page-walk-count-requires t c κs = tt
+
+page-walk-count-requires-2 : (t : ℕ) → page-walk-lts.Need-count-requires-2 (page-walk-calls t) (page-walk-at t) page-walk.Post
+page-walk-count-requires-2 t c κs = tt
+
+page-walk-sub-rest : (t : ℕ) → page-walk-lts.Need-sub-rest (page-walk-calls t) (page-walk-at t) page-walk.Post
+page-walk-sub-rest t c = rw (c .count2 .ensures) (c .before .before .before .before .before .before .pre .1 .1)
+
+page-walk-less-requires : (t : ℕ) → page-walk-lts.Need-less-requires (page-walk-calls t) (page-walk-at t) page-walk.Post
+page-walk-less-requires t c κs = tt
+
+page-walk-size-at-requires : (t : ℕ) → page-walk-lts.Need-size-at-requires (page-walk-calls t) (page-walk-at t) page-walk.Post
+page-walk-size-at-requires t c κs = c .before .before .before .before .before .before .before .pre .1 .0 .levels
+
+page-walk-add-descend : (t : ℕ) → page-walk-lts.Need-add-descend (page-walk-calls t) (page-walk-at t) page-walk.Post
+page-walk-add-descend t c =
+    let f = c .before .before .before .before .before .before .before .before .pre .1 .0 in
+    omega (arith, c .size-at .ensures .0, f .inside)
+
+page-walk-cast-descend : (t : ℕ) → page-walk-lts.Need-cast-descend (page-walk-calls t) (page-walk-at t) page-walk.Post
+page-walk-cast-descend t c = search needs
+
+page-walk-add-descend-2 : (t : ℕ) → page-walk-lts.Need-add-descend-2 (page-walk-calls t) (page-walk-at t) page-walk.Post
+page-walk-add-descend-2 t c =
+    let f = c .before .before .before .before .before .before .before .before .before .pre .1 .0 in
+    omega (arith, c .struct-known .given, f .sum)
+
+page-walk-descend-requires : (t : ℕ) → page-walk-lts.Need-descend-requires (page-walk-calls t) (page-walk-at t) page-walk.Post
+page-walk-descend-requires t c κs =
+    let n = c .before .before .before .before .before .before .before .if1 .left in
+    let f = c .before .before .before .before .before .before .before .before .before .pre in
+    let e = c .before .size-at .ensures in
+    (omega arith, rw (e .0) (page-down _ _ _ _ _ _ _ _ _ (f .1 .0) n (rw (e .0) at (e .1)) (omega (arith, c .struct-known .given))))
+
+page-walk-returns-2 : (t : ℕ) → page-walk-lts.Need-returns-2 (page-walk-calls t) (page-walk-at t) page-walk.Post
+page-walk-returns-2 t c =
+    let at = c .before .before .before .before .before .before .before .before in
+    let a = at .before .before .args in
+    let s = length-entries (a .file .now) in
+    let h : a .start + a .entry < length (entries (a .file .now)) = omega (arith, entry-in-file _ _ _ _ _ _ _ _ (at .before .before .pre .1 .0) (at .if1 .left)) in
+    let y = c .before .before .before .before .before .before .before .pair-at in
+    let p = c .before .before .before .before .before .if2 .taken in
+    c .descend .ensures
+    ∙ rw (c .before .before .size-at .ensures .0, c .before .before .before .less .ensures, c .before .before .before .before .count2 .ensures)
+    (sym (walk-here _ _ _ _ _ _ _ _ _ _ _ (spanOf (y .result)) (at .if1 .left) h (y .ensures) (rw (c .before .before .before .before .before .before .count .ensures) at p)))
+
+page-walk-add-page-walk : (t : ℕ) → page-walk-lts.Need-add-page-walk (page-walk-calls t) (page-walk-at t) page-walk.Post
+page-walk-add-page-walk t c = omega (arith, entry-in-file _ _ _ _ _ _ _ _ (c .before .before .before .before .before .pre .1 .0) (c .before .before .before .if1 .left))
+
+page-walk-sub-page-walk : (t : ℕ) → page-walk-lts.Need-sub-page-walk (page-walk-calls t) (page-walk-at t) page-walk.Post
+page-walk-sub-page-walk t c = omega (arith, c .before .before .before .if1 .left)
+
+page-walk-page-walk-requires : (t : ℕ) → page-walk-lts.Need-page-walk-requires (page-walk-calls t) (page-walk-at t) page-walk.Post
+page-walk-page-walk-requires t c κs =
+    let n = c .before .before .before .if1 .left in
+    let f = c .before .before .before .before .before .pre in
+    let h = c .if2 .left in
+    (omega (arith, n), (page-on _ _ _ _ _ _ _ _ (f .1 .0) n, rw (c .before .count .ensures) at h))
+
+page-walk-returns-3 : (t : ℕ) → page-walk-lts.Need-returns-3 (page-walk-calls t) (page-walk-at t) page-walk.Post
+page-walk-returns-3 t c =
+    let at = c .before .before .before .before in
+    let a = at .before .before .args in
+    let s = length-entries (a .file .now) in
+    let h : a .start + a .entry < length (entries (a .file .now)) = omega (arith, entry-in-file _ _ _ _ _ _ _ _ (at .before .before .pre .1 .0) (at .if1 .left)) in
+    let y = c .before .before .before .pair-at in
+    let p = c .before .if2 .left in
+    c .page-walk .ensures
+    ∙ ap foundAt (sym (walk-on _ _ _ _ _ _ _ _ _ _ _ (spanOf (y .result)) (at .if1 .left) h (y .ensures) (rw (c .before .before .count .ensures) at p)))
+
+pub +descend+page-walk-spec : {M : Type 1} → statement M
++descend+page-walk-spec = close μ-descend μ-page-walk (λ t. descend-lts.spec (descend-calls t)
+    (descend-at t)
+    descend.Post
+    (descend-returns t)
+    (descend-sub-below t)
+    (descend-size-at-requires t)
+    (descend-mul-first t)
+    (descend-returns-2 t)
+    (descend-sub-least t)
+    (descend-least-requires t)
+    (descend-page-walk-requires t)
+    (descend-returns-3 t))
+    λ t. page-walk-lts.spec (page-walk-calls t)
+    (page-walk-at t)
+    page-walk.Post
+    (page-walk-returns t)
+    (page-walk-add-pair-at t)
+    (page-walk-pair-at-requires t)
+    (page-walk-count-requires t)
+    (page-walk-count-requires-2 t)
+    (page-walk-sub-rest t)
+    (page-walk-less-requires t)
+    (page-walk-size-at-requires t)
+    (page-walk-add-descend t)
+    (page-walk-cast-descend t)
+    (page-walk-add-descend-2 t)
+    (page-walk-descend-requires t)
+    (page-walk-returns-2 t)
+    (page-walk-add-page-walk t)
+    (page-walk-sub-page-walk t)
+    (page-walk-page-walk-requires t)
+    (page-walk-returns-3 t)

@@ -1,0 +1,17 @@
+-- `count` meets its contract. Assumes nothing.
+use mathlib.Core.Path.{_∙_, sym, refl}
+use borrow.Author.Needs.{needs}
+use Rattle.paged_runs.proofs.search.count.Statement.{statement}
+use Rattle.paged_runs.proofs.search.count.Tie as tie
+
+less-requires : tie.Need-less-requires
+less-requires c κs = search needs
+
+returns : tie.Need-returns
+returns c = rw (c .before .if1 .taken) (c .less .ensures)
+
+returns-2 : tie.Need-returns-2
+returns-2 c = rw (c .if1 .left)
+
+pub count-spec : {M : Type 1} → statement M
+count-spec = tie.close (tie.spec less-requires returns returns-2)
