@@ -1,6 +1,6 @@
 -- What the code loads, and the step by kind. Assumes nothing.
 use Prim.Native.Nat.{ℕ, zero, suc, _+_, _*_, _≤_, _<_}
-use mathlib.Core.Path.{_≡_, refl}
+use mathlib.Core.Path.{_≡_, refl, sym, ap}
 use mathlib.Core.List.{List}
 use native.Mathlib.Omega.{arith}
 use lib.ListN.{length}
@@ -10,7 +10,7 @@ use Rattle.format.specs.Bytes.{field}
 use Rattle.wire.specs.Wire.{whole, entrySize}
 use Rattle.wire.proofs.Laws.{entry-none}
 use Rattle.cursor.specs.declared.Cursor.{Cursor}
-use Rattle.cursor.specs.Cursor.{pairAt, entryOf, runNext, positionNext, basedNext, jumpNext, pagedNext, movedTo, nextBy}
+use Rattle.cursor.specs.Cursor.{pairAt, entryOf, runNext, positionNext, basedNext, jumpNext, pagedNext, movedTo, nextBy, nextOf}
 
 pub pair-there : (at : ℕ) (b : List ℕ) → at + 8 ≤ length b → pairAt at b ≡ record { first = field 4 at b; second = field 4 (at + 4) b }
 unfolding pairAt
@@ -33,22 +33,26 @@ pub entry-other : (b : List ℕ) (v : View) (r : ℕ) → (v .width ≡ 1 → �
 unfolding entryOf
 entry-other b v r h k = entry-none (v .width) (52 + 4 * v .firsts + entrySize (v .width) * r) b h k
 
--- the step of a kind
-module _ (b : List ℕ) (v : View) (c : Cursor) {k : ℕ} where
-  pub next-1 : k ≡ 1 → runNext b c ≡ nextBy k b v c
-  next-1 h = rw h
+-- the step of a kind: a loop that knows the kind takes the kind's own
+module _ (b : List ℕ) (v : View) (c : Cursor) where
+  by-number : (k : ℕ) → v .kind ≡ k → nextBy k b v c ≡ nextOf b v c
+  unfolding nextOf
+  by-number k h = ap (λ (n : ℕ). nextBy n b v c) (sym h)
 
-  pub next-2 : k ≡ 2 → positionNext b c ≡ nextBy k b v c
-  next-2 h = rw h
+  pub next-1 : v .kind ≡ 1 → runNext b c ≡ nextOf b v c
+  next-1 = by-number 1
 
-  pub next-3 : k ≡ 3 → basedNext b v c ≡ nextBy k b v c
-  next-3 h = rw h
+  pub next-2 : v .kind ≡ 2 → positionNext b c ≡ nextOf b v c
+  next-2 = by-number 2
 
-  pub next-4 : k ≡ 4 → jumpNext b v c ≡ nextBy k b v c
-  next-4 h = rw h
+  pub next-3 : v .kind ≡ 3 → basedNext b v c ≡ nextOf b v c
+  next-3 = by-number 3
 
-  pub next-5 : k ≡ 5 → pagedNext b v c ≡ nextBy k b v c
-  next-5 h = rw h
+  pub next-4 : v .kind ≡ 4 → jumpNext b v c ≡ nextOf b v c
+  next-4 = by-number 4
+
+  pub next-5 : v .kind ≡ 5 → pagedNext b v c ≡ nextOf b v c
+  next-5 = by-number 5
 
 -- no kind
 pub next-none : (k : ℕ) (b : List ℕ) (v : View) (c : Cursor)

@@ -127,5 +127,4 @@ turn5 b w B small c p ls a =
 
 pub turn-5 : (b : List ℕ) (w : View) (B : ℕ) → B < 2 ^ 32 → w .kind ≡ 5 → (c : Cursor) (p : ℕ) (ls : List ℕ) → Ahead5 b w B c (p ∷ ls)
     → (nextOf b w c .at ≡ p) × Ahead5 b w B (nextOf b w c) ls
-unfolding nextOf
 turn-5 b w B small k c p ls a = rw (← next-5 b w c k) (turn5 b w B small c p ls a)

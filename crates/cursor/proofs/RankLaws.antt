@@ -38,7 +38,6 @@ turn2 b c p ls a =
 
 pub turn-2 : (b : List ℕ) (v : View) → v .kind ≡ 2 → (c : Cursor) (p : ℕ) (ls : List ℕ) → Ahead2 b c (p ∷ ls)
     → (nextOf b v c .at ≡ p) × Ahead2 b (nextOf b v c) ls
-unfolding nextOf
 turn-2 b v k c p ls a = rw (← next-2 b v c k) (turn2 b c p ls a)
 
 -- ---- kind 3
@@ -119,7 +118,6 @@ module _ (b : List ℕ) (v : View) (B : ℕ) (small : B < 2 ^ 32) (c : Cursor) (
 
 pub turn-3 : (b : List ℕ) (v : View) (B : ℕ) → B < 2 ^ 32 → v .kind ≡ 3 → (c : Cursor) (p : ℕ) (ls : List ℕ) → Ahead3 b v B c (p ∷ ls)
     → (nextOf b v c .at ≡ p) × Ahead3 b v B (nextOf b v c) ls
-unfolding nextOf
 turn-3 b v B small k c p ls a = rw (← next-3 b v c k) (turn3 b v B small c p ls a)
 
 -- ---- kind 4
@@ -187,6 +185,5 @@ module _ (b : List ℕ) (v : View) (B : ℕ) (small : B < 2 ^ 32) (c : Cursor) (
 
 pub turn-4 : (b : List ℕ) (v : View) (B : ℕ) → B < 2 ^ 32 → v .kind ≡ 4 → (c : Cursor) (p : ℕ) (ls : List ℕ) → Ahead4 b v B c (p ∷ ls)
     → (nextOf b v c .at ≡ p) × Ahead4 b v B (nextOf b v c) ls
-unfolding nextOf
 turn-4 b v B small k c p ls a =
     rw (← next-4 b v c k) (turn4 b v B small c p ls (a .below) (a .ranks) (a .next-low) (a .ds) (a .same) (a .jumped) (a .jumps) (a .differences))

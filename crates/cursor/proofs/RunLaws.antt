@@ -154,5 +154,4 @@ turn1 b B small c p ls a =
 
 pub turn-1 : (b : List ℕ) (w : View) (B : ℕ) → B < 2 ^ 32 → w .kind ≡ 1 → (c : Cursor) (p : ℕ) (ls : List ℕ) → Ahead1 b B c (p ∷ ls)
     → (nextOf b w c .at ≡ p) × Ahead1 b B (nextOf b w c) ls
-unfolding nextOf
 turn-1 b w B small k c p ls a = rw (← next-1 b w c k) (turn1 b B small c p ls a)

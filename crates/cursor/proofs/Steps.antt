@@ -9,7 +9,8 @@ use lib.Dec.{ltb, eqb}
 use Rattle.format.specs.declared.View.{View}
 use Rattle.laws.proofs.Tools.{cases}
 use Rattle.cursor.specs.declared.Cursor.{Cursor}
-use Rattle.cursor.specs.Cursor.{add32, alongRun, runFrom, runNext, pageOf, pagedFrom, pagedNext, movedTo, positionNext, entryOf, baseOf, basedFrom, basedNext, jumpFrom, jumpBy, jumpNext, nextBy, nextOf, before, startOf, walked}
+use Rattle.cursor.specs.Cursor.{add32, alongRun, runFrom, runNext, pageOf, pagedFrom, pagedNext, movedTo, positionNext, entryOf, baseOf}
+use Rattle.cursor.specs.Cursor.{basedFrom, basedNext, jumpFrom, jumpBy, jumpNext, nextBy, nextOf, before, startOf, walked}
 
 -- ---- sums
 

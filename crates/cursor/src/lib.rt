@@ -45,7 +45,7 @@ pub fn start(file: &[u8], v: View) -> Cursor
     next(file, v, before)
 }
 
-// The cursor at the next rank.
+// The cursor at the next rank. A loop over one kind takes that kind's own step, below, which is short enough to be inlined there.
 pub fn next(file: &[u8], v: View, mut c: Cursor) -> Cursor
     ensures { λ r. ⌜ r ≡ nextOf (now (file .entry)) v c ⌝ }
 {

@@ -1,9 +1,9 @@
 -- The counted product is the number of cells of allowed dimensions, and 0 of others. Assumes nothing.
 use Prim.Native.Nat.{ℕ, zero, suc, _+_, _-_, _*_, _≤_, _<_}
-use mathlib.Core.Path.{_≡_, refl, sym, ap, _∙_}
+use mathlib.Core.Path.{_≡_, refl, sym, _∙_}
 use mathlib.Core.Bool.{Bool, true, false}
 use mathlib.Core.List.{List, [], _∷_}
-use native.Mathlib.Nat.{le-refl, one-le-mul, mul-assoc, mul-one, mul-comm, le-mul-of-pos-right}
+use native.Mathlib.Nat.{le-refl, one-le-mul, mul-assoc, mul-one, le-mul-of-pos-right}
 use native.Mathlib.Numerals.{add-one}
 use native.Mathlib.Omega.{arith}
 use lib.ListN.{length, take, drop, getD, drop-of-length-le}

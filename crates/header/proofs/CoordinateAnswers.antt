@@ -1,16 +1,15 @@
 -- The answers of the coordinate calls, case by case. Assumes nothing.
 use Prim.Native.Nat.{ℕ, _≤_, _<_}
-use mathlib.Core.Path.{_≡_, refl, sym, ap, _∙_}
-use mathlib.Core.Bool.{true, false, not}
+use mathlib.Core.Path.{_≡_, refl}
+use mathlib.Core.Bool.{true, false}
 use mathlib.Core.List.{List}
 use native.Mathlib.Omega.{arith}
 use lib.ListN.{length, replicate}
-use lib.Dec.{ltb, eqb}
 use borrow.Author.Tests.{lt-ltb, le-ltb}
 use Rattle.format.specs.declared.Dimensions.{Dimensions}
-use Rattle.format.specs.Tools.{pick, both}
-use Rattle.format.specs.Answers.{Answer, refused, given}
-use Rattle.format.specs.Picture.{mostDimensions, product, cells, dimensionsAllowed, rowOrder, positionAt, insideExtents, inside, coordinatesAt}
+use Rattle.format.specs.Tools.{pick}
+use Rattle.format.specs.Answers.{refused, given}
+use Rattle.format.specs.Picture.{product, cells, dimensionsAllowed, rowOrder, positionAt, insideExtents, inside, coordinatesAt}
 use Rattle.format.specs.Coordinates.{PositionOf, CoordinatesOf, positionNumber, coordinatesNumber}
 use Rattle.header.proofs.CellCount.{count-none, count-some}
 

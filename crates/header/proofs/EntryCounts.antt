@@ -1,9 +1,9 @@
 -- The entry counts, kind by kind. Assumes nothing.
-use Prim.Native.Nat.{ℕ, zero, suc, _+_, _*_, _≤_, _<_}
-use mathlib.Core.Path.{_≡_, refl, sym, ap, _∙_, subst}
+use Prim.Native.Nat.{ℕ, zero, suc, _+_, _≤_, _<_}
+use mathlib.Core.Path.{_≡_, refl, _∙_, subst}
 use mathlib.Core.Bool.{Bool, true, false}
 use native.Mathlib.Omega.{arith}
-use lib.Dec.{leb, eqb}
+use lib.Dec.{eqb}
 use borrow.Author.Tests.{le-leb, lt-leb}
 use Rattle.format.specs.declared.View.{View}
 use Rattle.format.specs.Tools.{both, within, upTo}
@@ -11,7 +11,7 @@ use Rattle.format.specs.BaseOffset.{basedKind}
 use Rattle.format.specs.PagedRuns.{pagesKind, upperEntries}
 use Rattle.format.specs.Kinds.{codecOf}
 use Rattle.laws.proofs.Tools.{both-true, within-true}
-use Rattle.laws.proofs.Bounds.{upTo-half, upperEntries-le}
+use Rattle.laws.proofs.Bounds.{upTo-half}
 use Rattle.laws.proofs.Accumulation.{one-more-entries, no-more-entries}
 use Rattle.header.specs.Number.{countsAt, viewCounts}
 

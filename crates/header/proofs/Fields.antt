@@ -1,13 +1,12 @@
 -- The header's fields one by one. Assumes nothing.
-use Prim.Native.Nat.{ℕ, zero, suc, _+_}
-use mathlib.Core.Path.{_≡_, refl, sym, ap, _∙_}
+use Prim.Native.Nat.{ℕ, suc, _+_}
+use mathlib.Core.Path.{_≡_, refl}
 use mathlib.Core.List.{List, [], _∷_}
 use lib.ListN.{drop}
 use lib.Seq.{drop-drop}
 use Rattle.format.specs.declared.Setting.{Setting}
 use Rattle.format.specs.declared.Dimensions.{Dimensions}
 use Rattle.format.specs.Bytes.{field, numbersOf}
-use Rattle.format.specs.declared.View.{View}
 use Rattle.format.specs.Tools.{pick}
 use Rattle.format.specs.Picture.{cells, dimensionsAllowed}
 use Rattle.format.specs.Accepted.{settingOf, dimensionsOf, emptyOf, wordsCount, firstCount, secondCount}

@@ -1,15 +1,15 @@
 -- The number of a header, step by step over its view. Assumes nothing.
-use Prim.Native.Nat.{ℕ, zero, suc, _+_, _*_, _≤_, _<_}
-use mathlib.Core.Path.{_≡_, refl, sym, ap, ap₂, _∙_}
+use Prim.Native.Nat.{ℕ, zero, suc, _≤_}
+use mathlib.Core.Path.{_≡_, refl, sym, ap, _∙_}
 use mathlib.Core.Bool.{Bool, true, false, not}
 use mathlib.Core.List.{List}
 use native.Mathlib.Omega.{arith}
 use lib.ListN.{length}
-use lib.Dec.{leb, ltb, eqb}
+use lib.Dec.{leb, eqb}
 use borrow.Author.Tests.{le-ltb, eq-eqb, ne-eqb}
 use Rattle.format.specs.declared.Setting.{Setting}
 use Rattle.format.specs.declared.View.{View}
-use Rattle.format.specs.Tools.{pick, both}
+use Rattle.format.specs.Tools.{both}
 use Rattle.format.specs.Signals.{refuse}
 use Rattle.format.specs.Bytes.{field}
 use Rattle.format.specs.Picture.{cells, dimensionsAllowed}
@@ -25,7 +25,7 @@ use Rattle.format.specs.Accepted.{settingOf, dimensionsOf, wordsCount, firstCou
 use Rattle.format.specs.Opened.{viewOf}
 use Rattle.laws.proofs.Tools.{cases, refuse-zero, not-false}
 use Rattle.laws.proofs.Limits.{small-dims}
-use Rattle.laws.proofs.Settings.{FiveKinds, by-kind}
+use Rattle.laws.proofs.Settings.{by-kind}
 use Rattle.header.specs.View.{firstSizeOf, secondSizeOf, secondPlace, wordsPlace}
 use Rattle.header.specs.Number.{countsAt, viewCounts, endPlace, viewOffsets, viewLength}
 use Rattle.header.proofs.CellCount.{count-none, count-some}
@@ -131,7 +131,15 @@ module _ (b : List ℕ) (long : headerLength ≤ length b) where
 
     counts-right : dimensionsAllowed (dimensionsOf b) ≡ true → countsRight b ≡ viewRight b (viewOf b)
     unfolding countsRight viewOffsets viewLength
-    counts-right d = rw (counts-same d, second-same, words-same, end-same) (grouped (leb (wordsCount b) (cells (dimensionsOf b))) (codec (settingOf b) .counts (wordsCount b) (firstCount b) (secondCount b)) (eqb (field 4 36 b) headerLength) (eqb (field 4 40 b) (secondPlace (viewOf b))) (eqb (field 4 44 b) (wordsPlace (viewOf b))) (eqb (field 4 48 b) (endPlace (viewOf b))) (eqb (length b) (endPlace (viewOf b))))
+    counts-right d =
+        rw (counts-same d, second-same, words-same, end-same)
+        (grouped (leb (wordsCount b) (cells (dimensionsOf b)))
+        (codec (settingOf b) .counts (wordsCount b) (firstCount b) (secondCount b))
+        (eqb (field 4 36 b) headerLength)
+        (eqb (field 4 40 b) (secondPlace (viewOf b)))
+        (eqb (field 4 44 b) (wordsPlace (viewOf b)))
+        (eqb (field 4 48 b) (endPlace (viewOf b)))
+        (eqb (length b) (endPlace (viewOf b))))
 
     pub number-counts : (viewOf b .cells ≡ 0 → ⊥) → headerNumber b ≡ refuse 5 (not (viewRight b (viewOf b))) 0
     unfolding headerNumber

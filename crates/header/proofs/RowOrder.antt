@@ -1,18 +1,16 @@
 -- Row order one extent at a time, forwards to a position and backwards to coordinates. Assumes nothing.
-use Prim.Native.Nat.{ℕ, zero, suc, _+_, _-_, _*_, _/_, _%_, _≤_, _<_}
+use Prim.Native.Nat.{ℕ, zero, suc, _+_, _*_, _/_, _%_, _≤_, _<_}
 use mathlib.Core.Path.{_≡_, refl, sym, ap, _∙_}
-use mathlib.Core.Bool.{Bool, true, false, not}
+use mathlib.Core.Bool.{true, false}
 use mathlib.Core.List.{List, [], _∷_}
-use native.Mathlib.Nat.{le-refl, mul-one, mul-zero, zero-mul, mul-comm, mul-assoc, suc-mul, mul-le-mul-right, div-add-mod', mod-lt, zero-lt-suc, le-mul-of-pos-right}
+use native.Mathlib.Nat.{le-refl, mul-one, mul-zero, zero-mul, mul-assoc, suc-mul, mul-le-mul-right, div-add-mod', mod-lt, zero-lt-suc, le-mul-of-pos-right}
 use native.Mathlib.Numerals.{add-one}
 use native.Mathlib.Omega.{arith}
 use lib.ListN.{length, drop, getD, set, drop-of-length-le}
 use lib.Seq.{drop-cons}
-use lib.Dec.{ltb, eqb}
-use borrow.Author.Tests.{lt-ltb, le-ltb, eq-eqb}
-use Rattle.format.specs.declared.Dimensions.{Dimensions}
-use Rattle.format.specs.Tools.{pick, both, first, others}
-use Rattle.format.specs.Picture.{mostDimensions, product, cells, dimensionsAllowed, rowOrder, positionAt, insideExtents, inside, coordinatesFrom, coordinatesAt}
+use borrow.Author.Tests.{lt-ltb, le-ltb}
+use Rattle.format.specs.Tools.{first, others}
+use Rattle.format.specs.Picture.{product, rowOrder, insideExtents, coordinatesFrom}
 use Rattle.laws.proofs.Coordinates.{coordinates-back}
 
 -- ---- the extents that are left

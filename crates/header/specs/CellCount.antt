@@ -1,6 +1,6 @@
 -- The product of the extents as it is counted: one extent after the other, given up at the first that is not allowed. Assumes nothing.
 use Prim.Native.Nat.{ℕ, zero, suc, _-_, _*_}
-use mathlib.Core.Bool.{Bool, true, false}
+use mathlib.Core.Bool.{Bool}
 use mathlib.Core.List.{List, [], _∷_}
 use lib.Dec.{leb, eqb}
 use Rattle.format.specs.Tools.{pick, both}

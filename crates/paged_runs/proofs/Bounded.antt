@@ -58,7 +58,7 @@ pub level-below : (b M : ℕ) (xs : List Span) → cellsOf xs < M → emptyOf xs
 unfolding level
 level-below b M xs h g = sums-below b 0 M none xs (omega arith) (omega arith)
 
-flat-append : (xs ys : List Span) → flatSpans (xs ++ ys) ≡ flatSpans xs ++ flatSpans ys
+pub flat-append : (xs ys : List Span) → flatSpans (xs ++ ys) ≡ flatSpans xs ++ flatSpans ys
 unfolding flatSpans
 flat-append [] ys = refl
 flat-append (x ∷ xs) ys = rw (flat-append xs ys)

@@ -7,3 +7,7 @@ pub mod Cutting
 pub mod Held
 pub mod Answering
 pub mod Finding
+pub mod GoodPairs
+pub mod Along
+pub mod Above
+pub mod PartsAgain

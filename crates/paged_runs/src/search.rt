@@ -1,6 +1,9 @@
 // The searches (document 01, "The file", kind 5): along a page to the first entry whose count exceeds the number, and from there to the page
 // below it. For a position a search counts all cells of an entry, for a rank its stored cells.
 use crate::entry::Pair;
+use crate::entry::index;
+use crate::entry::least;
+use crate::entry::long;
 use crate::entry::pair_at;
 use format::Position;
 use format::PositionAnswer;
@@ -27,20 +30,6 @@ fn less(x: u32, y: u32) -> u32
     ensures { λ r. ⌜ r ≡ x - y ⌝ }
 {
     if y < x { x - y } else { 0 }
-}
-
-// The lesser of two numbers.
-fn least(x: usize, y: usize) -> usize
-    ensures { λ r. ⌜ r ≡ min x y ⌝ }
-{
-    if x < y { x } else { y }
-}
-
-// A 32-bit number as an index.
-fn index(x: u32) -> usize
-    ensures { λ r. ⌜ (r ≡ x) × (r < 2 ^ 32) ⌝ }
-{
-    x as usize
 }
 
 // How many entries a level has.
@@ -209,13 +198,6 @@ fn search(file: &[u8], v: View, number: u32, stored: bool) -> Found
         0,
         number,
     )
-}
-
-// A 32-bit number as a sum of them.
-fn long(x: u32) -> u64
-    ensures { λ r. ⌜ (r ≡ x) × (r < 2 ^ 32) ⌝ }
-{
-    x as u64
 }
 
 // The rank of the position p in the run that was found.

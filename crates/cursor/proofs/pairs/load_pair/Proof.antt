@@ -4,9 +4,6 @@ use Rattle.cursor.proofs.Loads.{pair-there, pair-past}
 use borrow.Author.Needs.{needs}
 use Rattle.cursor.proofs.pairs.load_pair.Statement.{statement}
 use Rattle.cursor.proofs.pairs.load_pair.Tie as tie
-use Rattle.cursor.proofs.pairs.load_pair.Reads as reads
-use Rattle.cursor.proofs.pairs.load_pair.Lts as lts
-use Rattle.wire.proofs.get_u32.Reads as get-u32-reads
 
 returns : tie.Need-returns
 returns c = sym (pair-past _ _ (omega arith))

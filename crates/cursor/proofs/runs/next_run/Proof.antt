@@ -3,49 +3,35 @@ use Rattle.cursor.specs.Cursor.{add32, alongRun, runFrom, runNext}
 use borrow.Author.Needs.{needs}
 use Rattle.cursor.proofs.runs.next_run.Statement.{statement}
 use Rattle.cursor.proofs.runs.next_run.Tie as tie
-use Rattle.cursor.proofs.runs.next_run.Reads as reads
-use Rattle.cursor.proofs.runs.next_run.Lts as lts
-use Rattle.cursor.proofs.pairs.load_pair.Reads as load-pair-reads
-use Rattle.std.proofs.num.wrapping_add_u32.Reads as wrapping-add-u32-reads
 
--- src/runs.rt:13:5
 wrapping-add-u32-requires : tie.Need-wrapping-add-u32-requires
 wrapping-add-u32-requires c κs = search needs
 
--- src/runs.rt:15:9
 add-c : tie.Need-add-c
 add-c c = search needs
 
--- src/runs.rt:16:9
 returns : tie.Need-returns
 unfolding runNext alongRun add32
 returns c = rw (lt-ltb _ _ (c .before .if1 .taken)) (cc)
 
--- src/runs.rt:18:40
 cast-load-pair : tie.Need-cast-load-pair
 cast-load-pair c = search needs
 
--- src/runs.rt:18:36
 mul-load-pair : tie.Need-mul-load-pair
 mul-load-pair c = search needs
 
--- src/runs.rt:18:31
 add-load-pair : tie.Need-add-load-pair
 add-load-pair c = search needs
 
--- src/runs.rt:18:9
 load-pair-requires : tie.Need-load-pair-requires
 load-pair-requires c κs = search needs
 
--- src/runs.rt:19:5
 wrapping-add-u32-requires-2 : tie.Need-wrapping-add-u32-requires-2
 wrapping-add-u32-requires-2 c κs = search needs
 
--- src/runs.rt:20:5
 wrapping-add-u32-requires-3 : tie.Need-wrapping-add-u32-requires-3
 wrapping-add-u32-requires-3 c κs = search needs
 
--- src/runs.rt:10:1
 returns-2 : tie.Need-returns-2
 unfolding runNext runFrom add32
 returns-2 c = rw (le-ltb _ _ (c .before .before .before .before .if1 .left)) (cc)

@@ -6,28 +6,21 @@ use Rattle.cursor.specs.Cursor.{pageOf}
 use borrow.Author.Needs.{needs}
 use Rattle.cursor.proofs.runs.page_of.Statement.{statement}
 use Rattle.cursor.proofs.runs.page_of.Tie as tie
-use Rattle.cursor.proofs.runs.page_of.Reads as reads
-use Rattle.cursor.proofs.runs.page_of.Lts as lts
 
--- src/runs.rt:30:9
 add-c : tie.Need-add-c
 add-c c = search needs
 
--- src/runs.rt:31:9
 returns : tie.Need-returns
 unfolding pageOf
 returns c = rw (lt-ltb _ _ (c .before .if1 .taken))
 
--- src/runs.rt:37:19
 sub-c : tie.Need-sub-c
 sub-c c = search needs
 
--- src/runs.rt:26:1
 returns-2 : tie.Need-returns-2
 unfolding pageOf
 returns-2 c = rw (le-ltb _ _ (c .before .before .before .if1 .left))
 
--- src/runs.rt:26:1
 returns-3 : tie.Need-returns-3
 unfolding pageOf
 returns-3 c =

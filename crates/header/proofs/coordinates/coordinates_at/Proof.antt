@@ -1,7 +1,7 @@
 -- The loop's invariant: the coordinates found so far lie inside, and with what is left they give the position. Assumes nothing.
 use mathlib.Core.Path.{_≡_, refl, sym, _∙_}
 use mathlib.Core.Bool.{true}
-use Prim.Native.Nat.{ℕ, _+_, _-_, _*_, _≤_, _<_}
+use Prim.Native.Nat.{_+_, _-_, _*_, _≤_, _<_}
 use native.Mathlib.Omega.{arith}
 use lib.ListN.{length, drop, getD, length-set}
 use borrow.Author.Needs.{needs}
@@ -102,7 +102,8 @@ returns-3 c =
     let s = c .before .before .before .before .before .before in
     let l = c .before .loop in
     let none : l .i ≡ 0 = omega arith in
-    let few : s .args .p .0 < countOf (s .args .d) = rw (c .before .before .before .before .before .cell-count .ensures .0) at (c .before .before .before .if2 .left) in
+    let few : s .args .p .0 < countOf (s .args .d)
+    = rw (c .before .before .before .before .before .cell-count .ensures .0) at (c .before .before .before .if2 .left) in
     let e = some (c .before .before .before .before) in
     coordinates-given (s .args .d) (s .args .p .0) e (l .at) few
     (back-end (l .rest) (s .args .p .0) (s .args .d .extents) (l .at) (l .inv .1 ∙ sym (four s))

@@ -1,6 +1,6 @@
 -- The loop's invariant: the coordinates and extents that are left, from the position so far, give the whole. Assumes nothing.
 use mathlib.Core.Path.{_≡_, refl, sym, _∙_}
-use Prim.Native.Nat.{ℕ, suc, _+_, _-_, _*_, _≤_, _<_}
+use Prim.Native.Nat.{suc, _+_, _-_, _*_, _≤_, _<_}
 use native.Mathlib.Omega.{arith}
 use lib.ListN.{length, drop, getD}
 use borrow.Author.Needs.{needs}
@@ -86,7 +86,7 @@ returns-2 c =
     let l = c .before .before .loop in
     let f = four s in
     position-beyond (s .args .d) (s .args .t2) (some (c .before .before .before .before)) (f .1)
-    (sym (l .inv .2) ∙ inside-stop (l .i) (l .p) (s .args .d .extents) (s .args .t2) (omega arith) (c .if2 .taken))
+    (sym (l .inv .2) ∙ inside-stop (l .i) (l .p) (s .args .d .extents) (s .args .t2) (omega arith) (omega arith))
 
 mul-p : tie.Need-mul-p Inv-loop μ-loop
 mul-p c = let n = next c in record { fits = omega arith }

@@ -1,4 +1,3 @@
-use native.Mathlib.Omega.{arith}
 use mathlib.Core.Path.{refl}
 use Rattle.laws.proofs.Bounds.{upTo-le}
 use borrow.Author.Needs.{needs}

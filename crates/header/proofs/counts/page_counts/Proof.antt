@@ -14,7 +14,8 @@ returns : tie.Need-returns
 unfolding countsAt pagesKind
 returns c =
     let v = c .before .before .before .before .args .v in
-    rw (c .before .upper-count .ensures .0, le-leb _ _ (c .before .before .if1 .taken)) (both-true-right (eqb (v .firsts) (upperEntries (v .step) (v .seconds))))
+    rw (c .before .upper-count .ensures .0, le-leb _ _ (c .before .before .if1 .taken))
+    (both-true-right (eqb (v .firsts) (upperEntries (v .step) (v .seconds))))
 
 returns-2 : tie.Need-returns-2
 unfolding countsAt pagesKind

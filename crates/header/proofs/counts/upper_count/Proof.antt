@@ -1,4 +1,4 @@
-use mathlib.Core.Path.{_≡_, refl}
+use mathlib.Core.Path.{_≡_}
 use Prim.Native.Nat.{_+_, _≤_, _<_}
 use native.Mathlib.Omega.{arith}
 use borrow.Author.Needs.{needs}
@@ -17,7 +17,8 @@ abbrev μ-loop : tie.MeasureT-loop
 
 -- the entries counted so far, with those of the next level and those above it
 turn : (c : tie.In-loop Inv-loop μ-loop)
-    → c .before .loop .entries + upTo (c .before .loop .level) (c .before .before .args .b) + upperEntries (c .before .before .args .b) (upTo (c .before .loop .level) (c .before .before .args .b))
+    → c .before .loop .entries + upTo (c .before .loop .level) (c .before .before .args .b)
+    + upperEntries (c .before .before .args .b) (upTo (c .before .loop .level) (c .before .before .args .b))
     ≡ upperEntries (c .before .before .args .b) (c .before .before .args .v)
 turn c =
     let s = c .before .before in

@@ -1,8 +1,8 @@
 -- The loop's invariant: the product so far, continued over the extents that are left, gives the whole. Assumes nothing.
-use mathlib.Core.Path.{_≡_, refl, sym, ap, _∙_}
-use mathlib.Core.Bool.{true, false}
+use mathlib.Core.Path.{_≡_, sym, ap, _∙_}
+use mathlib.Core.Bool.{true}
 use mathlib.Core.Logic.{⊎-elim}
-use Prim.Native.Nat.{ℕ, _+_, _-_, _*_, _≤_, _<_}
+use Prim.Native.Nat.{ℕ, _-_, _*_, _≤_}
 use mir.Val.{Fits}
 use mir.Syntax.{w32}
 use native.Mathlib.Nat.{mul-le-mul}
@@ -13,7 +13,8 @@ use borrow.Author.Tests.{le-leb, lt-leb}
 use Rattle.format.specs.Tools.{pick}
 use Rattle.format.specs.Picture.{cells, dimensionsAllowed}
 use Rattle.header.specs.CellCount.{extentAllowed, countFrom}
-use Rattle.header.proofs.CellCount.{count-cells, count-outside, dimension-allowed, past-allowed, past-refused, count-step, count-refused, count-zero, count-past, count-end}
+use Rattle.header.proofs.CellCount.{count-cells, count-outside, dimension-allowed, past-allowed, past-refused}
+use Rattle.header.proofs.CellCount.{count-step, count-refused, count-zero, count-past, count-end}
 use Rattle.header.proofs.extents.cell_count.Statement.{statement}
 use Rattle.header.proofs.extents.cell_count.Tie as tie
 
@@ -28,9 +29,11 @@ abbrev μ-loop : tie.MeasureT-loop
 four : (c : tie.Start Inv-loop μ-loop) → length (c .args .d .extents) ≡ 4
 four c = search needs
 
--- what the loop counts is the number of cells, or 0
+-- where it stops, what it counts is the number of cells, or 0
 whole : (c : tie.In-loop Inv-loop μ-loop) (x : ℕ)
-    → countFrom (c .before .before .before .before .before .args .d .count - c .before .loop .i) (c .before .loop .cells) (drop (c .before .loop .i) (c .before .before .before .before .before .args .d .extents)) ≡ x
+    → countFrom (c .before .before .before .before .before .args .d .count - c .before .loop .i) (c .before .loop .cells)
+    (drop (c .before .loop .i) (c .before .before .before .before .before .args .d .extents))
+    ≡ x
     → x ≡ pick (dimensionsAllowed (c .before .before .before .before .before .args .d)) (cells (c .before .before .before .before .before .args .d)) 0
 whole c x h =
     let s = c .before .before .before .before .before in
@@ -86,7 +89,7 @@ mul-cells c =
 returns-5 : tie.Need-returns-5 Inv-loop μ-loop
 returns-5 c =
     let f = four (c .before .before .before .before .before .before .before .before) in
-    (whole (c .before .before .before) 0 (count-past _ _ _ _ (omega arith) (c .if6 .taken)), omega arith)
+    (whole (c .before .before .before) 0 (count-past _ _ _ _ (omega arith) (omega arith)), omega arith)
 
 add-i : tie.Need-add-i Inv-loop μ-loop
 add-i c = search needs
@@ -103,7 +106,10 @@ loop-again c =
     let n = s .args .d .count - l .i in
     let small : l .cells * getD e (l .i) 0 ≤ 16777216 = omega arith in
     let ok : extentAllowed n (getD e (l .i) 0) ≡ true =
-    ⊎-elim (λ w. past-allowed n (getD e (l .i) 0) (omega (arith, w .0 .taken)) (w .1 .left)) (λ w. dimension-allowed n (getD e (l .i) 0) (omega (arith, w .left)) (c .before .before .if3 .left)) (c .before .if4 .came) in
+    ⊎-elim
+    (λ w. past-allowed n (getD e (l .i) 0) (omega (arith, w .0 .taken)) (w .1 .left))
+    (λ w. dimension-allowed n (getD e (l .i) 0) (omega (arith, w .left)) (c .before .before .if3 .left))
+    (c .before .if4 .came) in
     (omega arith, small, sym (count-step (s .args .d .count) (l .cells) (l .i) e (omega arith) ok small) ∙ l .inv .2)
 
 cast-result : tie.Need-cast-result Inv-loop μ-loop

@@ -1,4 +1,3 @@
-use mathlib.Core.Path.{refl}
 use borrow.Author.Tests.{lt-ltb}
 use Rattle.format.specs.Accepted.{headerNumber}
 use borrow.Author.Needs.{needs}

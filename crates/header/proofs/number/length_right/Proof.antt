@@ -1,4 +1,3 @@
-use mathlib.Core.Path.{refl}
 use Rattle.header.specs.Number.{viewLength}
 use Rattle.header.proofs.HeaderNumber.{test-false, test-true}
 use borrow.Author.Needs.{needs}

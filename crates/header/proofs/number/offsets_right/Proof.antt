@@ -1,4 +1,4 @@
-use mathlib.Core.Path.{refl, _∙_}
+use mathlib.Core.Path.{refl}
 use Rattle.header.specs.Number.{viewOffsets}
 use Rattle.header.proofs.HeaderNumber.{test-false, test-true}
 use borrow.Author.Needs.{needs}
@@ -40,8 +40,10 @@ words-at-requires c κs = search needs
 returns-3 : tie.Need-returns-3
 unfolding viewOffsets
 returns-3 c =
-    let first = test-true (c .before .before .before .before .before .before .get-u32 .ensures .0) refl (c .before .before .before .before .before .if1 .left) in
-    let second = test-true (c .before .before .before .before .get-u322 .ensures .0) (c .before .before .before .second-at .ensures .0) (c .before .before .if2 .left) in
+    let first =
+    test-true (c .before .before .before .before .before .before .get-u32 .ensures .0) refl (c .before .before .before .before .before .if1 .left) in
+    let second =
+    test-true (c .before .before .before .before .get-u322 .ensures .0) (c .before .before .before .second-at .ensures .0) (c .before .before .if2 .left) in
     rw (first, second, c .before .get-u323 .ensures .0, c .words-at .ensures .0)
 
 pub offsets-right-spec : {M : Type 1} → statement M

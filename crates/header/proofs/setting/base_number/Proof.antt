@@ -7,15 +7,27 @@ use Rattle.header.proofs.setting.base_number.Tie as tie
 
 returns : tie.Need-returns
 unfolding allowedNumber basedKind
-returns c = rw (within-in 1 2 (c .before .before .before .before .args .width) (omega arith) (omega arith), within-in 1 255 (c .before .before .before .before .args .step) (omega arith) (omega arith))
+returns c =
+    rw (
+      within-in 1 2 (c .before .before .before .before .args .width) (omega arith) (omega arith),
+      within-in 1 255 (c .before .before .before .before .args .step) (omega arith) (omega arith),
+    )
 
 returns-2 : tie.Need-returns-2
 unfolding allowedNumber basedKind
-returns-2 c = rw (within-in 1 2 (c .before .before .before .args .width) (omega arith) (omega arith), within-below 1 255 (c .before .before .before .args .step) (omega arith))
+returns-2 c =
+    rw (
+      within-in 1 2 (c .before .before .before .args .width) (omega arith) (omega arith),
+      within-below 1 255 (c .before .before .before .args .step) (omega arith),
+    )
 
 returns-3 : tie.Need-returns-3
 unfolding allowedNumber basedKind
-returns-3 c = rw (within-in 1 2 (c .before .before .before .before .args .width) (omega arith) (omega arith), within-above 1 255 (c .before .before .before .before .args .step) (omega arith))
+returns-3 c =
+    rw (
+      within-in 1 2 (c .before .before .before .before .args .width) (omega arith) (omega arith),
+      within-above 1 255 (c .before .before .before .before .args .step) (omega arith),
+    )
 
 returns-4 : tie.Need-returns-4
 unfolding allowedNumber basedKind

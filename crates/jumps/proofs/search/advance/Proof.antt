@@ -1,3 +1,4 @@
+-- A step from rank to rank, over any bytes. Assumes nothing.
 use native.Mathlib.Omega.{arith}
 use Rattle.jumps.proofs.Steps.{by-difference, by-none, by-jump}
 use borrow.Author.Needs.{needs}

@@ -24,7 +24,9 @@ get-u32-requires-2 c κs = search needs
 returns : tie.Need-returns
 returns c =
     let a = c .before .before .before .args in
-    rw (entry-at (a .file .now) (a .number) (omega arith), c .get-u322 .ensures .0, c .before .get-u32 .ensures .0)
+    let x = c .before .get-u32 .ensures in
+    let y = c .get-u322 .ensures in
+    (rw (entry-at (a .file .now) (a .number) (omega arith), y .0, x .0), x .1, y .1)
 
 pub pair-at-spec : {M : Type 1} → statement M
 pair-at-spec = tie.close (tie.spec mul-at add-at get-u32-requires add-get-u32 get-u32-requires-2 returns)

@@ -19,7 +19,7 @@ use Rattle.paged_runs.proofs.search.+descend+page_walk.Lts-page_walk as
 use Rattle.paged_runs.proofs.entry.pair_at.Reads as pair-at-reads
 use Rattle.paged_runs.proofs.search.count.Reads as count-reads
 use Rattle.paged_runs.proofs.search.less.Reads as less-reads
-use Rattle.paged_runs.proofs.search.least.Reads as least-reads
+use Rattle.paged_runs.proofs.entry.least.Reads as least-reads
 use Rattle.paged_runs.proofs.search.size_at.Reads as size-at-reads
 use Rattle.paged_runs.proofs.search.+descend+page_walk.{statement}
 use Rattle.paged_runs.proofs.search.+descend+page_walk.Tie.{close}
@@ -164,7 +164,7 @@ page-walk-returns-2 t c =
     let p = c .before .before .before .before .before .if2 .taken in
     c .descend .ensures
     ∙ rw (c .before .before .size-at .ensures .0, c .before .before .before .less .ensures, c .before .before .before .before .count2 .ensures)
-    (sym (walk-here _ _ _ _ _ _ _ _ _ _ _ (spanOf (y .result)) (at .if1 .left) h (y .ensures) (rw (c .before .before .before .before .before .before .count .ensures) at p)))
+    (sym (walk-here _ _ _ _ _ _ _ _ _ _ _ (spanOf (y .result)) (at .if1 .left) h (y .ensures .0) (rw (c .before .before .before .before .before .before .count .ensures) at p)))
 
 page-walk-add-page-walk : (t : ℕ) → page-walk-lts.Need-add-page-walk (page-walk-calls t) (page-walk-at t) page-walk.Post
 page-walk-add-page-walk t c = omega (arith, entry-in-file _ _ _ _ _ _ _ _ (c .before .before .before .before .before .pre .1 .0) (c .before .before .before .if1 .left))
@@ -188,7 +188,7 @@ page-walk-returns-3 t c =
     let y = c .before .before .before .pair-at in
     let p = c .before .if2 .left in
     c .page-walk .ensures
-    ∙ ap foundAt (sym (walk-on _ _ _ _ _ _ _ _ _ _ _ (spanOf (y .result)) (at .if1 .left) h (y .ensures) (rw (c .before .before .count .ensures) at p)))
+    ∙ ap foundAt (sym (walk-on _ _ _ _ _ _ _ _ _ _ _ (spanOf (y .result)) (at .if1 .left) h (y .ensures .0) (rw (c .before .before .count .ensures) at p)))
 
 pub +descend+page-walk-spec : {M : Type 1} → statement M
 +descend+page-walk-spec = close μ-descend μ-page-walk (λ t. descend-lts.spec (descend-calls t)

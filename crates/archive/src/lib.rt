@@ -1,0 +1,4 @@
+// The calls of document 01 on lent buffers.
+pub mod check;
+pub mod expand;
+pub mod lookup;

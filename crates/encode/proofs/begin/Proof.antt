@@ -1,0 +1,11 @@
+use Rattle.encode.specs.Encoder.{begun}
+use mathlib.Core.Path.{refl}
+use Rattle.encode.proofs.begin.Statement.{statement}
+use Rattle.encode.proofs.begin.Tie as tie
+
+returns : tie.Need-returns
+unfolding begun
+returns c = refl
+
+pub begin-spec : {M : Type 1} → statement M
+begin-spec = tie.close (tie.spec returns)

@@ -1,0 +1,15 @@
+use Rattle.encode.specs.Ready.{moved}
+use mathlib.Core.Path.{refl}
+use borrow.Author.Needs.{needs}
+use Rattle.encode.proofs.measure.move_on.Statement.{statement}
+use Rattle.encode.proofs.measure.move_on.Tie as tie
+
+add-rank : tie.Need-add-rank
+add-rank c = search needs
+
+returns : tie.Need-returns
+unfolding moved
+returns c = refl
+
+pub move-on-spec : {M : Type 1} → statement M
+move-on-spec = tie.close (tie.spec add-rank returns)

@@ -1,0 +1,73 @@
+use Prim.Native.Nat.{ℕ, _≤_, _-_}
+use mathlib.Core.Path.{_≡_, ap, _∙_}
+use mathlib.Core.List.{List, _++_}
+use native.Mathlib.Omega.{arith}
+use lib.ListN.{length, drop, set, replicate, length-set}
+use Rattle.scatter.proofs.Scattered.{fill-turn}
+use borrow.Author.Needs.{needs}
+use Rattle.scatter.proofs.fill.Statement.{statement}
+use Rattle.scatter.proofs.fill.Tie as tie
+use Rattle.scatter.proofs.fill.Reads as reads
+use Rattle.scatter.proofs.fill.Lts as lts
+
+abbrev Inv-loop : tie.InvT-loop
+Inv-loop dst₀ n x i₀ dst i = (i ≤ n) × (length dst ≡ length dst₀) × (dst ≡ replicate i x ++ drop i dst₀)
+
+abbrev μ-loop : tie.MeasureT-loop
+μ-loop dst₀ n x i₀ dst i = n - i
+
+-- src/lib.rt:13:5
+loop-holds : tie.Need-loop-holds Inv-loop μ-loop
+loop-holds c = search needs
+
+-- src/lib.rt:14:9
+mul-dst : tie.Need-mul-dst Inv-loop μ-loop
+mul-dst c = search needs
+
+-- src/lib.rt:14:9
+slice-write-dst : tie.Need-slice-write-dst Inv-loop μ-loop
+slice-write-dst c = search needs
+
+-- src/lib.rt:15:9
+add-i : tie.Need-add-i Inv-loop μ-loop
+add-i c = search needs
+
+-- src/lib.rt:13:5
+loop-less : tie.Need-loop-less Inv-loop μ-loop
+loop-less c = search needs
+
+-- src/lib.rt:13:5
+loop-again : tie.Need-loop-again Inv-loop μ-loop
+loop-again c =
+    let a = c .before .before .args in
+    let l = c .before .loop in (
+      omega arith,
+      length-set (l .dst) (l .i) (a .x) ∙ l .inv .1,
+      ap (λ (d : List ℕ). set d (l .i) (a .x)) (l .inv .2) ∙ fill-turn (a .dst .now) (l .i) (a .x) (omega arith),
+    )
+
+-- src/lib.rt:8:1
+same-length : tie.Need-same-length Inv-loop μ-loop
+same-length c = search needs
+
+-- src/lib.rt:8:1
+returns : tie.Need-returns Inv-loop μ-loop
+returns c =
+    let l = c .before .loop in
+    let e : l .i ≡ c .before .before .args .n = omega arith in
+    l .inv .2 ∙ rw e
+
+pub fill-spec : {M : Type 1} → statement M
+fill-spec =
+    tie.close
+    (tie.spec
+    Inv-loop
+    μ-loop
+    loop-holds
+    mul-dst
+    slice-write-dst
+    add-i
+    loop-less
+    loop-again
+    same-length
+    returns)
