@@ -60,7 +60,8 @@ module _ (b : List ℕ) (v : View) (k : Known b v) where
       let n′ : length ls ≡ v .words = n ∙ k .words-is in
       let u′ : not (offsetsFit (v .width) (v .step) ls) ≡ false = rw (k .codec-is) at u in
       let f′ : bytesOf 4 (bases (v .step) ls) ≡ take (4 * v .firsts) (drop 52 b) = rw (k .codec-is, k .firsts-is) at f in
-      let g′ : bytesOf (v .width) (offsets (v .step) ls) ≡ take (v .width * v .words) (drop (secondPlace v) b) = rw (k .codec-is, k .seconds-is, k .second-is) at g in
+      let g′ : bytesOf (v .width) (offsets (v .step) ls) ≡ take (v .width * v .words) (drop (secondPlace v) b)
+      = rw (k .codec-is, k .seconds-is, k .second-is) at g in
       let c = k .cells-most in
       let small : Below (256 ^ 4) ls = below-widen (v .cells) (256 ^ 4) ls (omega arith) (below-rising 0 (v .cells) ls r′) in
       let count : length (bases (v .step) ls) ≡ v .firsts = length-bases (v .step) ls ∙ rw n′ (sym (k .bases)) in
@@ -71,7 +72,8 @@ module _ (b : List ℕ) (v : View) (k : Known b v) where
         offsets =
             sym
             (rw (k .entry-is)
-            (numbers-again (v .width) (v .words) (drop (secondPlace v) b) (offsets (v .step) ls) (below-offsets (v .width) (v .step) ls (not-false _ u′)) size g′));
+            (numbers-again (v .width) (v .words) (drop (secondPlace v) b) (offsets (v .step) ls)
+            (below-offsets (v .width) (v .step) ls (not-false _ u′)) size g′));
       }
 
   -- ---- right parts are right ranks
@@ -90,7 +92,8 @@ module _ (b : List ℕ) (v : View) (k : Known b v) where
       let t5 = both-true (eqb (codec (settingOf b) .parts ls .secondCount) (secondCount b)) _ (t4 .1) in
       let t6 = both-true (same (codec (settingOf b) .parts ls .first) _) _ (t5 .1) in
       let y : Based b v ls
-      = based ls (rises-true 0 (cells (dimensionsOf b)) ls (t1 .0)) (eqb-true (length ls) (wordsCount b) (t2 .0)) (not-true _ (t3 .0)) (same-true _ _ (t6 .0)) (same-true _ _ (t6 .1)) in
+      = based ls (rises-true 0 (cells (dimensionsOf b)) ls (t1 .0)) (eqb-true (length ls) (wordsCount b) (t2 .0)) (not-true _ (t3 .0))
+      (same-true _ _ (t6 .0)) (same-true _ _ (t6 .1)) in
       let up : climbs 0 (v .cells) ls ≡ true = sym (rises-climbs 0 (v .cells) ls (omega arith)) ∙ rising-rises 0 (v .cells) ls (y .rising) in
       let e1 : basesFrom (v .step) 0 ls ≡ basesOf b v = sym (bases-stream (v .step) ls (k .step-least)) ∙ y .bases in
       let e2 : offsetsFrom (v .step) 0 0 ls ≡ offsetsOf b v = sym (offsets-stream (v .step) ls (k .step-least)) ∙ y .offsets in
@@ -113,14 +116,17 @@ module _ (b : List ℕ) (v : View) (k : Known b v) where
       = rw (y .bases) (bytesOf-numbersOf 4 (v .firsts) (drop 52 b) (below-drop 256 52 b s) (rw (length-drop 52 b) (omega arith))) in
       let second : bytesOf (v .width) (offsets (v .step) ls) ≡ take (v .width * v .words) (drop (secondPlace v) b)
       = rw (y .offsets, k .entry-is)
-      (bytesOf-numbersOf (v .width) (v .words) (drop (secondPlace v) b) (below-drop 256 (secondPlace v) b s) (rw (length-drop (secondPlace v) b) (omega (arith, rw (k .entry-is) at t)))) in
+      (bytesOf-numbersOf (v .width) (v .words) (drop (secondPlace v) b) (below-drop 256 (secondPlace v) b s)
+      (rw (length-drop (secondPlace v) b) (omega (arith, rw (k .entry-is) at t)))) in
       let a1 : rises 0 (cells (dimensionsOf b)) (positionsOf b) ≡ true = rw (q, k .cells-is) (rising-rises 0 (v .cells) ls (y .rising)) in
       let a3 : c .unfit (positionsOf b) ≡ false = rw (q, k .codec-is, every-below (v .width) (offsets (v .step) ls) below) in
       let a4 : c .parts (positionsOf b) .firstCount ≡ firstCount b = rw (q, k .codec-is, k .firsts-is) (ap length (y .bases) ∙ count) in
       let a5 : c .parts (positionsOf b) .secondCount ≡ secondCount b = rw (q, k .codec-is, k .seconds-is) n in
       let a6 : c .parts (positionsOf b) .first ≡ take (c .firstSize * firstCount b) (drop 52 b) = rw (q, k .codec-is, k .firsts-is) first in
-      let a7 : c .parts (positionsOf b) .second ≡ take (c .secondSize * secondCount b) (drop (secondAt b) b) = rw (q, k .codec-is, k .seconds-is, k .second-is) second in
-      both-seven a1 (eq-eqb (length (positionsOf b)) (wordsCount b) (ap length q ∙ n ∙ sym (k .words-is))) a3 (eq-eqb _ _ a4) (eq-eqb _ _ a5) (same-of _ _ a6) (same-of _ _ a7)
+      let a7 : c .parts (positionsOf b) .second ≡ take (c .secondSize * secondCount b) (drop (secondAt b) b)
+      = rw (q, k .codec-is, k .seconds-is, k .second-is) second in
+      let a2 : length (positionsOf b) ≡ wordsCount b = ap length q ∙ n ∙ sym (k .words-is) in
+      both-seven a1 (eq-eqb _ _ a2) a3 (eq-eqb _ _ a4) (eq-eqb _ _ a5) (same-of _ _ a6) (same-of _ _ a7)
 
   pub bases-count : length (basesOf b v) ≡ upTo (length (offsetsOf b v)) (v .step)
   bases-count =

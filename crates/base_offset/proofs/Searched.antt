@@ -92,110 +92,129 @@ module _ (b : List ℕ) (v : View) (e : v .kind ≡ 3) (o : ViewOf b v) where
       ∙ sym (ap (λ (x : List ℕ). getD x r 0) (positions-are b v know) ∙ getD-listed (length (offsetsOf b v)) _ r z)
 
 -- ---- the answers
-module _ (b : List ℕ) (v : View) where
-  module _ (p j base : ℕ) (inside : p < v .cells) (last : LastAtMost (baseAt b) (v .firsts) p j) (is : base ≡ baseAt b j) where
-    -- no rank at all, or the bases are there
-    empty-or : (v .kind ≡ 3 → (o : ViewOf b v) → 0 < v .words → KindRankSearched 3 b v p empty) → KindRankSearched 3 b v p empty
-    empty-or f =
+
+-- the search is at the base j
+pub record AtBase (b : List ℕ) (v : View) (p j base : ℕ) : Type 0 where
+  pub inside : p < v .cells
+  pub last : LastAtMost (baseAt b) (v .firsts) p j
+  pub is : base ≡ baseAt b j
+
+-- the search is at the offset i of that base's group of n ranks
+pub record AtGroup (b : List ℕ) (v : View) (p j base n i : ℕ) : Type 0 where
+  pub at-base : AtBase b v p j base
+  pub start : j * v .step < v .words
+  pub lesser : LesserOf (v .step) (v .words - j * v .step) n
+  pub least : base ≤ p
+  pub full : 0 < n
+  pub found : LastAtMost (λ x. offsetAt b v (j * v .step + x)) n (p - base) i
+
+module _ {b : List ℕ} {v : View} {p j base : ℕ} (t : AtBase b v p j base) where
+  -- no rank at all, or the bases are there
+  empty-or : (v .kind ≡ 3 → (o : ViewOf b v) → 0 < v .words → KindRankSearched 3 b v p empty) → KindRankSearched 3 b v p empty
+  empty-or f =
+      record {
+        right = λ e o.
+            cases (eqb (v .words) 0)
+            (λ z. rank-nowhere 3 b v p (t .inside) (eqb-true (v .words) 0 z) .right e o)
+            (λ z. let y = eqb-false (v .words) 0 z in f e o (omega arith) .right e o);
+        free = none;
+      }
+
+  pub rank-before : p < base → KindRankSearched 3 b v p empty
+  rank-before h =
+      empty-or
+      (λ e o s.
+      let g : p < baseAt b j = rw (t .is) at h in
+      let m = firsts-some (know b v e o) s in
+      let l = two-levels b v e o in
+      let z = below-first (place b) (v .words) (v .step) (baseAt b) (v .firsts) l p j m (t .last) g in
+      let y = first-last (place b) (v .words) (v .step) (baseAt b) (v .firsts) l p j m (t .last) g in
+      record {
+        right = λ _ _.
+            rank-missed (place b) (positionsOf b) (v .words) 0 (v .cells) (positions-size b v o) (λ _ _. refl) (positions-rising b v o) p 0 s y
+            (λ q. omega arith)
+            ∙ sym (rank-inside b v o p (t .inside));
+        free = none;
+      })
+
+  pub rank-outside : v .words ≤ j * v .step → KindRankSearched 3 b v p empty
+  rank-outside h =
+      empty-or
+      (λ e o s.
+      let m = firsts-some (know b v e o) s in
+      let z = two-levels b v e o .inside j (t .last .within m) in
+      absurd (omega arith))
+
+  pub rank-no-group : {n : ℕ} → j * v .step < v .words → LesserOf (v .step) (v .words - j * v .step) n → n ≡ 0 → KindRankSearched 3 b v p empty
+  rank-no-group g l h =
+      empty-or
+      (λ e o s. let k = know b v e o .step-least in let z = l .all 0 k (omega arith) in absurd (omega arith))
+
+module _ {b : List ℕ} {v : View} {p j base n i : ℕ} (g : AtGroup b v p j base n i) where
+  pub rank-within : j * v .step + i < v .words
+  rank-within = let w = g .found .within (g .full) in let s = g .lesser .second in omega arith
+
+  sums : (e : v .kind ≡ 3) (o : ViewOf b v) (x : ℕ) → x < n → baseAt b j + offsetAt b v (j * v .step + x) ≡ place b (j * v .step + x)
+  sums e o x h = let f = g .lesser .first in let s = g .lesser .second in sum-place b v e o j x (omega arith) (omega arith)
+
+  found-last : (e : v .kind ≡ 3) (o : ViewOf b v) → LastAtMost (place b) (v .words) p (j * v .step + i)
+  found-last e o =
+      let is = g .at-base .is in
+      let h = g .start in
+      let m = firsts-some (know b v e o) (omega arith) in
+      let z : baseAt b j ≤ p = rw is at (g .least) in
+      let f : LastAtMost (λ x. offsetAt b v (j * v .step + x)) n (p - baseAt b j) i = rw is at (g .found) in
+      both-last (place b) (v .words) (v .step) (baseAt b) (v .firsts) (two-levels b v e o) p j m (g .at-base .last) n i _ z (g .lesser) (g .full) (sums e o) f
+
+  -- the position at the rank found
+  found-place : (e : v .kind ≡ 3) (o : ViewOf b v) → base + offsetAt b v (j * v .step + i) ≡ place b (j * v .step + i)
+  found-place e o = rw (g .at-base .is) (sums e o i (g .found .within (g .full)))
+
+  pub rank-here : offsetAt b v (j * v .step + i) ≡ p - base → KindRankSearched 3 b v p (given (j * v .step + i))
+  rank-here h =
+      record {
+        right = λ e o.
+            let y = found-place e o in
+            let z = g .start in
+            let l = g .least in
+            rank-found (place b) (positionsOf b) (v .words) 0 (v .cells) (positions-size b v o) (λ _ _. refl) (positions-rising b v o) p
+            (j * v .step + i) (omega arith) (found-last e o) (omega arith)
+            ∙ sym (rank-inside b v o p (g .at-base .inside));
+        free = number (j * v .step + i) rank-within;
+      }
+
+  pub rank-absent : (offsetAt b v (j * v .step + i) ≡ p - base → ⊥) → KindRankSearched 3 b v p empty
+  rank-absent h =
+      record {
+        right = λ e o.
+            let y = found-place e o in
+            let z = g .start in
+            rank-missed (place b) (positionsOf b) (v .words) 0 (v .cells) (positions-size b v o) (λ _ _. refl) (positions-rising b v o) p
+            (j * v .step + i) (omega arith) (found-last e o) (λ q. h (omega arith))
+            ∙ sym (rank-inside b v o p (g .at-base .inside));
+        free = none;
+      }
+
+module _ (b : List ℕ) (v : View) (r : ℕ) (inside : r < v .words) where
+  -- not in an accepted file
+  pub step-forged : v .step ≡ 0 → KindPositionSearched 3 b v r (refused 8)
+  step-forged h = record { right = λ e o. let l = know b v e o .step-least in absurd (omega arith); free = beyond }
+
+  module _ {p : ℕ} (is : p ≡ baseAt b (r / v .step) + offsetAt b v r) where
+    pub position-here : p < v .cells → KindPositionSearched 3 b v r (given p)
+    position-here h =
         record {
-          right = λ e o.
-              cases (eqb (v .words) 0)
-              (λ t. rank-nowhere 3 b v p inside (eqb-true (v .words) 0 t) .right e o)
-              (λ t. let z = eqb-false (v .words) 0 t in f e o (omega arith) .right e o);
-          free = none;
+          right = λ e o. ap given (is ∙ rank-sum b v e o r inside) ∙ sym (position-inside b v o r inside);
+          free = number p h;
         }
 
-    pub rank-before : p < base → KindRankSearched 3 b v p empty
-    rank-before h =
-        empty-or
-        (λ e o s.
-        let g : p < baseAt b j = rw is at h in
-        let k = know b v e o in
-        let m = firsts-some b v k s in
-        let t = two-levels b v e o in
-        let z = below-first (place b) (v .words) (v .step) (baseAt b) (v .firsts) t p j m last g in
-        let y = first-last (place b) (v .words) (v .step) (baseAt b) (v .firsts) t p j m last g in
+    pub position-forged : v .cells ≤ p → KindPositionSearched 3 b v r (refused 8)
+    position-forged h =
         record {
-          right = λ _ _.
-              rank-missed (place b) (positionsOf b) (v .words) 0 (v .cells) (positions-size b v o) (λ _ _. refl) (positions-rising b v o) p 0 s y (λ q. omega arith)
-              ∙ sym (rank-inside b v o p inside);
-          free = none;
-        })
-
-    pub rank-outside : v .words ≤ j * v .step → KindRankSearched 3 b v p empty
-    rank-outside h =
-        empty-or
-        (λ e o s.
-        let m = firsts-some b v (know b v e o) s in
-        let z = two-levels b v e o .inside j (last .within m) in
-        absurd (omega arith))
-
-    module _ (n : ℕ) (start : j * v .step < v .words) (lesser : LesserOf (v .step) (v .words - j * v .step) n) where
-      pub rank-no-group : n ≡ 0 → KindRankSearched 3 b v p empty
-      rank-no-group h =
-          empty-or
-          (λ e o s. let l = know b v e o .step-least in let z = lesser .all 0 l (omega arith) in absurd (omega arith))
-
-      module _ (i : ℕ) (least : base ≤ p) (full : 0 < n) (found : LastAtMost (λ x. offsetAt b v (j * v .step + x)) n (p - base) i) where
-        pub rank-within : j * v .step + i < v .words
-        rank-within = let w = found .within full in let s = lesser .second in omega arith
-
-        sums : (e : v .kind ≡ 3) (o : ViewOf b v) (x : ℕ) → x < n → baseAt b j + offsetAt b v (j * v .step + x) ≡ place b (j * v .step + x)
-        sums e o x h = let f = lesser .first in let s = lesser .second in sum-place b v e o j x (omega arith) (omega arith)
-
-        found-last : (e : v .kind ≡ 3) (o : ViewOf b v) → LastAtMost (place b) (v .words) p (j * v .step + i)
-        found-last e o =
-            let m = firsts-some b v (know b v e o) (omega arith) in
-            let g : baseAt b j ≤ p = rw is at least in
-            let f : LastAtMost (λ x. offsetAt b v (j * v .step + x)) n (p - baseAt b j) i = rw is at found in
-            both-last (place b) (v .words) (v .step) (baseAt b) (v .firsts) (two-levels b v e o) p j m last n i (λ x. offsetAt b v (j * v .step + x)) g lesser full (sums e o) f
-
-        -- the position at the rank found, by its offset
-        found-place : (e : v .kind ≡ 3) (o : ViewOf b v) → base + offsetAt b v (j * v .step + i) ≡ place b (j * v .step + i)
-        found-place e o = rw is (sums e o i (found .within full))
-
-        pub rank-here : offsetAt b v (j * v .step + i) ≡ p - base → KindRankSearched 3 b v p (given (j * v .step + i))
-        rank-here h =
-            record {
-              right = λ e o.
-                  let y = found-place e o in
-                  rank-found (place b) (positionsOf b) (v .words) 0 (v .cells) (positions-size b v o) (λ _ _. refl) (positions-rising b v o) p (j * v .step + i) (omega arith)
-                  (found-last e o) (omega arith)
-                  ∙ sym (rank-inside b v o p inside);
-              free = number (j * v .step + i) rank-within;
-            }
-
-        pub rank-absent : (offsetAt b v (j * v .step + i) ≡ p - base → ⊥) → KindRankSearched 3 b v p empty
-        rank-absent h =
-            record {
-              right = λ e o.
-                  let y = found-place e o in
-                  rank-missed (place b) (positionsOf b) (v .words) 0 (v .cells) (positions-size b v o) (λ _ _. refl) (positions-rising b v o) p (j * v .step + i) (omega arith)
-                  (found-last e o) (λ q. h (omega arith))
-                  ∙ sym (rank-inside b v o p inside);
-              free = none;
-            }
-
-  module _ (r : ℕ) (inside : r < v .words) where
-    -- not in an accepted file
-    pub step-forged : v .step ≡ 0 → KindPositionSearched 3 b v r (refused 8)
-    step-forged h = record { right = λ e o. let l = know b v e o .step-least in absurd (omega arith); free = beyond }
-
-    module _ (p : ℕ) (is : p ≡ baseAt b (r / v .step) + offsetAt b v r) where
-      pub position-here : p < v .cells → KindPositionSearched 3 b v r (given p)
-      position-here h =
-          record {
-            right = λ e o. ap given (is ∙ rank-sum b v e o r inside) ∙ sym (position-inside b v o r inside);
-            free = number p h;
-          }
-
-      pub position-forged : v .cells ≤ p → KindPositionSearched 3 b v r (refused 8)
-      position-forged h =
-          record {
-            right = λ e o.
-                let s = positions-size b v o in
-                let t = rising-below 0 (v .cells) (positionsOf b) r (positions-rising b v o) (omega arith) in
-                let u = rank-sum b v e o r inside in
-                absurd (omega arith);
-            free = beyond;
-          }
+          right = λ e o.
+              let s = positions-size b v o in
+              let t = rising-below 0 (v .cells) (positionsOf b) r (positions-rising b v o) (omega arith) in
+              let u = rank-sum b v e o r inside in
+              absurd (omega arith);
+          free = beyond;
+        }

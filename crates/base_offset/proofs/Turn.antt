@@ -55,7 +55,7 @@ pub record Turn (b : List ℕ) (v : View) (base place at left more : ℕ) : Type
   pub count : more + 1 ≡ upTo left (v .step)
   pub rest : groupsRight (v .step) (v .cells) base (numbersOf 4 more (drop place b)) (numbersOf (entrySize (v .width)) left (drop at b)) ≡ partsRight b
 
-module _ (b : List ℕ) (v : View) (k : Known b v) where
+module _ {b : List ℕ} {v : View} (k : Known b v) where
   pub no-ranks : Below 256 b → v .words ≡ 0 → true ≡ partsRight b
   unfolding ranksRight
   no-ranks s z =
@@ -73,7 +73,8 @@ module _ (b : List ℕ) (v : View) (k : Known b v) where
       let p = k .second-place in
       let n : basesOf b v ≡ field 4 52 b ∷ numbersOf 4 (v .firsts - 1) (drop 56 b) = numbers-turn 4 (v .firsts) 52 b f in
       let z : length (offsetsOf b v) ≡ v .words = length-numbersOf (entrySize (v .width)) (v .words) (drop (secondPlace v) b) in
-      let c : length (field 4 52 b ∷ numbersOf 4 (v .firsts - 1) (drop 56 b)) ≡ upTo (length (offsetsOf b v)) (v .step) = ap length (sym n) ∙ bases-count b v k in
+      let c : length (field 4 52 b ∷ numbersOf 4 (v .firsts - 1) (drop 56 b)) ≡ upTo (length (offsetsOf b v)) (v .step)
+      = ap length (sym n) ∙ bases-count b v k in
       record {
         bases = omega arith;
         ranks = t;
@@ -84,7 +85,7 @@ module _ (b : List ℕ) (v : View) (k : Known b v) where
             ∙ ranks-are b v k s;
       }
 
-  module _ (base place at left more : ℕ) (t : Turn b v base place at left more) where
+  module _ {base place at left more : ℕ} (t : Turn b v base place at left more) where
     pub some-left : 1 ≤ left
     some-left = count-left (v .step) left more (k .step-least) (t .count)
 

@@ -93,7 +93,8 @@ pub fn position_of(file: &[u8], v: View, r: Rank) -> PositionAnswer
     if v.step == 0 {
         return PositionAnswer::Refused(8);
     }
-    let base = load_u32(file, 52 + 4 * ((rank / v.step) as usize));
+    let j = rank / v.step;
+    let base = load_u32(file, 52 + 4 * (j as usize));
     let p = (base as u64) + (offset_at(file, v, rank) as u64);
     if v.cells as u64 <= p {
         return PositionAnswer::Refused(8);

@@ -1,19 +1,19 @@
 -- The walk along a level above compares it with the sums of the last entries below. Assumes nothing.
-use Prim.Native.Nat.{ℕ, zero, suc, _+_, _-_, _*_, _/_, _≤_, _<_, min}
-use mathlib.Core.Path.{_≡_, refl, sym, ap, ap₂, _∙_}
+use Prim.Native.Nat.{ℕ, zero, suc, _+_, _-_, _*_, _≤_, _<_, min}
+use mathlib.Core.Path.{_≡_, refl, sym, ap, _∙_}
 use mathlib.Core.Bool.{Bool, true, false, _&&_}
 use mathlib.Core.List.{List, [], _∷_, _++_}
 use native.Mathlib.Nat.{zero-add, add-zero, suc-mul, zero-mul, le-div-iff-mul-le, sub-zero}
 use native.Mathlib.Numerals.{add-one}
 use native.Mathlib.Omega.{arith}
-use lib.ListN.{length, take, drop, getD, length-append, length-take, length-drop, drop-of-length-le}
-use lib.Seq.{drop-cons, drop-drop, take-add, take-nil, getD-take, getD-drop, length-take-le}
-use lib.Dec.{leb, eqb}
+use lib.ListN.{length, take, drop, getD, length-take, length-drop, drop-of-length-le}
+use lib.Seq.{drop-cons, take-add, getD-take, getD-drop, length-take-le}
+use lib.Dec.{eqb}
 use borrow.Author.Tests.{eqb-true, ne-eqb}
 use Rattle.format.specs.Tools.{pick, both, same, upTo}
 use Rattle.format.specs.Runs.{Span}
 use Rattle.format.specs.PagedRuns.{plus, none, sumsFrom, level, lasts, upperLevels, upperEntries, flatSpans, spansIn}
-use Rattle.laws.proofs.Tools.{cases, same-true, same-refl}
+use Rattle.laws.proofs.Tools.{same-true}
 use Rattle.laws.proofs.Bounds.{length-lasts, length-upperLevels, upTo-half}
 use Rattle.laws.proofs.Positions.{spans-in-flat, length-flatSpans}
 use Rattle.laws.proofs.Accumulation.{last-is-last, length-above, no-more-level, one-more-level, no-more-entries, one-more-entries}
@@ -128,14 +128,17 @@ module _ (b : ℕ) (es : List Span) (start size below under : ℕ) (h : 2 ≤ b)
       let n : below + (min (suc i * b) under - 1) ≡ below + min (suc i * b) under - 1 = omega arith in
       last-is-last b i (take under (drop below es)) (omega arith) g
       ∙ rw length-ys
-      (getD-take under (drop below es) (min (suc i * b) under - 1) none m ∙ getD-drop below es (min (suc i * b) under - 1) none ∙ ap (λ (j : ℕ). getD es j none) n)
+      (getD-take under (drop below es) (min (suc i * b) under - 1) none m ∙ getD-drop below es (min (suc i * b) under - 1) none
+      ∙ ap (λ (j : ℕ). getD es j none) n)
 
-  lower-cons : (i : ℕ) → i < size → drop i (lasts b (take under (drop below es))) ≡ getD es (below + min (suc i * b) under - 1) none ∷ drop (i + 1) (lasts b (take under (drop below es)))
+  lower-cons : (i : ℕ) → i < size
+      → drop i (lasts b (take under (drop below es))) ≡ getD es (below + min (suc i * b) under - 1) none ∷ drop (i + 1) (lasts b (take under (drop below es)))
   lower-cons i k =
       let l : i < length (lasts b (take under (drop below es))) = rw length-ls k in
       rw (drop-cons (lasts b (take under (drop below es))) i none l, last-at i k, add-one i)
 
-  pub rest-turn : (s : Compared) (i : ℕ) (u : Pair) (x : Span) → i < size → spanOf u ≡ getD es (start + i) none → x ≡ getD es (below + min (suc i * b) under - 1) none
+  pub rest-turn : (s : Compared) (i : ℕ) (u : Pair) (x : Span) → i < size → spanOf u ≡ getD es (start + i) none
+      → x ≡ getD es (below + min (suc i * b) under - 1) none
       → restOf b es start size below under s i ≡ restOf b es start size below under (comparedWith b s u x) (i + 1)
   unfolding restOf
   rest-turn s i u x k p q =
@@ -147,7 +150,8 @@ module _ (b : ℕ) (es : List Span) (start size below under : ℕ) (h : 2 ≤ b)
   unfolding restOf level
   rest-first a = rw (add-zero start, sub-zero size) (first (spanOf a) (lasts b (take under (drop below es))))
     where
-      first : (a : Span) (ls : List Span) → sameSpans (take size (drop start es)) (sumsFrom b 0 a ls) ≡ sameSpans (take size (drop start es)) (sumsFrom b 0 none ls)
+      first : (a : Span) (ls : List Span)
+          → sameSpans (take size (drop start es)) (sumsFrom b 0 a ls) ≡ sameSpans (take size (drop start es)) (sumsFrom b 0 none ls)
       first a [] = unfold sumsFrom in refl
       first a (x ∷ ls) = unfold sumsFrom in refl
 
@@ -183,7 +187,8 @@ same-spans xs ys h = sym (spans-in-flat xs) ∙ ap spansIn (same-true (flatSpans
 
 same-both : (xs ys zs ws : List Span) → length xs ≡ length ys → sameSpans (xs ++ zs) (ys ++ ws) ≡ both (sameSpans xs ys) (sameSpans zs ws)
 same-both xs ys zs ws h =
-    rw (flat-append xs zs, flat-append ys ws) (same-append (flatSpans xs) (flatSpans ys) (flatSpans zs) (flatSpans ws) (rw (length-flatSpans xs, length-flatSpans ys, h)))
+    rw (flat-append xs zs, flat-append ys ws)
+    (same-append (flatSpans xs) (flatSpans ys) (flatSpans zs) (flatSpans ws) (rw (length-flatSpans xs, length-flatSpans ys, h)))
 
 -- the levels above a level of `under` entries from `below` on
 unfoldable pub upperRest : ℕ → List Span → ℕ → ℕ → Bool
@@ -218,11 +223,14 @@ module _ (b : ℕ) (es : List Span) (below under : ℕ) (h : 2 ≤ b) (count : b
         let t : take below es ≡ take (below - upTo under b) es ++ take (upTo under b) (drop (below - upTo under b) es)
         = ap (λ (n : ℕ). take n es) (sym e) ∙ take-add (below - upTo under b) (upTo under b) es in
         let m : b < length (take under (drop below es)) = rw long-under more in
-        let up : length (level b (lasts b (take under (drop below es)))) ≡ upTo under b = length-above b (take under (drop below es)) (omega arith) ∙ rw long-under in
+        let up : length (level b (lasts b (take under (drop below es)))) ≡ upTo under b = length-above b (take under (drop below es)) (omega arith)
+        ∙ rw long-under in
         let n : length (take (below - upTo under b) es) ≡ length (upperLevels b (level b (lasts b (take under (drop below es)))))
-        = length-take-le (below - upTo under b) es (omega arith) ∙ start-count ∙ sym (length-upperLevels b (level b (lasts b (take under (drop below es)))) (omega arith) ∙ rw up) in
+        = length-take-le (below - upTo under b) es (omega arith) ∙ start-count
+        ∙ sym (length-upperLevels b (level b (lasts b (take under (drop below es)))) (omega arith) ∙ rw up) in
         rw t
-        (ap (λ (l : List Span). sameSpans (take (below - upTo under b) es ++ take (upTo under b) (drop (below - upTo under b) es)) l) (one-more-level b (take under (drop below es)) h m)
+        (ap (λ (l : List Span). sameSpans (take (below - upTo under b) es ++ take (upTo under b) (drop (below - upTo under b) es)) l)
+        (one-more-level b (take under (drop below es)) h m)
         ∙ same-both (take (below - upTo under b) es) (upperLevels b (level b (lasts b (take under (drop below es))))) _ _ n)
 
     pub upper-wrong : sameSpans (take (upTo under b) (drop (below - upTo under b) es)) (level b (lasts b (take under (drop below es)))) ≡ false
@@ -243,7 +251,8 @@ module _ (b : ℕ) (es : List Span) (below under : ℕ) (h : 2 ≤ b) (count : b
 
 -- ---- the loop up the levels
 
-pub upper-whole : (b : ℕ) (es : List Span) (below under : ℕ) → upperRest b es below under ≡ sameSpans (take below es) (upperLevels b (take under (drop below es)))
+pub upper-whole : (b : ℕ) (es : List Span) (below under : ℕ)
+    → upperRest b es below under ≡ sameSpans (take below es) (upperLevels b (take under (drop below es)))
 unfolding upperRest
 upper-whole b es below under = refl
 
@@ -254,7 +263,8 @@ pub record Climbing (es : List Span) (b firsts seconds below under : ℕ) : Type
   pub most : under ≤ 16777216
   pub long : below + under ≤ firsts + seconds
 
-pub climbing-on : (es : List Span) (b firsts seconds below under : ℕ) → 2 ≤ b → firsts + seconds ≤ length es → Climbing es b firsts seconds below under → b < under
+pub climbing-on : (es : List Span) (b firsts seconds below under : ℕ) → 2 ≤ b → firsts + seconds ≤ length es → Climbing es b firsts seconds below under
+    → b < under
     → sameSpans (take (upTo under b) (drop (below - upTo under b) es)) (level b (lasts b (take under (drop below es)))) ≡ true
     → Climbing es b firsts seconds (below - upTo under b) (upTo under b)
 climbing-on es b firsts seconds below under h l c t e =

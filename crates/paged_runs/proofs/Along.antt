@@ -1,6 +1,6 @@
 -- The walk along level 0 passes exactly good pairs. Assumes nothing.
 use Prim.Native.Nat.{ℕ, zero, suc, _+_, _-_, _*_, _^_, _≤_, _<_}
-use mathlib.Core.Path.{_≡_, refl, sym, ap, ap₂, _∙_, subst}
+use mathlib.Core.Path.{_≡_, refl, sym, ap, ap₂, _∙_}
 use mathlib.Core.Bool.{Bool, true, false, _&&_}
 use mathlib.Core.List.{List, [], _∷_}
 use native.Mathlib.Nat.{add-zero, add-assoc, zero-add}
@@ -13,7 +13,7 @@ use borrow.Author.Tests.{leb-true, ltb-true, eqb-true, le-leb, lt-ltb, ne-eqb}
 use Rattle.format.specs.Tools.{pick, both}
 use Rattle.format.specs.Runs.{Span}
 use Rattle.format.specs.PagedRuns.{plus, less, none, sumsFrom, level, pairsFrom, pairsOf}
-use Rattle.laws.proofs.Tools.{cases, both-true, both-make}
+use Rattle.laws.proofs.Tools.{both-true, both-make}
 use Rattle.paged_runs.specs.declared.check.Sum.{Sum}
 use Rattle.paged_runs.specs.declared.check.Passed.{Passed}
 use Rattle.paged_runs.specs.Passing.{leftAfter, leastEmpty, follows, sumWith, Small, passedWith, passedAll, noSum, passedNone, runsEnd, runsRight}
@@ -24,7 +24,8 @@ pub and-both : (s t : Bool) → (s && t) ≡ both s t
 and-both true t = refl
 and-both false t = refl
 
-pub follows-path : (a s : Sum) (n : ℕ) → n ≡ leastEmpty (a .cells) → (leb (n + a .empty) (s .empty) && ltb (s .empty + a .cells) (s .cells + a .empty)) ≡ follows a s
+pub follows-path : (a s : Sum) (n : ℕ) → n ≡ leastEmpty (a .cells)
+    → (leb (n + a .empty) (s .empty) && ltb (s .empty + a .cells) (s .cells + a .empty)) ≡ follows a s
 follows-path a s n e = rw e (and-both (leb (leastEmpty (a .cells) + a .empty) (s .empty)) (ltb (s .empty + a .cells) (s .cells + a .empty)))
 
 pub least-some : (n : ℕ) → (n ≡ 0 → ⊥) → 1 ≡ leastEmpty n
@@ -130,17 +131,20 @@ all-passed : (b c w k : ℕ) (d p : Sum) (r : Bool) (a : Span) (ys : List Span) 
     → runsEnd c w (passedAll b (state k d p r) ys) ≡ true → (r ≡ true) × Pairs b k (p .cells) a ys
 unfolding passedAll pairsFrom sumsFrom state
 all-passed b c w k d p r a [] e h =
-    let t : (r ≡ true) × (both (leb (p .cells) c) (eqb (p .cells) (p .empty + w)) ≡ true) = both-true r (both (leb (p .cells) c) (eqb (p .cells) (p .empty + w))) h in
+    let t : (r ≡ true) × (both (leb (p .cells) c) (eqb (p .cells) (p .empty + w)) ≡ true) = both-true r
+    (both (leb (p .cells) c) (eqb (p .cells) (p .empty + w))) h in
     (t .0, record { good = tt; sums = refl })
 all-passed b c w zero d p r a (y ∷ ys) e h =
-    let i = all-passed b c w (b - 1) p (sumWith p y) (both r (follows p (sumWith p y))) y ys refl (sym (ap (runsEnd c w) (first-turn b d p r (both r (follows p (sumWith p y))) y ys refl)) ∙ h) in
+    let i = all-passed b c w (b - 1) p (sumWith p y) (both r (follows p (sumWith p y))) y ys refl
+    (sym (ap (runsEnd c w) (first-turn b d p r (both r (follows p (sumWith p y))) y ys refl)) ∙ h) in
     let t = both-true r (follows p (sumWith p y)) (i .0) in
     let f = follows-true p (sumWith p y) (t .1) in
     (t .0, record { good = (omega arith, omega arith, i .1 .good); sums = rw (i .1 .sums) })
 all-passed b c w (suc k) d p r a (y ∷ ys) e h =
     let ec : p .cells ≡ d .cells + a .cells = ap (λ (s : Sum). s .cells) e in
     let ee : p .empty ≡ d .empty + a .empty = ap (λ (s : Sum). s .empty) e in
-    let i = all-passed b c w k d (sumWith d y) (both r (follows p (sumWith d y))) y ys refl (sym (ap (runsEnd c w) (later-turn b k d p r (both r (follows p (sumWith d y))) y ys refl)) ∙ h) in
+    let i = all-passed b c w k d (sumWith d y) (both r (follows p (sumWith d y))) y ys refl
+    (sym (ap (runsEnd c w) (later-turn b k d p r (both r (follows p (sumWith d y))) y ys refl)) ∙ h) in
     let t = both-true r (follows p (sumWith d y)) (i .0) in
     let f = follows-true p (sumWith d y) (t .1) in
     let lc : a .cells ≤ y .cells = omega arith in
@@ -246,7 +250,8 @@ module _ (es : List Span) (b cells words firsts seconds : ℕ) where
         let m = pick-most (eqb (s .left) 0) in
         let m0 = m .0 in
         let m1 = m .1 in
-        let w : runsEnd cells words (passedAll b s (y ∷ take (firsts + seconds - (at + 1)) (drop (at + 1) es))) ≡ runsRight b cells words (take seconds (drop firsts es))
+        let w : runsEnd cells words (passedAll b s (y ∷ take (firsts + seconds - (at + 1)) (drop (at + 1) es)))
+        ≡ runsRight b cells words (take seconds (drop firsts es))
         = rw (e, ← entries-left h l) (g .whole) in
         record {
           whole = w;

@@ -1,18 +1,15 @@
 -- What the place that a search finds says: the rank at a position, and the position of a rank. Assumes nothing.
-use Prim.Native.Nat.{ℕ, zero, suc, _+_, _-_, _≤_, _<_}
-use mathlib.Core.Path.{_≡_, refl, sym, ap, _∙_}
-use mathlib.Core.Bool.{Bool, true, false}
+use Prim.Native.Nat.{ℕ, suc, _+_, _-_, _≤_, _<_}
+use mathlib.Core.Path.{_≡_, refl, sym, _∙_}
 use mathlib.Core.List.{List, [], _∷_}
-use native.Mathlib.Nat.{sub-zero}
 use native.Mathlib.Omega.{arith}
-use lib.ListN.{length, getD}
+use lib.ListN.{length}
 use lib.Dec.{ltb, leb, eqb}
-use borrow.Author.Tests.{ltb-true, ltb-false, lt-ltb, le-ltb, le-leb, lt-leb, eqb-true}
-use Rattle.format.specs.Tools.{pick}
+use borrow.Author.Tests.{ltb-true, ltb-false, lt-ltb, le-ltb, le-leb, lt-leb}
 use Rattle.format.specs.Signals.{BEYOND}
 use Rattle.format.specs.Answers.{Answer, refused, empty, given}
 use Rattle.format.specs.Stored.{stored}
-use Rattle.format.specs.Lookups.{rankIn, positionIn}
+use Rattle.format.specs.Lookups.{rankIn}
 use Rattle.format.specs.Opened.{Free}
 use Rattle.format.specs.Runs.{Span}
 use Rattle.format.specs.PagedRuns.{plus, none, allCells, storedCells, Place, lost, at, rankAtPlace, positionAtPlace}
@@ -43,7 +40,8 @@ cells-from i p q a (x ∷ xs) o g h =
     let t = ltb-false q (x .cells) e in
     rw e (cells-from (suc i) p (q - x .cells) (plus a x) xs (o .1) (omega arith) (omega arith)))
 
-stored-from : (i r q : ℕ) (a : Span) (xs : List Span) → Proper xs → a .empty ≤ a .cells → a .cells - a .empty + q ≡ r → StoredAt r (seekFrom storedCells i q a xs)
+stored-from : (i r q : ℕ) (a : Span) (xs : List Span) → Proper xs → a .empty ≤ a .cells → a .cells - a .empty + q ≡ r
+    → StoredAt r (seekFrom storedCells i q a xs)
 unfolding seekFrom
 stored-from i r q a [] o g h = tt
 stored-from i r q a (x ∷ xs) o g h =

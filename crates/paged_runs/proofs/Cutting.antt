@@ -1,16 +1,16 @@
 -- The levels of pairs are those that the sizes cut from the list of all entries. Assumes nothing.
-use Prim.Native.Nat.{ℕ, zero, suc, _+_, _-_, _*_, _^_, _≤_, _<_}
+use Prim.Native.Nat.{ℕ, zero, suc, _+_, _-_, _^_, _≤_}
 use mathlib.Core.Path.{_≡_, refl, sym, ap, ap₂, _∙_}
-use mathlib.Core.List.{List, [], _∷_, _++_, append-assoc, append-nil}
-use native.Mathlib.Nat.{pow-suc, one-le-pow, zero-lt-suc, le-refl}
+use mathlib.Core.List.{List, [], _∷_, _++_, append-assoc}
+use native.Mathlib.Nat.{pow-suc, one-le-pow, zero-lt-suc}
 use native.Mathlib.Omega.{arith}
 use lib.ListN.{length, take, drop, getD, length-append}
 use lib.Seq.{drop-drop, take-at, drop-at}
 use lib.Dec.{leb}
-use borrow.Author.Tests.{leb-false, le-leb}
-use Rattle.format.specs.Tools.{pick, upTo}
+use borrow.Author.Tests.{le-leb}
+use Rattle.format.specs.Tools.{upTo}
 use Rattle.format.specs.Runs.{Span}
-use Rattle.format.specs.PagedRuns.{level, lasts, levelsAbove, upperLevels, entriesAbove, upperEntries, levels}
+use Rattle.format.specs.PagedRuns.{level, lasts, levelsAbove, levels}
 use Rattle.laws.proofs.Tools.{cases}
 use Rattle.laws.proofs.Bounds.{length-level, length-lasts}
 use Rattle.paged_runs.specs.Levels.{sizesAbove, sizesOf, total, cut}
@@ -77,6 +77,7 @@ cut-levels (suc n) b xs h =
           rw (l, e, cut-last (length xs) zs (length zs) ((levelsAbove n b (level b up) ++ level b up) ++ (level b xs ++ more)))
           (ap₂ (λ (x : List (List Span)) (y : List Span). x ++ (y ∷ []))
           (ap (cut zs (length zs)) (append-assoc (levelsAbove n b (level b up)) (level b up) (level b xs ++ more)) ∙ lists (level b xs ++ more))
-          (ap (take (length xs)) (drop-at (levelsAbove n b (level b up) ++ level b up) (level b xs ++ more) (total zs (length zs)) size) ∙ one-level b xs more));
+          (ap (take (length xs)) (drop-at (levelsAbove n b (level b up) ++ level b up) (level b xs ++ more) (total zs (length zs)) size)
+          ∙ one-level b xs more));
       sum = rw (l, e) (total-last (length xs) zs (length zs) ∙ rw (← size));
     })

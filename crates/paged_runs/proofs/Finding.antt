@@ -1,28 +1,27 @@
 -- On an accepted file of kind 5 the searches give the picture's answers. Assumes nothing.
-use Prim.Native.Nat.{ℕ, zero, suc, _+_, _-_, _*_, _≤_, _<_}
-use mathlib.Core.Path.{_≡_, refl, sym, ap, ap₂, _∙_}
+use Prim.Native.Nat.{ℕ, _+_, _-_, _*_, _≤_, _<_}
+use mathlib.Core.Path.{_≡_, refl, sym, ap, _∙_}
 use mathlib.Core.Bool.{Bool, true, false}
-use mathlib.Core.List.{List, [], _∷_, _++_}
+use mathlib.Core.List.{List, _∷_}
 use native.Mathlib.Omega.{arith}
-use lib.ListN.{length, take, drop, getD}
-use lib.Dec.{leb, ltb}
-use borrow.Author.Tests.{le-leb, ltb-true, ltb-false, le-ltb}
+use lib.ListN.{length, drop, getD}
+use lib.Dec.{ltb}
+use borrow.Author.Tests.{le-leb, ltb-true, le-ltb}
 use Rattle.format.specs.declared.View.{View}
-use Rattle.format.specs.Tools.{pick}
 use Rattle.format.specs.Signals.{BEYOND}
 use Rattle.format.specs.Answers.{Answer, refused, empty, given}
 use Rattle.format.specs.Picture.{cells}
-use Rattle.format.specs.Stored.{stored, kept, placed}
+use Rattle.format.specs.Stored.{stored, placed}
 use Rattle.format.specs.Lookups.{rankIn, positionIn}
 use Rattle.format.specs.Runs.{Span, runs, spans}
-use Rattle.format.specs.PagedRuns.{plus, none, level, upperLevels, levels, through, descent, at, rankAtPlace, positionAtPlace, allCells, storedCells}
-use Rattle.format.specs.Accepted.{settingOf, dimensionsOf, emptyOf, wordsOf, wordsCount, firstCount, secondCount, positionsOf, headerNumber, checkNumber}
+use Rattle.format.specs.PagedRuns.{plus, none, upperLevels, levels, descent, at, rankAtPlace, positionAtPlace, allCells, storedCells}
+use Rattle.format.specs.Accepted.{settingOf, dimensionsOf, emptyOf, wordsOf, wordsCount, firstCount, secondCount, positionsOf, checkNumber}
 use Rattle.format.specs.Opened.{viewOf}
 use Rattle.laws.proofs.Tools.{cases}
-use Rattle.laws.proofs.Stored.{Rising, length-placed, length-stored}
+use Rattle.laws.proofs.Stored.{length-placed}
 use Rattle.laws.proofs.Bounds.{length-level, below-rising, below-getD}
 use Rattle.laws.proofs.Acceptance.{accepted, accepted-has-file}
-use Rattle.laws.proofs.Files.{positions-back, words-count-back}
+use Rattle.laws.proofs.Files.{positions-back}
 use Rattle.laws.proofs.Search.{seekFrom, Proper}
 use Rattle.laws.proofs.Descent.{descent-finds, cells-add, stored-add}
 use Rattle.laws.proofs.Ranks.{kind-5-rank, kind-5-position}
@@ -131,7 +130,8 @@ module _ (b : List ℕ) (a : checkNumber b ≡ 0) (k : settingOf b .kind ≡ 5) 
   position-place : (r : ℕ) → positionAtPlace (seekFrom storedCells 0 r none (pairsHeld b)) ≡ positionIn (emptyOf b) (wordsOf b) r
   position-place r =
       sym (kind-5-position (emptyOf b) (settingOf b .step) r (wordsOf b) (head .low)
-      ∙ rw pairs-held (ap positionAtPlace (descent-finds storedCells stored-add refl (settingOf b .step) r (pairsHeld b) (head .low) (proper-held b head body))))
+      ∙ rw pairs-held (ap positionAtPlace
+      (descent-finds storedCells stored-add refl (settingOf b .step) r (pairsHeld b) (head .low) (proper-held b head body))))
 
   position-bound : (r n : ℕ) → positionIn (emptyOf b) (wordsOf b) r ≡ given n → n < cells (dimensionsOf b)
   unfolding positionIn
@@ -141,7 +141,8 @@ module _ (b : List ℕ) (a : checkNumber b ≡ 0) (k : settingOf b .kind ≡ 5) 
       let l = ltb-true r (length (stored (emptyOf b) (wordsOf b))) t in
       let s : r < length (positionsOf b) = rw stored-held l in
       let g : getD (stored (emptyOf b) (wordsOf b)) r 0 ≡ n = given-path (rw t at e) in
-      let m = below-getD (cells (dimensionsOf b)) (positionsOf b) r (omega (arith, head .words, body .words)) (below-rising 0 (cells (dimensionsOf b)) (positionsOf b) (body .rising)) in
+      let m = below-getD (cells (dimensionsOf b)) (positionsOf b) r (omega (arith, head .words, body .words))
+      (below-rising 0 (cells (dimensionsOf b)) (positionsOf b) (body .rising)) in
       rw (← g, ← stored-held) m)
       (λ t. absurd (never (rw t at e)))
     where

@@ -1,12 +1,11 @@
 -- Length pairs, each with a stored cell and, but for the first, with empty cells before it, are those of the runs of their positions. Assumes nothing.
 use Prim.Native.Nat.{ℕ, zero, suc, _+_, _-_, _≤_, _<_}
-use mathlib.Core.Path.{_≡_, refl, sym, ap, ap₂, _∙_, subst}
+use mathlib.Core.Path.{_≡_, refl, ap₂, subst}
 use mathlib.Core.List.{List, [], _∷_}
 use native.Mathlib.Omega.{arith}
 use lib.ListN.{length}
 use Rattle.format.specs.Runs.{Run, Span, runs, spansFrom, spans, positionsFrom}
 use Rattle.laws.proofs.Stored.{Rising}
-use Rattle.laws.proofs.Search.{Proper}
 use Rattle.laws.proofs.RunsBack as back
 use Rattle.laws.proofs.RunsBack.{InOrder', lastEnd, lastEmpty, weaker, runs-again, rising-again, length-again, runs-ordered}
 use Rattle.paged_runs.specs.Passing.{leastEmpty}
@@ -99,8 +98,12 @@ good-spans e v (x ∷ rs) o =
     let o0 = o .0 in
     let o1 = o .1 in
     let s = same-least e in
-    let m : suc (x .last) ≡ e + (suc (x .last) - e) = omega arith in
-    (omega arith, omega arith, good-moved (suc (x .last)) (e + (suc (x .last) - e)) (spansFrom (suc (x .last)) (x .empty) rs) m (good-spans (suc (x .last)) (x .empty) rs (o .2)))
+    let m : suc (x .last) ≡ e + (suc (x .last) - e) = omega arith in (
+      omega arith,
+      omega arith,
+      good-moved (suc (x .last)) (e + (suc (x .last) - e)) (spansFrom (suc (x .last)) (x .empty) rs) m
+          (good-spans (suc (x .last)) (x .empty) rs (o .2)),
+    )
 
 pub good-runs : (B : ℕ) (ls : List ℕ) → Rising 0 B ls → Good 0 (spans (runs ls))
 unfolding spans

@@ -1,28 +1,23 @@
 -- What a file of kind 5 holds: counts and places by a right header, and the levels by right parts. Assumes nothing.
-use Prim.Native.Nat.{ℕ, zero, suc, _+_, _-_, _*_, _^_, _≤_, _<_}
-use mathlib.Core.Path.{_≡_, refl, sym, ap, ap₂, _∙_, subst}
-use mathlib.Core.Bool.{Bool, true, false}
-use mathlib.Core.List.{List, [], _∷_, _++_, append-assoc}
+use Prim.Native.Nat.{ℕ, _+_, _-_, _*_, _^_, _≤_, _<_}
+use mathlib.Core.Path.{_≡_, sym, ap, ap₂, _∙_}
+use mathlib.Core.List.{List, _++_}
 use native.Mathlib.Omega.{arith}
 use lib.ListN.{length, take, drop, take-append-drop}
-use lib.Seq.{drop-drop}
-use Rattle.format.specs.declared.View.{View}
-use Rattle.format.specs.declared.Setting.{Setting}
 use Rattle.format.specs.Picture.{cells}
 use Rattle.format.specs.Bytes.{bytesOf}
-use Rattle.format.specs.Codec.{Codec}
 use Rattle.format.specs.Kinds.{codec, codecOf}
-use Rattle.format.specs.Runs.{Span, runs, spans, positionsFrom}
-use Rattle.format.specs.PagedRuns.{level, upperLevels, upperEntries, pairsOf, flatSpans, pagesKind, pagedParts}
-use Rattle.format.specs.Accepted.{settingOf, dimensionsOf, wordsCount, firstCount, secondCount, secondAt, positionsOf, headerNumber, checkNumber}
+use Rattle.format.specs.Runs.{Span, runs, spans}
+use Rattle.format.specs.PagedRuns.{level, upperLevels, upperEntries, flatSpans, pagesKind, pagedParts}
+use Rattle.format.specs.Accepted.{settingOf, dimensionsOf, wordsCount, firstCount, secondCount, secondAt, positionsOf, headerNumber}
 use Rattle.format.specs.Opened.{viewOf}
 use Rattle.laws.proofs.Stored.{Rising}
 use Rattle.laws.proofs.Bounds.{length-level}
 use Rattle.laws.proofs.Check.{BodyBy}
 use Rattle.header.specs.View.{secondPlace, wordsPlace}
-use Rattle.header.proofs.Frame.{Framed, framed, CountsOf}
+use Rattle.header.proofs.Frame.{framed, CountsOf}
 use Rattle.paged_runs.specs.Levels.{entries}
-use Rattle.paged_runs.proofs.Reading.{pairsIn, pairs-back, entries-take, entries-next}
+use Rattle.paged_runs.proofs.Reading.{pairs-back, entries-take, entries-next}
 use Rattle.paged_runs.proofs.Bounded.{level-below, upper-below, cells-runs, empty-runs}
 
 -- ---- a right header

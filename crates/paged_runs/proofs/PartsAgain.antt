@@ -1,24 +1,22 @@
 -- The parts of a kind 5 file are right exactly when level 0 is, and the levels above it are those over it. Assumes nothing.
-use Prim.Native.Nat.{ℕ, zero, suc, _+_, _-_, _*_, _^_, _≤_, _<_}
-use mathlib.Core.Path.{_≡_, refl, sym, ap, ap₂, _∙_}
-use mathlib.Core.Bool.{Bool, true, false}
-use mathlib.Core.List.{List, [], _∷_}
+use Prim.Native.Nat.{ℕ, zero, suc, _+_, _-_, _*_, _≤_}
+use mathlib.Core.Path.{_≡_, refl, sym, ap, _∙_}
+use mathlib.Core.Bool.{Bool, true}
+use mathlib.Core.List.{List}
 use native.Mathlib.Omega.{arith}
 use lib.ListN.{length, take, drop, length-drop}
-use lib.Seq.{drop-drop, length-take-le}
+use lib.Seq.{drop-drop}
 use lib.Dec.{leb, eqb}
 use borrow.Author.Tests.{eqb-true, eq-eqb, le-leb}
 use Rattle.format.specs.declared.View.{View}
 use Rattle.format.specs.Tools.{Below, both, same}
 use Rattle.format.specs.Bytes.{bytesOf, field, number, numbersOf}
 use Rattle.format.specs.Picture.{cells}
-use Rattle.format.specs.Runs.{Span, runs, spans, positionsFrom}
-use Rattle.format.specs.PagedRuns.{level, upperLevels, pairsOf, flatSpans, spansIn, pagesKind, pagedParts}
-use Rattle.format.specs.Kinds.{codec}
-use Rattle.format.specs.Accepted.{settingOf, dimensionsOf, wordsCount, firstCount, secondCount, secondAt, positionsOf, headerNumber}
+use Rattle.format.specs.Runs.{Span, positionsFrom}
+use Rattle.format.specs.PagedRuns.{level, upperLevels, pairsOf, flatSpans, pagesKind, pagedParts}
+use Rattle.format.specs.Accepted.{settingOf, dimensionsOf, wordsCount, firstCount, secondCount, positionsOf}
 use Rattle.format.specs.Opened.{viewOf}
 use Rattle.laws.proofs.Tools.{cases, both-true, both-make, same-refl, same-true}
-use Rattle.laws.proofs.Stored.{Rising}
 use Rattle.laws.proofs.Bytes.{below-drop}
 use Rattle.laws.proofs.Bounds.{length-level, length-upperLevels}
 use Rattle.laws.proofs.Positions.{runs-back}
@@ -29,11 +27,11 @@ use Rattle.header.proofs.Body.{rises-true, rising-rises}
 use Rattle.header.proofs.Frame.{framed}
 use Rattle.paged_runs.specs.Levels.{entries}
 use Rattle.paged_runs.specs.Passing.{runsRight, sameSpans, Inside}
-use Rattle.paged_runs.proofs.Reading.{pairsIn, pairs-none, pairs-cons, length-pairs, length-entries, entries-take, entries-next}
+use Rattle.paged_runs.proofs.Reading.{pairsIn, pairs-none, pairs-cons, length-pairs, entries-take, entries-next}
 use Rattle.paged_runs.proofs.Bounded.{cellsOf, emptyOf, cells-runs}
 use Rattle.paged_runs.proofs.Held.{Paged, paged, pairsHeld, Holds, upper-held, level-held}
 use Rattle.paged_runs.proofs.GoodPairs.{good-runs, pairs-again, pairs-rising, pairs-length}
-use Rattle.paged_runs.proofs.Along.{LevelOf, right-level, passed-good}
+use Rattle.paged_runs.proofs.Along.{right-level, passed-good}
 use Rattle.paged_runs.proofs.Above.{same-spans}
 
 -- ---- the bytes of entries that were read
@@ -74,7 +72,8 @@ right-holds b h =
     let t2 = both-true (eqb (length (positionsOf b)) (wordsCount b)) _ (t1 .1) in
     let t3 = both-true (eqb (length (upperLevels (settingOf b .step) (level (settingOf b .step) (pairsHeld b)))) (firstCount b)) _ (t2 .1) in
     let t4 = both-true (eqb (length (pairsHeld b)) (secondCount b)) _ (t3 .1) in
-    let t5 = both-true (same (bytesOf 4 (flatSpans (upperLevels (settingOf b .step) (level (settingOf b .step) (pairsHeld b))))) (take (8 * firstCount b) (drop 52 b))) _ (t4 .1) in
+    let t5 = both-true (same (bytesOf 4 (flatSpans (upperLevels (settingOf b .step) (level (settingOf b .step) (pairsHeld b)))))
+    (take (8 * firstCount b) (drop 52 b))) _ (t4 .1) in
     record {
       rising = rises-true 0 (cells (dimensionsOf b)) (positionsOf b) (t1 .0);
       words = eqb-true (length (positionsOf b)) (wordsCount b) (t2 .0);
@@ -142,7 +141,8 @@ module _ (b : List ℕ) (s : Below 256 b) (p : Paged b) where
             (pairs-bytes (firstCount b) (drop 52 b) (below-drop 256 52 b s) (rw (length-drop 52 b) (omega arith)));
         second =
             rw (v, read-pairs)
-            (pairs-bytes (secondCount b) (drop (52 + 8 * firstCount b) b) (below-drop 256 (52 + 8 * firstCount b) b s) (rw (length-drop (52 + 8 * firstCount b) b) (omega arith)));
+            (pairs-bytes (secondCount b) (drop (52 + 8 * firstCount b) b) (below-drop 256 (52 + 8 * firstCount b) b s)
+            (rw (length-drop (52 + 8 * firstCount b) b) (omega arith)));
       }
 
   -- and parts that are held pass the tests
@@ -151,7 +151,8 @@ module _ (b : List ℕ) (s : Below 256 b) (p : Paged b) where
   hold-tests y =
       let st = settingOf b .step in
       let c : cellsOf (pairsHeld b) ≤ cells (dimensionsOf b) = unfold pairsHeld in (cells-runs (cells (dimensionsOf b)) (positionsOf b) (y .rising)) in
-      let g : Rattle.paged_runs.proofs.GoodPairs.Good 0 (pairsHeld b) = unfold pairsHeld in (good-runs (cells (dimensionsOf b)) (positionsOf b) (y .rising)) in
+      let g : Rattle.paged_runs.proofs.GoodPairs.Good 0 (pairsHeld b) = unfold pairsHeld in
+      (good-runs (cells (dimensionsOf b)) (positionsOf b) (y .rising)) in
       let q : length (positionsFrom 0 (pairsHeld b)) + emptyOf (pairsHeld b) ≡ cellsOf (pairsHeld b) = pairs-length (pairsHeld b) g in
       let r : positionsFrom 0 (pairsHeld b) ≡ positionsOf b = unfold pairsHeld in (runs-back 0 (cells (dimensionsOf b)) (positionsOf b) (y .rising)) in
       let m = rw (r, y .words) at q in

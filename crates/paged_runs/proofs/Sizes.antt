@@ -1,17 +1,16 @@
 -- The sizes of the levels: at most 24 levels stand over as many runs as a picture can have. Assumes nothing.
 use Prim.Native.Nat.{ℕ, zero, suc, _+_, _-_, _*_, _^_, _≤_, _<_}
 use mathlib.Core.Path.{_≡_, refl, sym, ap, ap₂, _∙_}
-use mathlib.Core.List.{List, [], _∷_, _++_, append-nil, append-assoc}
+use mathlib.Core.List.{List, [], _∷_, _++_, append-nil}
 use native.Mathlib.Nat.{pow-suc, pow-zero}
 use native.Mathlib.Numerals.{add-one}
 use native.Mathlib.Omega.{arith}
 use lib.ListN.{length, take, drop, getD, set, length-set}
 use lib.Seq.{take-suc-set, append-snoc, getD-set-same, getD-set-other, getD-take}
-use lib.Dec.{leb}
 use borrow.Author.Tests.{lt-leb, le-leb}
 use Rattle.format.specs.Tools.{upTo}
 use Rattle.format.specs.Runs.{Span}
-use Rattle.laws.proofs.Bounds.{upTo-half, upTo-le}
+use Rattle.laws.proofs.Bounds.{upTo-half}
 use Rattle.paged_runs.specs.Levels.{sizesAbove, sizesOf, total, cut, Sized}
 
 -- ---- each level has at most half the entries of the one below

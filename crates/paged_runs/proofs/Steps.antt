@@ -7,17 +7,17 @@ use native.Mathlib.Nat.{sub-zero, zero-sub, lt-of-not-le, mul-le-mul}
 use native.Mathlib.Decide.{decLe}
 use native.Mathlib.Numerals.{add-one}
 use native.Mathlib.Omega.{arith}
-use lib.ListN.{length, take, drop, getD, length-take, length-drop, drop-of-length-le}
+use lib.ListN.{length, take, drop, getD, length-take}
 use lib.Seq.{drop-drop, drop-cons, take-take, take-all, take-nil}
 use lib.Dec.{ltb}
 use borrow.Author.Tests.{lt-ltb, le-ltb}
 use Rattle.format.specs.Runs.{Span}
-use Rattle.format.specs.PagedRuns.{plus, less, none, Place, lost, at, walkFrom, stepDown, through}
+use Rattle.format.specs.PagedRuns.{none, Place, lost, at, walkFrom, stepDown, through}
 use Rattle.laws.proofs.Tools.{cases}
-use Rattle.paged_runs.specs.declared.search.Found.{Found}
 use Rattle.paged_runs.specs.declared.search.Found.the-variants.{Run, Nowhere}
-use Rattle.paged_runs.specs.Levels.{cut, total}
+use Rattle.paged_runs.specs.Levels.{entries, cut}
 use Rattle.paged_runs.specs.Descent.{counted, ofEmpty, foundAt, descended, walked, PageFits, LevelsFit}
+use Rattle.paged_runs.proofs.Reading.{length-entries}
 
 -- ---- places that differ in sums of cells only
 
@@ -64,7 +64,8 @@ module _ (es : List Span) (sizes : List ℕ) (step : ℕ) (stored : Bool) (level
   walk-end (suc n) e = absurd (omega arith)
 
   -- the first of the entries left
-  page-cons : (n : ℕ) → start + entry < length es → take (suc n) (drop (start + entry) es) ≡ getD es (start + entry) none ∷ take n (drop (start + (entry + 1)) es)
+  page-cons : (n : ℕ) → start + entry < length es
+      → take (suc n) (drop (start + entry) es) ≡ getD es (start + entry) none ∷ take n (drop (start + (entry + 1)) es)
   page-cons n h =
       let e : start + (entry + 1) ≡ suc (start + entry) = omega arith in
       rw (drop-cons es (start + entry) none h, e)
@@ -106,7 +107,8 @@ take-least b n l =
     ]
 
 module _ (es : List Span) (sizes : List ℕ) (step : ℕ) (stored : Bool) (start entry rest before : ℕ) (x : Span) where
-  pub descent-leaf : (level : ℕ) → level ≡ 0 → foundAt (descended es sizes step stored level start (at entry rest (ofEmpty before) x)) ≡ Run before (x .empty) rest
+  pub descent-leaf : (level : ℕ) → level ≡ 0
+      → foundAt (descended es sizes step stored level start (at entry rest (ofEmpty before) x)) ≡ Run before (x .empty) rest
   unfolding descended through
   descent-leaf zero e = refl
   descent-leaf (suc n) e = absurd (omega arith)
@@ -125,7 +127,8 @@ module _ (es : List Span) (sizes : List ℕ) (step : ℕ) (stored : Bool) (start
   descent-page (suc k) n =
       let d : suc k - 1 ≡ k = omega arith in
       rw d
-      (ap₂ (λ (l : List Span) (r : List Span). foundAt (through (counted stored) step (cut sizes k r) (walkFrom (counted stored) (entry * step) rest (ofEmpty before) none l)))
+      (ap₂ (λ (l : List Span) (r : List Span). foundAt
+      (through (counted stored) step (cut sizes k r) (walkFrom (counted stored) (entry * step) rest (ofEmpty before) none l)))
       (page-below (getD sizes k 0)) (drop-drop (getD sizes k 0) start es))
 
 -- ---- what a step asks
@@ -168,3 +171,53 @@ page-fits file sizes step (suc k) start entry before f n h =
     small : entry * step < getD sizes k 0 → PageFits file sizes step k start (entry * step) (min step (getD sizes k 0 - entry * step)) before
     small h =
         record { inside = omega arith; page = omega arith; levels = omega arith; sum = omega arith; steps = omega arith }
+
+-- ---- the loop along a page
+
+-- the entries before `entry` are passed, the last of which is c; what is left finds what the page does
+pub record Walking (file sizes : List ℕ) (step level start first left before entry : ℕ) (stored : Bool) (c : Span) (p : ℕ) : Type 0 where
+  pub whole : walked (entries file) sizes step stored level start entry (first + left - entry) before c p
+      ≡ walked (entries file) sizes step stored level start first left before none p
+  pub fits : PageFits file sizes step level start entry (first + left - entry) before
+  pub count : counted stored c ≤ p
+
+module _ (file sizes : List ℕ) (step level start first left before : ℕ) (stored : Bool) (p : ℕ) where
+  pub walking-first : PageFits file sizes step level start first left before → Walking file sizes step level start first left before first stored none p
+  walking-first f =
+      let e : first + left - first ≡ left = omega arith in
+      record { whole = rw e; fits = rw e f; count = none-counted stored p }
+
+  module _ (entry : ℕ) (c : Span) (w : Walking file sizes step level start first left before entry stored c p) where
+    pub walking-some : entry < first + left → first + left - entry ≡ 0 → ⊥
+    walking-some t e = omega arith
+
+    pub walking-inside : entry < first + left → 60 + 8 * (start + entry) ≤ length file
+    walking-inside t = entry-in-file file sizes step level start entry before (first + left - entry) (w .fits) (walking-some t)
+
+    in-entries : entry < first + left → start + entry < length (entries file)
+    in-entries t = omega (arith, walking-inside t, length-entries file)
+
+    pub walking-on : (y : Span) → entry < first + left → y ≡ getD (entries file) (start + entry) none → counted stored y ≤ p
+        → Walking file sizes step level start first left before (entry + 1) stored y p
+    walking-on y t e h =
+        let d : first + left - entry - 1 ≡ first + left - (entry + 1) = omega arith in
+        let o = walk-on (entries file) sizes step stored level start entry before c p (first + left - entry) y (walking-some t) (in-entries t) e h in
+        let f = page-on file sizes step level start entry before (first + left - entry) (w .fits) (walking-some t) in
+        record { whole = sym (rw d at o) ∙ w .whole; fits = rw d at f; count = h }
+
+    pub walking-here : (y : Span) → entry < first + left → y ≡ getD (entries file) (start + entry) none → p < counted stored y
+        → foundAt (descended (entries file) sizes step stored level (start + getD sizes level 0)
+        (at entry (p - counted stored c) (ofEmpty (before + c .empty)) (ofEmpty (y .empty - c .empty))))
+        ≡ foundAt (walked (entries file) sizes step stored level start first left before none p)
+    walking-here y t e h =
+        sym (walk-here (entries file) sizes step stored level start entry before c p (first + left - entry) y (walking-some t) (in-entries t) e h)
+        ∙ ap foundAt (w .whole)
+
+    pub walking-down : (e : ℕ) → entry < first + left → getD sizes level 0 < 2 ^ 32 → e < 2 ^ 32
+        → LevelsFit file sizes step level (start + getD sizes level 0) entry (before + e)
+    walking-down e t h k = page-down file sizes step level start entry before (first + left - entry) e (w .fits) (walking-some t) h k
+
+    pub walking-none : first + left ≤ entry → Nowhere ≡ foundAt (walked (entries file) sizes step stored level start first left before none p)
+    walking-none t =
+        let z : first + left - entry ≡ 0 = omega arith in
+        sym (walk-end (entries file) sizes step stored level start entry before c p (first + left - entry) z) ∙ ap foundAt (w .whole)

@@ -1,19 +1,17 @@
 -- The search from the top page, for any bytes and any view. Assumes nothing.
-use Prim.Native.Nat.{ℕ, zero, suc, _+_, _-_, _*_, _^_, _≤_, _<_, min}
-use mathlib.Core.Path.{_≡_, refl, sym, ap, ap₂, _∙_}
+use Prim.Native.Nat.{ℕ, _+_, _-_, _*_, _≤_, _<_}
+use mathlib.Core.Path.{_≡_, refl, sym, ap, _∙_}
 use mathlib.Core.Bool.{Bool, true, false}
 use mathlib.Core.List.{List}
 use native.Mathlib.Omega.{arith}
-use lib.ListN.{length, take, drop, getD, length-take}
-use lib.Dec.{leb, ltb}
+use lib.ListN.{length, length-take}
 use borrow.Author.Tests.{le-leb, lt-leb}
 use Rattle.format.specs.declared.View.{View}
-use Rattle.format.specs.Tools.{pick, both, within}
-use Rattle.format.specs.PagedRuns.{none, Place, at, through}
-use Rattle.paged_runs.specs.declared.search.Found.{Found}
-use Rattle.paged_runs.specs.declared.search.Found.the-variants.{Run, Nowhere}
+use Rattle.format.specs.Tools.{both, within}
+use Rattle.format.specs.PagedRuns.{none, at}
+use Rattle.paged_runs.specs.declared.search.Found.the-variants.{Nowhere}
 use Rattle.paged_runs.specs.Levels.{entries, sizesOf, total, cut, Sized}
-use Rattle.paged_runs.specs.Descent.{counted, foundAt, descended, viewFits, searched, LevelsFit}
+use Rattle.paged_runs.specs.Descent.{foundAt, descended, viewFits, searched, LevelsFit}
 use Rattle.paged_runs.proofs.Sizes.{total-take, cut-take}
 
 -- ---- refused views
@@ -38,7 +36,8 @@ module _ (file : List ℕ) (v : View) (stored : Bool) (number : ℕ) where
 
   -- ---- a view that fits, and the sizes that were stored
 
-  module _ (low : 2 ≤ v .step) (high : v .step ≤ 64) (few : v .seconds ≤ 16777216) (sizes : List ℕ) (count n : ℕ) (s : Sized (v .step) (v .seconds) sizes count n) where
+  module _ (low : 2 ≤ v .step) (high : v .step ≤ 64) (few : v .seconds ≤ 16777216) (sizes : List ℕ) (count n : ℕ)
+      (s : Sized (v .step) (v .seconds) sizes count n) where
     fits : viewFits v ≡ true
     fits = rw (le-leb 2 (v .step) low, le-leb (v .step) 64 high, le-leb (v .seconds) 16777216 few)
 

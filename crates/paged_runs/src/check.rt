@@ -52,6 +52,7 @@ fn start_of(left: u32, sum: Sum, start: Sum) -> Sum
     if left == 0 { sum } else { start }
 }
 
+// The empty cells that a run begins with at least, past so many cells: none before the first run.
 fn least_empty(cells: u64) -> u64
     ensures { λ r. ⌜ (r ≡ leastEmpty cells) × (r ≤ 1) ⌝ }
 {
@@ -146,7 +147,8 @@ fn level_right(
     under: usize,
 ) -> bool
     requires { ⌜ LevelInside (now file) step start size below under ⌝ }
-    ensures { λ r. ⌜ r ≡ sameSpans (take size (drop start (entries (now (file .entry))))) (level step (lasts step (take under (drop below (entries (now (file .entry))))))) ⌝ }
+    ensures { λ r. ⌜ r ≡ sameSpans (take size (drop start (entries (now (file .entry)))))
+        (level step (lasts step (take under (drop below (entries (now (file .entry))))))) ⌝ }
 {
     let page = index(step);
     let mut s = Compared {
@@ -172,7 +174,8 @@ fn level_right(
 // The levels above level 0 are right.
 fn upper_right(file: &[u8], v: View) -> bool
     requires { ⌜ Inside (now file) v ⌝ }
-    ensures { λ r. ⌜ r ≡ sameSpans (take (v .firsts) (entries (now (file .entry)))) (upperLevels (v .step) (take (v .seconds) (drop (v .firsts) (entries (now (file .entry)))))) ⌝ }
+    ensures { λ r. ⌜ r ≡ sameSpans (take (v .firsts) (entries (now (file .entry))))
+        (upperLevels (v .step) (take (v .seconds) (drop (v .firsts) (entries (now (file .entry)))))) ⌝ }
 {
     let page = index(v.step);
     let mut below = index(v.firsts);

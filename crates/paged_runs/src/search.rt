@@ -11,16 +11,16 @@ use format::Rank;
 use format::RankAnswer;
 use format::View;
 ghost use mathlib.Core.Path.{_≡_};
-ghost use Prim.Native.Nat.{_-_, _≤_, _<_, _^_, min};
+ghost use Prim.Native.Nat.{_-_, _≤_, _<_, _^_};
 ghost use lib.ListN.{length, getD};
 ghost use Rattle.format.specs.Answers.{rankSays, positionSays};
-ghost use Rattle.format.specs.PagedRuns.{at};
+ghost use Rattle.format.specs.PagedRuns.{none, at};
 ghost use Rattle.header.specs.Search.{KindRankSearched, KindPositionSearched};
 ghost use Rattle.paged_runs.specs.Levels.{entries, spanOf, Sized};
 ghost use Rattle.paged_runs.specs.Descent.{counted, ofEmpty, foundAt, descended, walked, PageFits, LevelsFit, searched, rankFound, positionFound};
 
 // What a search finds: the empty cells before a run, those that it begins with, and the number that is left within it.
-pub enum Found {
+enum Found {
     Run { before: u64, own: u32, rest: u32 },
     Nowhere,
 }
@@ -75,7 +75,8 @@ fn count(x: Pair, stored: bool) -> u32
     }
 }
 
-// Along a page of a level, from an entry that has the entry `c` to its left, or 0.
+// Along a page of a level, from its first entry on, to the first entry whose count exceeds p; c is the entry to the left, or 0.
+// `level` counts the levels below.
 fn page_walk<'a>(
     file: &'a [u8],
     sizes: &'a [u32; 24],
@@ -83,48 +84,39 @@ fn page_walk<'a>(
     stored: bool,
     level: usize,
     start: usize,
-    entry: usize,
+    first: usize,
     left: usize,
     before: u64,
-    c: Pair,
     p: u32,
 ) -> Found
-    requires { ⌜ PageFits (now file) (now sizes) step level start entry left before × (counted stored (spanOf c) ≤ p) ⌝ }
-    ensures { λ r. ⌜ r ≡ foundAt (walked (entries (now (file .entry))) (now (sizes .entry)) step stored level start entry left before (spanOf c) p) ⌝ }
+    requires { ⌜ PageFits (now file) (now sizes) step level start first left before ⌝ }
+    ensures { λ r. ⌜ r ≡ foundAt (walked (entries (now (file .entry))) (now (sizes .entry)) step stored level start first left before none p) ⌝ }
 {
-    if left == 0 {
-        return Found::Nowhere;
+    let end = first + left;
+    let mut entry = first;
+    let mut c = Pair { cells: 0, empty: 0 };
+    while entry < end {
+        let y = pair_at(file, start + entry);
+        if p < count(y, stored) {
+            let rest = p - count(c, stored);
+            let own = less(y.empty, c.empty);
+            return descend(
+                file,
+                sizes,
+                step,
+                stored,
+                level,
+                start + size_at(sizes, level),
+                entry,
+                before + c.empty as u64,
+                own,
+                rest,
+            );
+        }
+        c = y;
+        entry += 1;
     }
-    let y = pair_at(file, start + entry);
-    if p < count(y, stored) {
-        let rest = p - count(c, stored);
-        let own = less(y.empty, c.empty);
-        return descend(
-            file,
-            sizes,
-            step,
-            stored,
-            level,
-            start + size_at(sizes, level),
-            entry,
-            before + c.empty as u64,
-            own,
-            rest,
-        );
-    }
-    page_walk(
-        file,
-        sizes,
-        step,
-        stored,
-        level,
-        start,
-        entry + 1,
-        left - 1,
-        before,
-        y,
-        p,
-    )
+    Found::Nowhere
 }
 
 // From an entry of a level to the page below it, which has the entry's number. `level` counts the levels below; they begin at `start`.
@@ -141,7 +133,8 @@ fn descend<'a>(
     rest: u32,
 ) -> Found
     requires { ⌜ LevelsFit (now file) (now sizes) step level start entry before ⌝ }
-    ensures { λ r. ⌜ r ≡ foundAt (descended (entries (now (file .entry))) (now (sizes .entry)) step stored level start (at entry rest (ofEmpty before) (ofEmpty own))) ⌝ }
+    ensures { λ r. ⌜ r ≡ foundAt (descended (entries (now (file .entry))) (now (sizes .entry)) step stored level start
+        (at entry rest (ofEmpty before) (ofEmpty own))) ⌝ }
 {
     if level == 0 {
         return Found::Run { before, own, rest };
@@ -163,7 +156,6 @@ fn descend<'a>(
         first,
         left,
         before,
-        Pair { cells: 0, empty: 0 },
         rest,
     )
 }

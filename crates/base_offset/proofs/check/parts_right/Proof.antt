@@ -1,8 +1,9 @@
 use mathlib.Core.Path.{sym, _∙_}
 use native.Mathlib.Omega.{arith}
 use borrow.Author.Tests.{not-true, not-false}
+use Rattle.format.specs.Tools.{Below}
 use Rattle.header.proofs.Body.{below-elements}
-use Rattle.base_offset.proofs.Known.{known}
+use Rattle.base_offset.proofs.Known.{Known, known}
 use Rattle.base_offset.proofs.Places.{entries-fit}
 use Rattle.base_offset.proofs.Turn.{Turn, no-ranks, firsts-some, turn-start, some-left, turn-end, whole-group, group-there, turn-bad, turn-next}
 use borrow.Author.Needs.{needs}
@@ -21,12 +22,16 @@ Inv-loop file v stride base₀ place₀ at₀ left₀ more₀ base place at left
 abbrev μ-loop : tie.MeasureT-loop
 μ-loop file v stride base₀ place₀ at₀ left₀ more₀ base place at left more = more
 
+know : (c : tie.Start Inv-loop μ-loop) → Known (c .args .file .now) (c .args .v)
+know c = known (c .args .file .now) (c .args .v) (c .pre)
+
+bytes-below : (c : tie.After-shared-slice-known Inv-loop μ-loop) → Below 256 (c .before .args .file .now)
+bytes-below c = below-elements 256 (c .before .args .file .now) (λ i. c .shared-slice-known .given i .fits)
+
 -- src/check.rt:72:9
 returns : tie.Need-returns Inv-loop μ-loop
 returns c =
-    let a = c .before .before .before .args in
-    let k = known (a .file .now) (a .v) (c .before .before .before .pre) in
-    no-ranks (a .file .now) (a .v) k (below-elements 256 (a .file .now) (λ i. c .before .before .shared-slice-known .given i .fits)) (c .if1 .taken)
+    no-ranks (know (c .before .before .before)) (bytes-below (c .before .before)) (c .if1 .taken)
 
 -- src/check.rt:74:18
 entry-size-requires : tie.Need-entry-size-requires Inv-loop μ-loop
@@ -46,9 +51,8 @@ mul-stride c =
 -- src/check.rt:75:9
 get-u32-requires : tie.Need-get-u32-requires Inv-loop μ-loop
 get-u32-requires c κs =
-    let a = c .before .before .before .before .before .args in
-    let k = known (a .file .now) (a .v) (c .before .before .before .before .before .pre) in
-    let f = firsts-some (a .file .now) (a .v) k (omega arith) in
+    let k = know (c .before .before .before .before .before) in
+    let f = firsts-some k (omega arith) in
     let t = k .there in
     let p = k .second-place in
     omega arith
@@ -60,18 +64,16 @@ second-at-requires c κs = search needs
 -- src/check.rt:79:20
 sub-more : tie.Need-sub-more Inv-loop μ-loop
 sub-more c =
-    let a = c .before .before .before .before .before .before .before .before .args in
-    let k = known (a .file .now) (a .v) (c .before .before .before .before .before .before .before .before .pre) in
     let n = c .before .before .before .before .before .if1 .left in
-    firsts-some (a .file .now) (a .v) k (omega arith)
+    firsts-some (know (c .before .before .before .before .before .before .before .before)) (omega arith)
 
 -- src/check.rt:80:5
 loop-holds : tie.Need-loop-holds Inv-loop μ-loop
 loop-holds c =
-    let a = c .before .before .before .before .before .before .before .before .args in
-    let k = known (a .file .now) (a .v) (c .before .before .before .before .before .before .before .before .pre) in
     let n = c .before .before .before .before .before .if1 .left in
-    rw (c .before .before .get-u32 .ensures .0, c .before .second-at .ensures .0) (turn-start (a .file .now) (a .v) k (below-elements 256 (a .file .now) (λ i. c .before .before .before .before .before .before .before .shared-slice-known .given i .fits)) (omega arith))
+    rw (c .before .before .get-u32 .ensures .0, c .before .second-at .ensures .0)
+    (turn-start (know (c .before .before .before .before .before .before .before .before))
+    (bytes-below (c .before .before .before .before .before .before .before)) (omega arith))
 
 -- src/check.rt:81:13
 get-u32-requires-2 : tie.Need-get-u32-requires-2 Inv-loop μ-loop
@@ -82,18 +84,14 @@ get-u32-requires-2 c κs =
 -- src/check.rt:82:13
 group-right-requires : tie.Need-group-right-requires Inv-loop μ-loop
 group-right-requires c κs =
-    let a = c .before .before .before .before .before .before .before .before .before .before .before .args in
-    let k = known (a .file .now) (a .v) (c .before .before .before .before .before .before .before .before .before .before .before .pre) in
-    let l = c .before .before .loop in
-    (k .step-least, group-there (a .file .now) (a .v) k (l .base) (l .place) (l .at) (l .left) (l .more) (l .inv) (c .get-u322 .result) (c .before .loop-test .taken) (c .get-u322 .ensures .0))
+    let k = know (c .before .before .before .before .before .before .before .before .before .before .before) in
+    (k .step-least, group-there k (c .before .before .loop .inv) _ (c .before .loop-test .taken) (c .get-u322 .ensures .0))
 
 -- src/check.rt:83:13
 returns-2 : tie.Need-returns-2 Inv-loop μ-loop
 returns-2 c =
-    let a = c .before .before .before .before .before .before .before .before .before .before .before .before .before .args in
-    let k = known (a .file .now) (a .v) (c .before .before .before .before .before .before .before .before .before .before .before .before .before .pre) in
-    let l = c .before .before .before .before .loop in
-    turn-bad (a .file .now) (a .v) k (l .base) (l .place) (l .at) (l .left) (l .more) (l .inv) (c .before .before .get-u322 .result) (c .before .before .before .loop-test .taken) (c .before .before .get-u322 .ensures .0)
+    let k = know (c .before .before .before .before .before .before .before .before .before .before .before .before .before) in
+    turn-bad k (c .before .before .before .before .loop .inv) _ (c .before .before .before .loop-test .taken) (c .before .before .get-u322 .ensures .0)
     (sym (c .before .group-right .ensures) ∙ not-true _ (c .if2 .taken))
 
 -- src/check.rt:86:9
@@ -107,21 +105,17 @@ add-place c =
 -- src/check.rt:87:9
 add-at : tie.Need-add-at Inv-loop μ-loop
 add-at c =
-    let a = c .before .before .before .before .before .before .before .before .before .before .before .before .before .args in
-    let k = known (a .file .now) (a .v) (c .before .before .before .before .before .before .before .before .before .before .before .before .before .pre) in
-    let l = c .before .before .before .before .loop in
+    let k = know (c .before .before .before .before .before .before .before .before .before .before .before .before .before) in
     let g = c .before .before .before .before .before .before .before .before .before .before .before .before .before .good in
-    let e = c .before .before .before .before .before .before .before .before .before .entry-size .ensures .0 in
-    let t = group-there (a .file .now) (a .v) k (l .base) (l .place) (l .at) (l .left) (l .more) (l .inv) (c .before .before .get-u322 .result) (c .before .before .before .loop-test .taken) (c .before .before .get-u322 .ensures .0) in
-    rw e (omega arith)
+    let t = group-there k (c .before .before .before .before .loop .inv) _ (c .before .before .before .loop-test .taken) (c .before .before .get-u322 .ensures .0) in
+    rw (c .before .before .before .before .before .before .before .before .before .entry-size .ensures .0) (omega arith)
 
 -- src/check.rt:88:9
 sub-left : tie.Need-sub-left Inv-loop μ-loop
 sub-left c =
-    let a = c .before .before .before .before .before .before .before .before .before .before .before .before .before .before .args in
-    let k = known (a .file .now) (a .v) (c .before .before .before .before .before .before .before .before .before .before .before .before .before .before .pre) in
-    let l = c .before .before .before .before .before .loop in
-    let t = whole-group (a .file .now) (a .v) k (l .base) (l .place) (l .at) (l .left) (l .more) (l .inv) (c .before .before .before .get-u322 .result) (c .before .before .before .before .loop-test .taken) (c .before .before .before .get-u322 .ensures .0) in
+    let k = know (c .before .before .before .before .before .before .before .before .before .before .before .before .before .before) in
+    let t = whole-group k (c .before .before .before .before .before .loop .inv) _
+    (c .before .before .before .before .loop-test .taken) (c .before .before .before .get-u322 .ensures .0) in
     omega arith
 
 -- src/check.rt:89:9
@@ -137,28 +131,24 @@ loop-less c =
 -- src/check.rt:80:5
 loop-again : tie.Need-loop-again Inv-loop μ-loop
 loop-again c =
-    let a = c .before .before .before .before .before .before .before .before .before .before .before .before .before .before .args in
-    let k = known (a .file .now) (a .v) (c .before .before .before .before .before .before .before .before .before .before .before .before .before .before .pre) in
-    let l = c .before .before .before .before .before .loop in
+    let k = know (c .before .before .before .before .before .before .before .before .before .before .before .before .before .before) in
     rw (c .before .before .before .before .before .before .before .before .before .before .entry-size .ensures .0)
-    (turn-next (a .file .now) (a .v) k (l .base) (l .place) (l .at) (l .left) (l .more) (l .inv) (c .before .before .before .get-u322 .result) (c .before .before .before .before .loop-test .taken) (c .before .before .before .get-u322 .ensures .0)
+    (turn-next k (c .before .before .before .before .before .loop .inv) _
+    (c .before .before .before .before .loop-test .taken) (c .before .before .before .get-u322 .ensures .0)
     (sym (c .before .before .group-right .ensures) ∙ not-false _ (c .before .if2 .left)))
 
 -- src/check.rt:91:5
 group-right-requires-2 : tie.Need-group-right-requires-2 Inv-loop μ-loop
 group-right-requires-2 c κs =
-    let a = c .before .before .before .before .before .before .before .before .before .before .args in
-    let k = known (a .file .now) (a .v) (c .before .before .before .before .before .before .before .before .before .before .pre) in
-    let l = c .before .loop in
-    (some-left (a .file .now) (a .v) k (l .base) (l .place) (l .at) (l .left) (l .more) (l .inv), l .inv .ranks)
+    let k = know (c .before .before .before .before .before .before .before .before .before .before) in
+    let t = c .before .loop .inv in
+    (some-left k t, t .ranks)
 
 -- src/check.rt:67:1
 returns-3 : tie.Need-returns-3 Inv-loop μ-loop
 returns-3 c =
-    let a = c .before .before .before .before .before .before .before .before .before .before .before .args in
-    let k = known (a .file .now) (a .v) (c .before .before .before .before .before .before .before .before .before .before .before .pre) in
-    let l = c .before .before .loop in
-    c .group-right2 .ensures ∙ turn-end (a .file .now) (a .v) k (l .base) (l .place) (l .at) (l .left) (l .more) (l .inv) (c .before .loop-test .left)
+    let k = know (c .before .before .before .before .before .before .before .before .before .before .before) in
+    c .group-right2 .ensures ∙ turn-end k (c .before .before .loop .inv) (c .before .loop-test .left)
 
 pub parts-right-spec : {M : Type 1} → statement M
 parts-right-spec =

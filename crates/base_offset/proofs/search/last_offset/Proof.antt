@@ -55,17 +55,19 @@ cast-load-entry c = search needs
 mul-load-entry : tie.Need-mul-load-entry Inv-loop μ-loop
 mul-load-entry c =
     let l = c .before .loop in
+    let z = c .before .before .before .entry-size in
     let w = l .inv .within in
-    let m = entries-fit (c .before .before .before .entry-size .result) (l .low + l .size / 2) (c .before .before .before .entry-size .ensures .1) (omega arith) in
+    let m = entries-fit (z .result) (l .low + l .size / 2) (z .ensures .1) (omega arith) in
     record { fits = omega arith }
 
 -- src/search.rt:44:29
 add-load-entry : tie.Need-add-load-entry Inv-loop μ-loop
 add-load-entry c =
     let l = c .before .loop in
+    let z = c .before .before .before .entry-size in
     let w = l .inv .within in
-    let m = entries-fit (c .before .before .before .entry-size .result) (l .low + l .size / 2) (c .before .before .before .entry-size .ensures .1) (omega arith) in
-    let k = entries-fit (c .before .before .before .entry-size .result) (c .before .before .before .before .before .args .rank) (c .before .before .before .entry-size .ensures .1) (omega arith) in
+    let m = entries-fit (z .result) (l .low + l .size / 2) (z .ensures .1) (omega arith) in
+    let k = entries-fit (z .result) (c .before .before .before .before .before .args .rank) (z .ensures .1) (omega arith) in
     let s = c .before .before .second-at .ensures .1 in
     omega arith
 
@@ -97,8 +99,10 @@ loop-again c =
 returns : tie.Need-returns Inv-loop μ-loop
 returns c =
     let a = c .before .before .before .before .before .args in
+    let s = c .before .before .second-at in
+    let z = c .before .before .before .entry-size in
     last-same _ _ _ _ _
-    (offset-on (a .file .now) (a .v) (c .before .before .second-at .result) (c .before .before .before .entry-size .result) (c .before .before .second-at .ensures .0) (c .before .before .before .entry-size .ensures .0) (a .rank))
+    (offset-on (a .file .now) (a .v) (s .result) (z .result) (s .ensures .0) (z .ensures .0) (a .rank))
     (left-one _ _ _ _ _ (c .before .loop .inv) (c .loop-test .left))
 
 pub last-offset-spec : {M : Type 1} → statement M

@@ -37,11 +37,10 @@ load-entry-requires c κs = search needs
 -- src/search.rt:26:1
 returns : tie.Need-returns
 returns c =
-    let a = c .before .before .before .before .args in (
-      c .load-entry .ensures .0
-          ∙ offset-here (a .file .now) (a .v) (c .before .before .second-at .result) (c .before .entry-size .result) (c .before .before .second-at .ensures .0) (c .before .entry-size .ensures .0) (a .rank),
-      c .load-entry .ensures .1,
-    )
+    let a = c .before .before .before .before .args in
+    let s = c .before .before .second-at in
+    let z = c .before .entry-size in
+    (c .load-entry .ensures .0 ∙ offset-here (a .file .now) (a .v) (s .result) (z .result) (s .ensures .0) (z .ensures .0) (a .rank), c .load-entry .ensures .1)
 
 pub offset-at-spec : {M : Type 1} → statement M
 offset-at-spec =

@@ -12,77 +12,83 @@ use Rattle.base_offset.proofs.search.position_of.Lts as lts
 use Rattle.base_offset.proofs.search.offset_at.Reads as offset-at-reads
 use Rattle.wire.proofs.load_u32.Reads as load-u32-reads
 
--- src/search.rt:87:9
+-- src/search.rt:91:9
 returns : tie.Need-returns
 returns c = position-past 3 _ _ _ (c .if1 .taken)
 
--- src/search.rt:90:9
+-- src/search.rt:94:9
 returns-2 : tie.Need-returns-2
 returns-2 c =
     let a = c .before .before .before .before .before .args in
     step-forged (a .file .now) (a .v) (a .r .0) (c .before .before .if1 .left) (c .if2 .taken)
 
--- src/search.rt:92:42
-div-load-u32 : tie.Need-div-load-u32
-div-load-u32 c = search needs
+-- src/search.rt:96:13
+div-j : tie.Need-div-j
+div-j c = search needs
 
--- src/search.rt:92:41
+-- src/search.rt:97:41
 cast-load-u32 : tie.Need-cast-load-u32
 cast-load-u32 c =
     let d = div-le-self (c .before .before .before .before .before .before .args .r .0) (c .before .before .before .before .before .before .args .v .step) in
     omega arith
 
--- src/search.rt:92:36
+-- src/search.rt:97:36
 mul-load-u32 : tie.Need-mul-load-u32
 mul-load-u32 c =
     let d = div-le-self (c .before .before .before .before .before .before .args .r .0) (c .before .before .before .before .before .before .args .v .step) in
     omega arith
 
--- src/search.rt:92:31
+-- src/search.rt:97:31
 add-load-u32 : tie.Need-add-load-u32
 add-load-u32 c =
     let d = div-le-self (c .before .before .before .before .before .before .args .r .0) (c .before .before .before .before .before .before .args .v .step) in
     omega arith
 
--- src/search.rt:92:9
+-- src/search.rt:97:9
 load-u32-requires : tie.Need-load-u32-requires
 load-u32-requires c κs = search needs
 
--- src/search.rt:93:14
+-- src/search.rt:98:14
 cast-p : tie.Need-cast-p
 cast-p c = search needs
 
--- src/search.rt:93:30
+-- src/search.rt:98:30
 offset-at-requires : tie.Need-offset-at-requires
 offset-at-requires c κs = search needs
 
--- src/search.rt:93:30
+-- src/search.rt:98:30
 cast-p-2 : tie.Need-cast-p-2
 cast-p-2 c = search needs
 
--- src/search.rt:93:13
+-- src/search.rt:98:13
 add-p : tie.Need-add-p
 add-p c = search needs
 
--- src/search.rt:94:8
+-- src/search.rt:99:8
 cast-if3 : tie.Need-cast-if3
 cast-if3 c = search needs
 
--- src/search.rt:95:9
+-- src/search.rt:100:9
 returns-3 : tie.Need-returns-3
 returns-3 c =
-    let a = c .before .before .before .before .before .before .before .before .before .before .args in
-    position-forged (a .file .now) (a .v) (a .r .0) (c .before .before .before .before .before .before .before .if1 .left) (c .before .before .before .load-u32 .result + c .before .before .offset-at .result) (ap₂ (λ (x y : ℕ). x + y) (c .before .before .before .load-u32 .ensures .0) (c .before .before .offset-at .ensures .0)) (c .if3 .taken)
+    let u = c .before .before in
+    let s = u .before .before .before .before .before in
+    let a = s .before .before .before .args in
+    let e = ap₂ (λ (x y : ℕ). x + y) (u .before .load-u32 .ensures .0) (u .offset-at .ensures .0) in
+    position-forged (a .file .now) (a .v) (a .r .0) (s .if1 .left) e (c .if3 .taken)
 
--- src/search.rt:97:39
-cast-t8 : tie.Need-cast-t8
-cast-t8 c = search needs
+-- src/search.rt:102:39
+cast-t13 : tie.Need-cast-t13
+cast-t13 c = search needs
 
--- src/search.rt:82:1
+-- src/search.rt:86:1
 returns-4 : tie.Need-returns-4
 returns-4 c =
-    let a = c .before .before .before .before .before .before .before .before .before .before .args in
-    position-here (a .file .now) (a .v) (a .r .0) (c .before .before .before .before .before .before .before .if1 .left) (c .before .before .before .load-u32 .result + c .before .before .offset-at .result) (ap₂ (λ (x y : ℕ). x + y) (c .before .before .before .load-u32 .ensures .0) (c .before .before .offset-at .ensures .0)) (c .if3 .left)
+    let u = c .before .before in
+    let s = u .before .before .before .before .before in
+    let a = s .before .before .before .args in
+    let e = ap₂ (λ (x y : ℕ). x + y) (u .before .load-u32 .ensures .0) (u .offset-at .ensures .0) in
+    position-here (a .file .now) (a .v) (a .r .0) (s .if1 .left) e (c .if3 .left)
 
 pub position-of-spec : {M : Type 1} → statement M
 position-of-spec =
@@ -90,7 +96,7 @@ position-of-spec =
     (tie.spec
     returns
     returns-2
-    div-load-u32
+    div-j
     cast-load-u32
     mul-load-u32
     add-load-u32
@@ -101,5 +107,5 @@ position-of-spec =
     add-p
     cast-if3
     returns-3
-    cast-t8
+    cast-t13
     returns-4)

@@ -2,7 +2,7 @@ use mathlib.Core.Path.{sym, _∙_}
 use native.Mathlib.Omega.{arith}
 use Rattle.positions.proofs.Lookup.{rank-past}
 use Rattle.base_offset.proofs.Places.{product-fits}
-use Rattle.base_offset.proofs.Searched.{rank-before, rank-outside, rank-no-group, rank-within, rank-here, rank-absent}
+use Rattle.base_offset.proofs.Searched.{AtBase, AtGroup, rank-before, rank-outside, rank-no-group, rank-within, rank-here, rank-absent}
 use borrow.Author.Needs.{needs}
 use Rattle.base_offset.proofs.search.rank_at.Statement.{statement}
 use Rattle.base_offset.proofs.search.rank_at.Tie as tie
@@ -13,6 +13,26 @@ use Rattle.base_offset.proofs.search.lesser.Reads as lesser-reads
 use Rattle.base_offset.proofs.search.offset_at.Reads as offset-at-reads
 use Rattle.positions.proofs.search.last_at_most.Reads as last-at-most-reads
 use Rattle.wire.proofs.load_u32.Reads as load-u32-reads
+
+at-base : (c : tie.After-load-u32)
+    → let a = c .before .before .before .before .before .args in
+    AtBase (a .file .now) (a .v) (a .p .0) (c .before .last-at-most .result) (c .load-u32 .result)
+at-base c = record { inside = c .before .before .if1 .left; last = c .before .last-at-most .ensures; is = c .load-u32 .ensures .0 }
+
+at-group : (c : tie.After-last-offset)
+    → let a = c .before .before .before .before .before .before .before .before .before .before .before .before .before .args in
+    let u = c .before .before .before .before .before .before .before .before in
+    AtGroup (a .file .now) (a .v) (a .p .0) (u .before .last-at-most .result) (u .load-u32 .result) (c .before .before .lesser .result) (c .last-offset .result)
+at-group c =
+    let n = c .before .if4 .left in
+    record {
+      at-base = at-base (c .before .before .before .before .before .before .before .before);
+      start = c .before .before .before .before .if3 .left;
+      lesser = c .before .before .lesser .ensures;
+      least = c .before .before .before .before .before .before .before .if2 .left;
+      full = omega arith;
+      found = c .last-offset .ensures;
+    }
 
 -- src/search.rt:58:9
 returns : tie.Need-returns
@@ -40,9 +60,7 @@ load-u32-requires c κs = search needs
 
 -- src/search.rt:63:9
 returns-2 : tie.Need-returns-2
-returns-2 c =
-    let a = c .before .before .before .before .before .before .args in
-    rank-before (a .file .now) (a .v) (a .p .0) (c .before .before .last-at-most .result) (c .before .load-u32 .result) (c .before .before .before .if1 .left) (c .before .before .last-at-most .ensures) (c .before .load-u32 .ensures .0) (c .if2 .taken)
+returns-2 c = rank-before (at-base (c .before)) (c .if2 .taken)
 
 -- src/search.rt:65:18
 cast-start : tie.Need-cast-start
@@ -54,8 +72,7 @@ cast-start-2 c = search needs
 
 -- src/search.rt:65:17
 mul-start : tie.Need-mul-start
-mul-start c =
-    record { fits = product-fits (c .before .before .before .last-at-most .result) (c .before .before .before .before .before .before .before .args .v .step) (omega arith) (omega arith) }
+mul-start c = record { fits = product-fits _ _ (omega arith) (omega arith) }
 
 -- src/search.rt:66:8
 cast-if3 : tie.Need-cast-if3
@@ -63,9 +80,7 @@ cast-if3 c = search needs
 
 -- src/search.rt:67:9
 returns-3 : tie.Need-returns-3
-returns-3 c =
-    let a = c .before .before .before .before .before .before .before .before .before .args in
-    rank-outside (a .file .now) (a .v) (a .p .0) (c .before .before .before .before .before .last-at-most .result) (c .before .before .before .before .load-u32 .result) (c .before .before .before .before .before .before .if1 .left) (c .before .before .before .before .before .last-at-most .ensures) (c .before .before .before .before .load-u32 .ensures .0) (c .if3 .taken)
+returns-3 c = rank-outside (at-base (c .before .before .before .before)) (c .if3 .taken)
 
 -- src/search.rt:69:16
 cast-rank : tie.Need-cast-rank
@@ -82,8 +97,7 @@ lesser-requires c κs = search needs
 -- src/search.rt:72:9
 returns-4 : tie.Need-returns-4
 returns-4 c =
-    let a = c .before .before .before .before .before .before .before .before .before .before .before .before .args in
-    rank-no-group (a .file .now) (a .v) (a .p .0) (c .before .before .before .before .before .before .before .before .last-at-most .result) (c .before .before .before .before .before .before .before .load-u32 .result) (c .before .before .before .before .before .before .before .before .before .if1 .left) (c .before .before .before .before .before .before .before .before .last-at-most .ensures) (c .before .before .before .before .before .before .before .load-u32 .ensures .0) (c .before .lesser .result) (c .before .before .before .if3 .left) (c .before .lesser .ensures) (c .if4 .taken)
+    rank-no-group (at-base (c .before .before .before .before .before .before .before)) (c .before .before .before .if3 .left) (c .before .lesser .ensures) (c .if4 .taken)
 
 -- src/search.rt:74:20
 last-offset-requires : tie.Need-last-offset-requires
@@ -92,10 +106,7 @@ last-offset-requires c κs = search needs
 -- src/search.rt:74:13
 add-r : tie.Need-add-r
 add-r c =
-    let a = c .before .before .before .before .before .before .before .before .before .before .before .before .before .args in
-    let n = c .before .if4 .left in
-    let w = rank-within (a .file .now) (a .v) (a .p .0) (c .before .before .before .before .before .before .before .before .before .last-at-most .result) (c .before .before .before .before .before .before .before .before .load-u32 .result) (c .before .before .before .before .before .before .before .before .before .before .if1 .left) (c .before .before .before .before .before .before .before .before .before .last-at-most .ensures) (c .before .before .before .before .before .before .before .before .load-u32 .ensures .0) (c .before .before .lesser .result) (c .before .before .before .before .if3 .left) (c .before .before .lesser .ensures)
-    (c .last-offset .result) (c .before .before .before .before .before .before .before .if2 .left) (omega arith) (c .last-offset .ensures) in
+    let w = rank-within (at-group c) in
     let f = c .before .before .before .struct-known4 .given in
     omega arith
 
@@ -105,19 +116,11 @@ offset-at-requires c κs = search needs
 
 -- src/search.rt:76:9
 returns-5 : tie.Need-returns-5
-returns-5 c =
-    let a = c .before .before .before .before .before .before .before .before .before .before .before .before .before .before .before .args in
-    let n = c .before .before .before .if4 .left in
-    rank-here (a .file .now) (a .v) (a .p .0) (c .before .before .before .before .before .before .before .before .before .before .before .last-at-most .result) (c .before .before .before .before .before .before .before .before .before .before .load-u32 .result) (c .before .before .before .before .before .before .before .before .before .before .before .before .if1 .left) (c .before .before .before .before .before .before .before .before .before .before .before .last-at-most .ensures) (c .before .before .before .before .before .before .before .before .before .before .load-u32 .ensures .0) (c .before .before .before .before .lesser .result) (c .before .before .before .before .before .before .if3 .left) (c .before .before .before .before .lesser .ensures)
-    (c .before .before .last-offset .result) (c .before .before .before .before .before .before .before .before .before .if2 .left) (omega arith) (c .before .before .last-offset .ensures) (sym (c .before .offset-at .ensures .0) ∙ c .if5 .taken)
+returns-5 c = rank-here (at-group (c .before .before)) (sym (c .before .offset-at .ensures .0) ∙ c .if5 .taken)
 
 -- src/search.rt:53:1
 returns-6 : tie.Need-returns-6
-returns-6 c =
-    let a = c .before .before .before .before .before .before .before .before .before .before .before .before .before .before .before .args in
-    let n = c .before .before .before .if4 .left in
-    rank-absent (a .file .now) (a .v) (a .p .0) (c .before .before .before .before .before .before .before .before .before .before .before .last-at-most .result) (c .before .before .before .before .before .before .before .before .before .before .load-u32 .result) (c .before .before .before .before .before .before .before .before .before .before .before .before .if1 .left) (c .before .before .before .before .before .before .before .before .before .before .before .last-at-most .ensures) (c .before .before .before .before .before .before .before .before .before .before .load-u32 .ensures .0) (c .before .before .before .before .lesser .result) (c .before .before .before .before .before .before .if3 .left) (c .before .before .before .before .lesser .ensures)
-    (c .before .before .last-offset .result) (c .before .before .before .before .before .before .before .before .before .if2 .left) (omega arith) (c .before .before .last-offset .ensures) (λ q. c .if5 .left (c .before .offset-at .ensures .0 ∙ q))
+returns-6 c = rank-absent (at-group (c .before .before)) (λ q. c .if5 .left (c .before .offset-at .ensures .0 ∙ q))
 
 pub rank-at-spec : {M : Type 1} → statement M
 rank-at-spec =

@@ -1,6 +1,4 @@
 -- `compare` meets its contract. Assumes nothing.
-use mathlib.Core.Path.{_≡_, refl, sym, ap, _∙_}
-use native.Mathlib.Omega.{arith}
 use Rattle.paged_runs.specs.Levels.{spanOf}
 use Rattle.paged_runs.proofs.Above.{compared-path}
 use borrow.Author.Needs.{needs}

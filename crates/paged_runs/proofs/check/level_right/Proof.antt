@@ -1,10 +1,9 @@
 -- `level_right` meets its contract. The invariant: what is left to compare gives the whole. Assumes nothing.
-use Prim.Native.Nat.{ℕ, suc, _+_, _-_, _*_, _≤_, _<_, min}
-use mathlib.Core.Path.{_≡_, refl, sym, ap, _∙_}
+use Prim.Native.Nat.{ℕ, suc, _+_, _-_, _*_, _≤_, min}
+use mathlib.Core.Path.{_≡_, sym, ap, _∙_}
 use native.Mathlib.Numerals.{add-one}
 use native.Mathlib.Omega.{arith}
-use lib.ListN.{length, take, drop, getD}
-use Rattle.format.specs.Tools.{upTo}
+use lib.ListN.{take, drop, getD}
 use Rattle.format.specs.PagedRuns.{none, level, lasts}
 use Rattle.paged_runs.specs.Levels.{entries, spanOf}
 use Rattle.paged_runs.specs.Passing.{sameSpans}
@@ -19,7 +18,8 @@ below-last below end = below + end - 1
 
 abbrev Inv-loop : tie.InvT-loop
 Inv-loop file step start size below under page s₀ i₀ end₀ s i end =
-    (restOf step (entries file) start size below under s i ≡ sameSpans (take size (drop start (entries file))) (level step (lasts step (take under (drop below (entries file))))))
+    (restOf step (entries file) start size below under s i
+    ≡ sameSpans (take size (drop start (entries file))) (level step (lasts step (take under (drop below (entries file))))))
     × (i ≤ size)
     × (end ≡ min (i * step) under)
 
@@ -34,7 +34,8 @@ loop-holds c =
     let a = c .before .before .args in
     let p = c .before .before .pre in
     let n = length-entries (a .file .now) in (
-      rest-first (a .step) (entries (a .file .now)) (a .start) (a .size) (a .below) (a .under) (p .low) (p .size-of) (omega (arith, p .long)) (omega (arith, p .long-below)) _,
+      rest-first (a .step) (entries (a .file .now)) (a .start) (a .size) (a .below) (a .under) (p .low) (p .size-of) (omega (arith, p .long))
+          (omega (arith, p .long-below)) _,
       omega arith,
       first-end (a .step) (a .under),
     )
@@ -47,7 +48,8 @@ least-requires c κs = search needs
 
 -- the end of the page below
 page-end : (c : tie.After-least Inv-loop μ-loop)
-    → c .least .result ≡ min (suc (c .before .before .loop .i) * c .before .before .before .before .before .args .step) (c .before .before .before .before .before .args .under)
+    → c .least .result ≡ min (suc (c .before .before .loop .i) * c .before .before .before .before .before .args .step)
+    (c .before .before .before .before .before .args .under)
 page-end c =
     let a = c .before .before .before .before .before .args in
     let p = c .before .before .before .before .before .pre in
@@ -55,10 +57,12 @@ page-end c =
     let t = c .before .loop-test .taken in
     c .least .ensures
     ∙ rw (c .before .before .before .index .ensures .0)
-    (page-ends (a .step) (a .under) (c .before .before .loop .i) (c .before .before .loop .end) (omega arith) (rw (p .size-of) at t) (c .before .before .loop .inv .2))
+    (page-ends (a .step) (a .under) (c .before .before .loop .i) (c .before .before .loop .end) (omega arith) (rw (p .size-of) at t)
+    (c .before .before .loop .inv .2))
 
 page-some : (c : tie.After-least Inv-loop μ-loop)
-    → 1 ≤ min (suc (c .before .before .loop .i) * c .before .before .before .before .before .args .step) (c .before .before .before .before .before .args .under)
+    → 1 ≤ min (suc (c .before .before .loop .i) * c .before .before .before .before .before .args .step)
+    (c .before .before .before .before .before .args .under)
 page-some c =
     let a = c .before .before .before .before .before .args in
     let p = c .before .before .before .before .before .pre in
@@ -102,8 +106,10 @@ loop-again c =
     let x = c .before .pair-at2 in
     let f : below-last (a .below) (m .least .result) ≡ below-last (a .below) (min (suc (o .i) * a .step) (a .under)) = ap (below-last (a .below)) e in (
       rw (c .compare .ensures)
-          (sym (rest-turn (a .step) (entries (a .file .now)) (a .start) (a .size) (a .below) (a .under) (p .low) (p .size-of) (omega (arith, p .long)) (omega (arith, p .long-below))
-          (o .s) (o .i) (c .before .before .pair-at .result) (spanOf (x .result)) t (c .before .before .pair-at .ensures .0) (x .ensures .0 ∙ ap (λ (j : ℕ). getD (entries (a .file .now)) j none) f))
+          (sym (rest-turn (a .step) (entries (a .file .now)) (a .start) (a .size) (a .below) (a .under) (p .low) (p .size-of) (omega (arith, p .long))
+          (omega (arith, p .long-below))
+          (o .s) (o .i) (c .before .before .pair-at .result) (spanOf (x .result)) t (c .before .before .pair-at .ensures .0)
+          (x .ensures .0 ∙ ap (λ (j : ℕ). getD (entries (a .file .now)) j none) f))
           ∙ o .inv .0),
       omega arith,
       e ∙ rw (add-one (o .i)),
@@ -114,7 +120,8 @@ returns c =
     let a = c .before .before .before .before .args in
     let p = c .before .before .before .before .pre in
     let n = length-entries (a .file .now) in
-    sym (rest-none (a .step) (entries (a .file .now)) (a .start) (a .size) (a .below) (a .under) (p .low) (p .size-of) (omega (arith, p .long)) (omega (arith, p .long-below))
+    sym (rest-none (a .step) (entries (a .file .now)) (a .start) (a .size) (a .below) (a .under) (p .low) (p .size-of) (omega (arith, p .long))
+    (omega (arith, p .long-below))
     (c .before .loop .s) (c .before .loop .i) (c .loop-test .left))
     ∙ c .before .loop .inv .0
 

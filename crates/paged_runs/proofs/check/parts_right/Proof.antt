@@ -1,6 +1,5 @@
 -- `parts_right` meets its contract. Assumes nothing.
-use Prim.Native.Nat.{ℕ}
-use mathlib.Core.Path.{_≡_, sym, _∙_}
+use mathlib.Core.Path.{sym, _∙_}
 use native.Mathlib.Omega.{arith}
 use Rattle.format.specs.Tools.{Below}
 use Rattle.header.proofs.Body.{below-elements}

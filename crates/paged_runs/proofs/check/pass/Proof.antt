@@ -1,5 +1,4 @@
 -- `pass` meets its contract. Assumes nothing.
-use mathlib.Core.Path.{_≡_, refl, sym, ap, _∙_}
 use native.Mathlib.Omega.{arith}
 use lib.Dec.{eqb}
 use Rattle.paged_runs.specs.Passing.{Small}
@@ -17,7 +16,8 @@ long-requires c κs = search needs
 add-t11 : tie.Need-add-t11
 add-t11 c =
     let a = c .before .before .before .before .before in
-    let s : Small (c .before .before .start-of .result) = rw (c .before .before .start-of .ensures) (pick-small (eqb (a .args .s .left) 0) _ _ (a .pre .1) (a .pre .2)) in
+    let s : Small (c .before .before .start-of .result) = rw (c .before .before .start-of .ensures)
+    (pick-small (eqb (a .args .s .left) 0) _ _ (a .pre .1) (a .pre .2)) in
     let s0 = s .cells in
     omega (arith, c .before .long .ensures .1)
 
@@ -49,7 +49,8 @@ returns c =
     let a = c .before .before .before .before .before .before .before .before .before .before .args in
     let x = c .before .before .before .before .before .before .long .ensures .0 in
     let y = c .before .before .before .before .long2 .ensures .0 in
-    passed-path (a .step) (a .s) _ _ _ _ _ (c .left-after .ensures) (c .before .before .before .before .before .before .before .start-of .ensures) (rw (x, y)) (c .before .before .run-follows .ensures)
+    passed-path (a .step) (a .s) _ _ _ _ _ (c .left-after .ensures) (c .before .before .before .before .before .before .before .start-of .ensures) (rw (x, y))
+    (c .before .before .run-follows .ensures)
 
 pub pass-spec : {M : Type 1} → statement M
 pass-spec =

@@ -1,6 +1,6 @@
 -- `runs_right` meets its contract. The loop's invariant is `Going`. Assumes nothing.
 use Prim.Native.Nat.{_+_, _-_, _≤_, _<_}
-use mathlib.Core.Path.{_≡_, refl, sym, ap, _∙_}
+use mathlib.Core.Path.{_∙_}
 use native.Mathlib.Omega.{arith}
 use lib.ListN.{length}
 use Rattle.paged_runs.specs.Levels.{entries, spanOf}

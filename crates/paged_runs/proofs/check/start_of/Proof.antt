@@ -1,6 +1,5 @@
 -- `start_of` meets its contract. Assumes nothing.
 use borrow.Author.Tests.{eq-eqb, ne-eqb}
-use borrow.Author.Needs.{needs}
 use Rattle.paged_runs.proofs.check.start_of.Statement.{statement}
 use Rattle.paged_runs.proofs.check.start_of.Tie as tie
 

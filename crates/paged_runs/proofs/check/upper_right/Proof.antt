@@ -1,10 +1,8 @@
 -- `upper_right` meets its contract. The loop's invariant is `Climbing`; each level is smaller than the one below. Assumes nothing.
-use Prim.Native.Nat.{_+_, _-_, _*_, _≤_, _<_}
-use mathlib.Core.Path.{_≡_, refl, sym, ap, _∙_}
+use Prim.Native.Nat.{_-_}
+use mathlib.Core.Path.{refl, sym, _∙_}
 use native.Mathlib.Omega.{arith}
-use lib.ListN.{length}
 use borrow.Author.Tests.{not-true, not-false}
-use Rattle.format.specs.Tools.{upTo}
 use Rattle.laws.proofs.Bounds.{upTo-half}
 use Rattle.paged_runs.specs.Levels.{entries}
 use Rattle.paged_runs.proofs.Reading.{length-entries}
@@ -53,7 +51,11 @@ sub-start c =
     let m = p .long in
     let n = length-entries (a .file .now) in
     let t = rw e at (c .loop-test .taken) in
-    rw e (omega (arith, start-of-above (a .v .step) (entries (a .file .now)) (c .before .loop .below) (c .before .loop .under) (p .low) (i .count) (omega arith) t))
+    rw e (omega (
+      arith,
+      start-of-above (a .v .step) (entries (a .file .now)) (c .before .loop .below) (c .before .loop .under) (p .low) (i .count)
+          (omega arith) t,
+    ))
 
 level-right-requires : tie.Need-level-right-requires Inv-loop μ-loop
 level-right-requires c κs =

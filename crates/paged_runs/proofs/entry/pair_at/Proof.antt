@@ -1,5 +1,4 @@
 -- `pair_at` meets its contract. Assumes nothing.
-use mathlib.Core.Path.{sym, _∙_}
 use native.Mathlib.Omega.{arith}
 use borrow.Author.Needs.{needs}
 use Rattle.paged_runs.proofs.Reading.{entry-at}

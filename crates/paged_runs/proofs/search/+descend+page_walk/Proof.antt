@@ -1,15 +1,13 @@
--- `page_walk` and `descend` meet their contracts. The levels below fall with each descent, and within a level the entries left do. Assumes nothing.
-use Prim.Native.Nat.{ℕ, _+_, _-_, _*_, _≤_, _<_, min}
-use mathlib.Core.Path.{_≡_, refl, sym, ap, _∙_}
+-- `page_walk` and `descend` meet their contracts. With each descent the levels below fall, and with each turn along a page the entries left. Assumes nothing.
+use Prim.Native.Nat.{ℕ, _+_, _-_, _*_, _<_, min}
+use mathlib.Core.Path.{_≡_, sym, _∙_}
 use native.Mathlib.Omega.{arith}
-use lib.ListN.{length, getD}
+use lib.ListN.{getD}
 use borrow.Author.Needs.{needs}
 use borrow.Fn.Kinds.{In}
 use borrow.Fn.PlainCycle.{Measures, is, falls, and}
-use Rattle.paged_runs.specs.Levels.{entries, spanOf}
-use Rattle.paged_runs.specs.Descent.{counted, foundAt}
-use Rattle.paged_runs.proofs.Reading.{length-entries}
-use Rattle.paged_runs.proofs.Steps.{walk-end, walk-here, walk-on, descent-leaf, descent-page, first-fits, entry-in-file, page-down, page-on, page-fits, none-counted}
+use Rattle.paged_runs.specs.Levels.{spanOf}
+use Rattle.paged_runs.proofs.Steps.{walk-end, descent-leaf, descent-page, first-fits, page-fits, Walking, walking-first, walking-inside, walking-on, walking-here, walking-down, walking-none}
 use Rattle.paged_runs.proofs.search.descend.Reads as descend
 use Rattle.paged_runs.proofs.search.descend.Kinds as descend-kinds
 use Rattle.paged_runs.proofs.search.+descend+page_walk.Lts-descend as descend-lts
@@ -24,12 +22,11 @@ use Rattle.paged_runs.proofs.search.size_at.Reads as size-at-reads
 use Rattle.paged_runs.proofs.search.+descend+page_walk.{statement}
 use Rattle.paged_runs.proofs.search.+descend+page_walk.Tie.{close}
 
--- a page has at most 64 entries
 abbrev μ-descend : Measures 1 descend-kinds.ps ℕ
-μ-descend κs a = a .1 .1 .1 .1 .0 * 66
+μ-descend κs a = 2 * a .1 .1 .1 .1 .0
 
 abbrev μ-page-walk : Measures 1 page-walk-kinds.ps ℕ
-μ-page-walk κs a = a .1 .1 .1 .1 .0 * 66 + a .1 .1 .1 .1 .1 .1 .1 .0 + 1
+μ-page-walk κs a = 2 * a .1 .1 .1 .1 .0 + 1
 
 abbrev descend-at : ℕ → In 1 descend-kinds.ps
 descend-at t = and 1 descend-kinds.ps (is 1 descend-kinds.ps μ-descend t) descend.Pre
@@ -58,8 +55,6 @@ page-walk-calls t = (
   size-at-reads.Learnt,
   descend-below t,
   descend.Post,
-  page-walk-below t,
-  page-walk.Post,
 )
 
 -- ---- to the page below
@@ -97,10 +92,8 @@ descend-page-walk-requires t c κs =
     let a = c .before .before .before .before .before .args in
     let f = c .before .before .before .before .before .pre in
     let e = c .before .before .size-at .ensures .0 in
-    let h : a .entry * a .step < getD (a .sizes .now) (a .level - 1) 0 = omega (arith, e) in (
-      omega (arith, c .before .before .before .if1 .left, c .least .ensures),
-      (rw (c .least .ensures, e) (page-fits _ _ _ _ _ _ _ (f .1) (c .before .before .before .if1 .left) h), none-counted (a .stored) (a .rest)),
-    )
+    let h : a .entry * a .step < getD (a .sizes .now) (a .level - 1) 0 = omega (arith, e) in
+    (omega (arith, c .before .before .before .if1 .left), rw (c .least .ensures, e) (page-fits _ _ _ _ _ _ _ (f .1) (c .before .before .before .if1 .left) h))
 
 descend-returns-3 : (t : ℕ) → descend-lts.Need-returns-3 (descend-calls t) (descend-at t) descend.Post
 descend-returns-3 t c =
@@ -110,85 +103,92 @@ descend-returns-3 t c =
 
 -- ---- along a page
 
-page-walk-returns : (t : ℕ) → page-walk-lts.Need-returns (page-walk-calls t) (page-walk-at t) page-walk.Post
-page-walk-returns t c = sym (walk-end _ _ _ _ _ _ _ _ _ _ _ (c .if1 .taken))
+abbrev page-walk-Inv-loop : page-walk-lts.InvT-loop
+page-walk-Inv-loop file sizes step stored level start first left before p end entry₀ c₀ entry c =
+    Walking file sizes step level start first left before entry stored (spanOf c) p
 
-page-walk-add-pair-at : (t : ℕ) → page-walk-lts.Need-add-pair-at (page-walk-calls t) (page-walk-at t) page-walk.Post
-page-walk-add-pair-at t c = omega (arith, entry-in-file _ _ _ _ _ _ _ _ (c .before .before .pre .1 .0) (c .if1 .left))
+abbrev page-walk-μ-loop : page-walk-lts.MeasureT-loop
+page-walk-μ-loop file sizes step stored level start first left before p end entry₀ c₀ entry c = end - entry
 
-page-walk-pair-at-requires : (t : ℕ) → page-walk-lts.Need-pair-at-requires (page-walk-calls t) (page-walk-at t) page-walk.Post
-page-walk-pair-at-requires t c κs = entry-in-file _ _ _ _ _ _ _ _ (c .before .before .pre .1 .0) (c .if1 .left)
+page-walk-add-end : (t : ℕ) → page-walk-lts.Need-add-end (page-walk-calls t) (page-walk-at t) page-walk.Post page-walk-Inv-loop page-walk-μ-loop
+page-walk-add-end t c = let f = c .before .pre .1 in omega (arith, f .inside, f .page)
 
-page-walk-count-requires : (t : ℕ) → page-walk-lts.Need-count-requires (page-walk-calls t) (page-walk-at t) page-walk.Post
+page-walk-loop-holds : (t : ℕ) → page-walk-lts.Need-loop-holds (page-walk-calls t) (page-walk-at t) page-walk.Post page-walk-Inv-loop page-walk-μ-loop
+page-walk-loop-holds t c = walking-first _ _ _ _ _ _ _ _ _ _ (c .before .pre .1)
+
+page-walk-add-pair-at : (t : ℕ) → page-walk-lts.Need-add-pair-at (page-walk-calls t) (page-walk-at t) page-walk.Post page-walk-Inv-loop page-walk-μ-loop
+page-walk-add-pair-at t c = omega (arith, walking-inside _ _ _ _ _ _ _ _ _ _ _ _ (c .before .loop .inv) (c .loop-test .taken))
+
+page-walk-pair-at-requires : (t : ℕ)
+    → page-walk-lts.Need-pair-at-requires (page-walk-calls t) (page-walk-at t) page-walk.Post page-walk-Inv-loop page-walk-μ-loop
+page-walk-pair-at-requires t c κs = walking-inside _ _ _ _ _ _ _ _ _ _ _ _ (c .before .loop .inv) (c .loop-test .taken)
+
+page-walk-count-requires : (t : ℕ) → page-walk-lts.Need-count-requires (page-walk-calls t) (page-walk-at t) page-walk.Post page-walk-Inv-loop page-walk-μ-loop
 page-walk-count-requires t c κs = tt
 
-page-walk-count-requires-2 : (t : ℕ) → page-walk-lts.Need-count-requires-2 (page-walk-calls t) (page-walk-at t) page-walk.Post
+page-walk-count-requires-2 : (t : ℕ)
+    → page-walk-lts.Need-count-requires-2 (page-walk-calls t) (page-walk-at t) page-walk.Post page-walk-Inv-loop page-walk-μ-loop
 page-walk-count-requires-2 t c κs = tt
 
-page-walk-sub-rest : (t : ℕ) → page-walk-lts.Need-sub-rest (page-walk-calls t) (page-walk-at t) page-walk.Post
-page-walk-sub-rest t c = rw (c .count2 .ensures) (c .before .before .before .before .before .before .pre .1 .1)
+page-walk-sub-rest : (t : ℕ) → page-walk-lts.Need-sub-rest (page-walk-calls t) (page-walk-at t) page-walk.Post page-walk-Inv-loop page-walk-μ-loop
+page-walk-sub-rest t c = rw (c .count2 .ensures) (c .before .before .before .before .before .loop .inv .count)
 
-page-walk-less-requires : (t : ℕ) → page-walk-lts.Need-less-requires (page-walk-calls t) (page-walk-at t) page-walk.Post
+page-walk-less-requires : (t : ℕ) → page-walk-lts.Need-less-requires (page-walk-calls t) (page-walk-at t) page-walk.Post page-walk-Inv-loop page-walk-μ-loop
 page-walk-less-requires t c κs = tt
 
-page-walk-size-at-requires : (t : ℕ) → page-walk-lts.Need-size-at-requires (page-walk-calls t) (page-walk-at t) page-walk.Post
-page-walk-size-at-requires t c κs = c .before .before .before .before .before .before .before .pre .1 .0 .levels
+page-walk-size-at-requires : (t : ℕ)
+    → page-walk-lts.Need-size-at-requires (page-walk-calls t) (page-walk-at t) page-walk.Post page-walk-Inv-loop page-walk-μ-loop
+page-walk-size-at-requires t c κs = c .before .before .before .before .before .before .loop .inv .fits .levels
 
-page-walk-add-descend : (t : ℕ) → page-walk-lts.Need-add-descend (page-walk-calls t) (page-walk-at t) page-walk.Post
+page-walk-add-descend : (t : ℕ) → page-walk-lts.Need-add-descend (page-walk-calls t) (page-walk-at t) page-walk.Post page-walk-Inv-loop page-walk-μ-loop
 page-walk-add-descend t c =
-    let f = c .before .before .before .before .before .before .before .before .pre .1 .0 in
+    let f = c .before .before .before .before .before .before .before .loop .inv .fits in
     omega (arith, c .size-at .ensures .0, f .inside)
 
-page-walk-cast-descend : (t : ℕ) → page-walk-lts.Need-cast-descend (page-walk-calls t) (page-walk-at t) page-walk.Post
+page-walk-cast-descend : (t : ℕ) → page-walk-lts.Need-cast-descend (page-walk-calls t) (page-walk-at t) page-walk.Post page-walk-Inv-loop page-walk-μ-loop
 page-walk-cast-descend t c = search needs
 
-page-walk-add-descend-2 : (t : ℕ) → page-walk-lts.Need-add-descend-2 (page-walk-calls t) (page-walk-at t) page-walk.Post
+page-walk-add-descend-2 : (t : ℕ) → page-walk-lts.Need-add-descend-2 (page-walk-calls t) (page-walk-at t) page-walk.Post page-walk-Inv-loop page-walk-μ-loop
 page-walk-add-descend-2 t c =
-    let f = c .before .before .before .before .before .before .before .before .before .pre .1 .0 in
+    let f = c .before .before .before .before .before .before .before .before .loop .inv .fits in
     omega (arith, c .struct-known .given, f .sum)
 
-page-walk-descend-requires : (t : ℕ) → page-walk-lts.Need-descend-requires (page-walk-calls t) (page-walk-at t) page-walk.Post
+page-walk-descend-requires : (t : ℕ)
+    → page-walk-lts.Need-descend-requires (page-walk-calls t) (page-walk-at t) page-walk.Post page-walk-Inv-loop page-walk-μ-loop
 page-walk-descend-requires t c κs =
-    let n = c .before .before .before .before .before .before .before .if1 .left in
-    let f = c .before .before .before .before .before .before .before .before .before .pre in
+    let o = c .before .before .before .before .before .before .before .before in
+    let t = c .before .before .before .before .before .before .before .loop-test .taken in
     let e = c .before .size-at .ensures in
-    (omega arith, rw (e .0) (page-down _ _ _ _ _ _ _ _ _ (f .1 .0) n (rw (e .0) at (e .1)) (omega (arith, c .struct-known .given))))
+    (omega arith, rw (e .0) (walking-down _ _ _ _ _ _ _ _ _ _ _ _ (o .loop .inv) _ t (rw (e .0) at (e .1)) (omega (arith, c .struct-known .given))))
 
-page-walk-returns-2 : (t : ℕ) → page-walk-lts.Need-returns-2 (page-walk-calls t) (page-walk-at t) page-walk.Post
-page-walk-returns-2 t c =
-    let at = c .before .before .before .before .before .before .before .before in
-    let a = at .before .before .args in
-    let s = length-entries (a .file .now) in
-    let h : a .start + a .entry < length (entries (a .file .now)) = omega (arith, entry-in-file _ _ _ _ _ _ _ _ (at .before .before .pre .1 .0) (at .if1 .left)) in
+page-walk-returns : (t : ℕ) → page-walk-lts.Need-returns (page-walk-calls t) (page-walk-at t) page-walk.Post page-walk-Inv-loop page-walk-μ-loop
+page-walk-returns t c =
+    let o = c .before .before .before .before .before .before .before .before .before in
+    let t = c .before .before .before .before .before .before .before .before .loop-test .taken in
     let y = c .before .before .before .before .before .before .before .pair-at in
-    let p = c .before .before .before .before .before .if2 .taken in
+    let p = c .before .before .before .before .before .if1 .taken in
     c .descend .ensures
     ∙ rw (c .before .before .size-at .ensures .0, c .before .before .before .less .ensures, c .before .before .before .before .count2 .ensures)
-    (sym (walk-here _ _ _ _ _ _ _ _ _ _ _ (spanOf (y .result)) (at .if1 .left) h (y .ensures .0) (rw (c .before .before .before .before .before .before .count .ensures) at p)))
+    (walking-here _ _ _ _ _ _ _ _ _ _ _ _ (o .loop .inv) (spanOf (y .result)) t (y .ensures .0)
+    (rw (c .before .before .before .before .before .before .count .ensures) at p))
 
-page-walk-add-page-walk : (t : ℕ) → page-walk-lts.Need-add-page-walk (page-walk-calls t) (page-walk-at t) page-walk.Post
-page-walk-add-page-walk t c = omega (arith, entry-in-file _ _ _ _ _ _ _ _ (c .before .before .before .before .before .pre .1 .0) (c .before .before .before .if1 .left))
+page-walk-add-entry : (t : ℕ) → page-walk-lts.Need-add-entry (page-walk-calls t) (page-walk-at t) page-walk.Post page-walk-Inv-loop page-walk-μ-loop
+page-walk-add-entry t c = omega
+    (arith, walking-inside _ _ _ _ _ _ _ _ _ _ _ _ (c .before .before .before .before .loop .inv) (c .before .before .before .loop-test .taken))
 
-page-walk-sub-page-walk : (t : ℕ) → page-walk-lts.Need-sub-page-walk (page-walk-calls t) (page-walk-at t) page-walk.Post
-page-walk-sub-page-walk t c = omega (arith, c .before .before .before .if1 .left)
+page-walk-loop-less : (t : ℕ) → page-walk-lts.Need-loop-less (page-walk-calls t) (page-walk-at t) page-walk.Post page-walk-Inv-loop page-walk-μ-loop
+page-walk-loop-less t c = let t = c .before .before .before .loop-test .taken in omega arith
 
-page-walk-page-walk-requires : (t : ℕ) → page-walk-lts.Need-page-walk-requires (page-walk-calls t) (page-walk-at t) page-walk.Post
-page-walk-page-walk-requires t c κs =
-    let n = c .before .before .before .if1 .left in
-    let f = c .before .before .before .before .before .pre in
-    let h = c .if2 .left in
-    (omega (arith, n), (page-on _ _ _ _ _ _ _ _ (f .1 .0) n, rw (c .before .count .ensures) at h))
+page-walk-loop-again : (t : ℕ) → page-walk-lts.Need-loop-again (page-walk-calls t) (page-walk-at t) page-walk.Post page-walk-Inv-loop page-walk-μ-loop
+page-walk-loop-again t c =
+    let y = c .before .before .pair-at in
+    let p = c .if1 .left in
+    walking-on _ _ _ _ _ _ _ _ _ _ _ _ (c .before .before .before .before .loop .inv) (spanOf (y .result)) (c .before .before .before .loop-test .taken)
+    (y .ensures .0)
+    (rw (c .before .count .ensures) at p)
 
-page-walk-returns-3 : (t : ℕ) → page-walk-lts.Need-returns-3 (page-walk-calls t) (page-walk-at t) page-walk.Post
-page-walk-returns-3 t c =
-    let at = c .before .before .before .before in
-    let a = at .before .before .args in
-    let s = length-entries (a .file .now) in
-    let h : a .start + a .entry < length (entries (a .file .now)) = omega (arith, entry-in-file _ _ _ _ _ _ _ _ (at .before .before .pre .1 .0) (at .if1 .left)) in
-    let y = c .before .before .before .pair-at in
-    let p = c .before .if2 .left in
-    c .page-walk .ensures
-    ∙ ap foundAt (sym (walk-on _ _ _ _ _ _ _ _ _ _ _ (spanOf (y .result)) (at .if1 .left) h (y .ensures .0) (rw (c .before .before .count .ensures) at p)))
+page-walk-returns-2 : (t : ℕ) → page-walk-lts.Need-returns-2 (page-walk-calls t) (page-walk-at t) page-walk.Post page-walk-Inv-loop page-walk-μ-loop
+page-walk-returns-2 t c = walking-none _ _ _ _ _ _ _ _ _ _ _ _ (c .before .loop .inv) (c .loop-test .left)
 
 pub +descend+page-walk-spec : {M : Type 1} → statement M
 +descend+page-walk-spec = close μ-descend μ-page-walk (λ t. descend-lts.spec (descend-calls t)
@@ -206,7 +206,10 @@ pub +descend+page-walk-spec : {M : Type 1} → statement M
     λ t. page-walk-lts.spec (page-walk-calls t)
     (page-walk-at t)
     page-walk.Post
-    (page-walk-returns t)
+    page-walk-Inv-loop
+    page-walk-μ-loop
+    (page-walk-add-end t)
+    (page-walk-loop-holds t)
     (page-walk-add-pair-at t)
     (page-walk-pair-at-requires t)
     (page-walk-count-requires t)
@@ -218,8 +221,8 @@ pub +descend+page-walk-spec : {M : Type 1} → statement M
     (page-walk-cast-descend t)
     (page-walk-add-descend-2 t)
     (page-walk-descend-requires t)
+    (page-walk-returns t)
+    (page-walk-add-entry t)
+    (page-walk-loop-less t)
+    (page-walk-loop-again t)
     (page-walk-returns-2 t)
-    (page-walk-add-page-walk t)
-    (page-walk-sub-page-walk t)
-    (page-walk-page-walk-requires t)
-    (page-walk-returns-3 t)

@@ -1,5 +1,4 @@
 -- `count` meets its contract. Assumes nothing.
-use mathlib.Core.Path.{_∙_, sym, refl}
 use borrow.Author.Needs.{needs}
 use Rattle.paged_runs.proofs.search.count.Statement.{statement}
 use Rattle.paged_runs.proofs.search.count.Tie as tie

@@ -1,5 +1,4 @@
 -- `level_sizes` meets its contract. The loop's invariant is `Storing`; each level is smaller than the one below. Assumes nothing.
-use native.Mathlib.Omega.{arith}
 use borrow.Author.Needs.{needs}
 use Rattle.paged_runs.proofs.Sizes.{Storing, storing-first, room-left, less-above, storing-next, stored-all}
 use Rattle.paged_runs.proofs.search.level_sizes.Statement.{statement}
@@ -19,7 +18,8 @@ element-write-sizes c = search needs
 
 loop-holds : tie.Need-loop-holds Inv-loop μ-loop
 loop-holds c =
-    rw (c .index .ensures .0) (storing-first (c .before .args .step) (c .before .args .seconds) (c .before .args .sizes .now) (c .before .pre .3) (c .before .pre .2))
+    rw (c .index .ensures .0) (storing-first (c .before .args .step) (c .before .args .seconds) (c .before .args .sizes .now) (c .before .pre .3)
+    (c .before .pre .2))
 
 sub-size : tie.Need-sub-size Inv-loop μ-loop
 sub-size c = search needs

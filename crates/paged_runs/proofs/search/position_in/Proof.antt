@@ -1,6 +1,5 @@
 -- `position_in` meets its contract. Assumes nothing.
 use Prim.Native.Nat.{_+_, _≤_, _<_}
-use mathlib.Core.Path.{_≡_, refl, sym, _∙_}
 use native.Mathlib.Omega.{arith}
 use Rattle.paged_runs.proofs.Answering.{past-cells, position-there}
 use borrow.Author.Needs.{needs}

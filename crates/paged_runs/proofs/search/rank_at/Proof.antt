@@ -1,8 +1,6 @@
 -- `rank_at` meets its contract. Assumes nothing.
-use mathlib.Core.Path.{_≡_, refl, sym, ap, _∙_, subst}
-use Rattle.format.specs.Answers.{Answer}
+use mathlib.Core.Path.{_∙_}
 use Rattle.format.specs.Opened.{Free}
-use Rattle.paged_runs.specs.Descent.{rankFound}
 use Rattle.paged_runs.proofs.Answering.{rank-free}
 use Rattle.paged_runs.proofs.Finding.{view-rank, view-rank-past}
 use borrow.Author.Needs.{needs}

@@ -1,6 +1,5 @@
 -- `search` meets its contract. Assumes nothing.
 use mathlib.Core.Path.{refl, sym, _∙_}
-use native.Mathlib.Omega.{arith}
 use borrow.Author.Needs.{needs}
 use Rattle.paged_runs.proofs.Whole.{step-low, step-high, many-runs, short-file, from-top, top-fits}
 use Rattle.paged_runs.proofs.search.search.Statement.{statement}
@@ -29,7 +28,8 @@ add-if4 c = search needs
 returns-4 : tie.Need-returns-4
 returns-4 c =
     let t = c .before .before .before .before in
-    sym (short-file _ _ _ _ (t .before .before .before .before .if1 .left) (t .before .before .if2 .left) (t .if3 .left) _ _ _ (c .before .before .level-sizes .ensures) (c .if4 .taken))
+    sym (short-file _ _ _ _ (t .before .before .before .before .if1 .left) (t .before .before .if2 .left) (t .if3 .left) _ _ _
+    (c .before .before .level-sizes .ensures) (c .if4 .taken))
 
 index-requires : tie.Need-index-requires
 index-requires c κs = tt
@@ -40,7 +40,8 @@ descend-requires c κs =
     let t = l .before .before in
     let a = t .before .before .before .before .before .before .before .args in
     rw (c .index .ensures .0)
-    (top-fits (a .file .now) (a .v) (a .stored) (a .number) (t .before .before .before .before .if1 .left) (t .before .before .if2 .left) (t .if3 .left) _ _ _ (l .level-sizes .ensures) (c .before .before .if4 .left))
+    (top-fits (a .file .now) (a .v) (a .stored) (a .number) (t .before .before .before .before .if1 .left) (t .before .before .if2 .left) (t .if3 .left) _ _ _
+    (l .level-sizes .ensures) (c .before .before .if4 .left))
 
 returns-5 : tie.Need-returns-5
 returns-5 c =
@@ -48,7 +49,8 @@ returns-5 c =
     let t = l .before .before in
     c .descend .ensures
     ∙ rw (c .before .index .ensures .0)
-    (from-top _ _ _ _ (t .before .before .before .before .if1 .left) (t .before .before .if2 .left) (t .if3 .left) _ _ _ (l .level-sizes .ensures) (c .before .before .before .if4 .left))
+    (from-top _ _ _ _ (t .before .before .before .before .if1 .left) (t .before .before .if2 .left) (t .if3 .left) _ _ _ (l .level-sizes .ensures)
+    (c .before .before .before .if4 .left))
 
 pub search-spec : {M : Type 1} → statement M
 search-spec =

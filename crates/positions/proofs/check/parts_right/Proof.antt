@@ -15,7 +15,8 @@ positions-rise-requires c κs = first-there (c .before .args .file .now) (c .bef
 returns : tie.Need-returns
 returns c =
     let a = c .before .before .args in
-    c .positions-rise .ensures ∙ parts-are (a .file .now) (a .v) (c .before .before .pre) (below-elements 256 (a .file .now) (λ i. c .before .shared-slice-known .given i .fits))
+    c .positions-rise .ensures ∙ parts-are (a .file .now) (a .v) (c .before .before .pre)
+    (below-elements 256 (a .file .now) (λ i. c .before .shared-slice-known .given i .fits))
 
 pub parts-right-spec : {M : Type 1} → statement M
 parts-right-spec = tie.close (tie.spec positions-rise-requires returns)
