@@ -1,0 +1,52 @@
+-- What a search over the header's own counts answers, on accepted and on other bytes. Assumes nothing.
+use Prim.Native.Nat.{ℕ, _≤_, _<_}
+use mathlib.Core.Path.{_≡_, refl}
+use mathlib.Core.List.{List}
+use native.Mathlib.Omega.{arith}
+use lib.ListN.{length}
+use Rattle.format.specs.declared.View.{View}
+use Rattle.format.specs.Signals.{BEYOND}
+use Rattle.format.specs.Answers.{Answer, refused}
+use Rattle.format.specs.File.{headerLength}
+use Rattle.format.specs.Accepted.{checkNumber}
+use Rattle.format.specs.Opened.{viewOf}
+use Rattle.header.specs.Search.{CellSearched, RankSearched, PositionSearched}
+use Rattle.laws.proofs.Acceptance.{accepted, header-right}
+use Rattle.archive.proofs.Answers.{cell-found, rank-found, position-found}
+use Rattle.exports.specs.Unchecked.{Unchecked, cellUnchecked, rankUnchecked, positionUnchecked}
+
+-- an accepted file has a header
+long : (b : List ℕ) → checkNumber b ≡ 0 → headerLength ≤ length b
+long b h = header-right b (accepted b h .header) .long
+
+-- fewer bytes than a header
+pub short-refused : (b : List ℕ) (direct : Answer) (InRange : Answer → Type 0) → length b < headerLength → InRange (refused BEYOND)
+    → Unchecked b direct InRange (refused BEYOND)
+short-refused b direct InRange s r =
+    record { right = λ h. absurd (let l = long b h in omega arith); short = λ l. refl; free = r }
+
+module _ (b : List ℕ) (v : View) (e : v ≡ viewOf b) (l : headerLength ≤ length b) (p : ℕ) (a : Answer) where
+  pub cell-unchecked : CellSearched b v p a → cellUnchecked b p a
+  cell-unchecked c =
+      record {
+        right = λ h. cell-found b v (record { accepted = h; view = e }) p a c .said;
+        short = λ s. absurd (omega arith);
+        free = c .free;
+      }
+
+  pub rank-unchecked : RankSearched b v p a → rankUnchecked b p a
+  unfolding viewOf
+  rank-unchecked c =
+      record {
+        right = λ h. rank-found b v (record { accepted = h; view = e }) p a c .said;
+        short = λ s. absurd (omega arith);
+        free = rw e at (c .free);
+      }
+
+  pub position-unchecked : PositionSearched b v p a → positionUnchecked b p a
+  position-unchecked c =
+      record {
+        right = λ h. position-found b v (record { accepted = h; view = e }) p a c .said;
+        short = λ s. absurd (omega arith);
+        free = rw e at (c .free);
+      }

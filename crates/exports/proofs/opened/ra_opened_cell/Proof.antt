@@ -1,0 +1,65 @@
+use Rattle.format.specs.Signals.{BEYOND}
+use Rattle.format.specs.Answers.{refused, cellSays}
+use Rattle.format.specs.Lookups.{cellAnswer}
+use Rattle.format.specs.Opened.{FreeWord, beyond}
+use Rattle.exports.proofs.Answered.{short-refused, cell-unchecked}
+use borrow.Author.Needs.{needs}
+use Rattle.exports.proofs.opened.ra_opened_cell.Statement.{statement}
+use Rattle.exports.proofs.opened.ra_opened_cell.Tie as tie
+use Rattle.exports.proofs.opened.ra_opened_cell.Reads as reads
+use Rattle.exports.proofs.opened.ra_opened_cell.Lts as lts
+use Rattle.exports.proofs.code.cell_code.Reads as cell-code-reads
+use Rattle.exports.proofs.code.code_and_value.Reads as code-and-value-reads
+use Rattle.header.proofs.view.read_view.Reads as read-view-reads
+use Rattle.search.proofs.cell_in.Reads as cell-in-reads
+
+-- src/opened.rt:22:9
+code-and-value-requires : tie.Need-code-and-value-requires
+code-and-value-requires c κs = search needs
+
+-- src/opened.rt:22:9
+returns : tie.Need-returns
+returns c =
+    let g = c .before .before .before .args in
+    let b = g .file .now in
+    record {
+      answer = refused BEYOND;
+      right = short-refused b (cellAnswer b (g .place)) FreeWord (c .before .if1 .taken) beyond;
+      code = c .code-and-value .ensures;
+    }
+
+-- src/opened.rt:24:29
+read-view-requires : tie.Need-read-view-requires
+read-view-requires c κs = search needs
+
+-- src/opened.rt:24:15
+cell-in-requires : tie.Need-cell-in-requires
+cell-in-requires c κs = search needs
+
+-- src/opened.rt:24:5
+cell-code-requires : tie.Need-cell-code-requires
+cell-code-requires c κs = search needs
+
+-- src/opened.rt:17:1
+returns-2 : tie.Need-returns-2
+returns-2 c =
+    let g = c .before .before .before .before .before .args in
+    record {
+      answer = cellSays (c .before .cell-in .result);
+      right =
+          cell-unchecked (g .file .now) _ (c .before .before .read-view .ensures) (c .before .before .before .if1 .left) (g .place)
+          (cellSays (c .before .cell-in .result))
+          (c .before .cell-in .ensures);
+      code = c .cell-code .ensures;
+    }
+
+pub ra-opened-cell-spec : {M : Type 1} → statement M
+ra-opened-cell-spec =
+    tie.close
+    (tie.spec
+    code-and-value-requires
+    returns
+    read-view-requires
+    cell-in-requires
+    cell-code-requires
+    returns-2)

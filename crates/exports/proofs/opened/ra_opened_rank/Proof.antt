@@ -1,0 +1,66 @@
+use Rattle.format.specs.Signals.{BEYOND}
+use Rattle.format.specs.Answers.{refused, rankSays}
+use Rattle.format.specs.Accepted.{wordsCount}
+use Rattle.format.specs.Lookups.{rankAnswer}
+use Rattle.format.specs.Opened.{Free, beyond}
+use Rattle.exports.proofs.Answered.{short-refused, rank-unchecked}
+use borrow.Author.Needs.{needs}
+use Rattle.exports.proofs.opened.ra_opened_rank.Statement.{statement}
+use Rattle.exports.proofs.opened.ra_opened_rank.Tie as tie
+use Rattle.exports.proofs.opened.ra_opened_rank.Reads as reads
+use Rattle.exports.proofs.opened.ra_opened_rank.Lts as lts
+use Rattle.exports.proofs.code.code_and_value.Reads as code-and-value-reads
+use Rattle.exports.proofs.code.rank_code.Reads as rank-code-reads
+use Rattle.header.proofs.view.read_view.Reads as read-view-reads
+use Rattle.search.proofs.rank_in.Reads as rank-in-reads
+
+-- src/opened.rt:33:9
+code-and-value-requires : tie.Need-code-and-value-requires
+code-and-value-requires c κs = search needs
+
+-- src/opened.rt:33:9
+returns : tie.Need-returns
+returns c =
+    let g = c .before .before .before .args in
+    let b = g .file .now in
+    record {
+      answer = refused BEYOND;
+      right = short-refused b (rankAnswer b (g .place)) (Free (wordsCount b)) (c .before .if1 .taken) beyond;
+      code = c .code-and-value .ensures;
+    }
+
+-- src/opened.rt:35:29
+read-view-requires : tie.Need-read-view-requires
+read-view-requires c κs = search needs
+
+-- src/opened.rt:35:15
+rank-in-requires : tie.Need-rank-in-requires
+rank-in-requires c κs = search needs
+
+-- src/opened.rt:35:5
+rank-code-requires : tie.Need-rank-code-requires
+rank-code-requires c κs = search needs
+
+-- src/opened.rt:28:1
+returns-2 : tie.Need-returns-2
+returns-2 c =
+    let g = c .before .before .before .before .before .args in
+    record {
+      answer = rankSays (c .before .rank-in .result);
+      right =
+          rank-unchecked (g .file .now) _ (c .before .before .read-view .ensures) (c .before .before .before .if1 .left) (g .place)
+          (rankSays (c .before .rank-in .result))
+          (c .before .rank-in .ensures);
+      code = c .rank-code .ensures;
+    }
+
+pub ra-opened-rank-spec : {M : Type 1} → statement M
+ra-opened-rank-spec =
+    tie.close
+    (tie.spec
+    code-and-value-requires
+    returns
+    read-view-requires
+    rank-in-requires
+    rank-code-requires
+    returns-2)

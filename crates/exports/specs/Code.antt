@@ -1,0 +1,23 @@
+-- A lookup's answer in 64 bits. Assumes nothing.
+use Prim.Native.Nat.{ℕ, _+_, _*_, _^_}
+use mathlib.Core.Path.{_≡_}
+use Rattle.format.specs.Answers.{Answer, refused, empty, given}
+
+-- the low 32 bits the value, the high 32 the code
+abbrev pub codeAndValue : ℕ → ℕ → ℕ
+codeAndValue code value = code * 2 ^ 32 + value
+
+-- the code of "empty"
+abbrev pub EMPTY : ℕ
+EMPTY = 255
+
+abbrev pub coded : Answer → ℕ
+coded (refused n) = codeAndValue n 0
+coded empty = codeAndValue EMPTY 0
+coded (given x) = codeAndValue 0 x
+
+-- r is the code of an answer of which `Right` holds
+pub record Coded (Right : Answer → Type 0) (r : ℕ) : Type 0 where
+  pub answer : Answer
+  pub right : Right answer
+  pub code : r ≡ coded answer
