@@ -1,0 +1,3 @@
+pub mod PairSums
+pub mod Reading
+pub mod Filling
