@@ -1,14 +1,13 @@
+-- `put_level` meets its contract. The loop's invariant is `Filling`. Assumes nothing.
+use Prim.Native.Nat.{ℕ, _+_, _-_, _*_, _≤_, min}
+use mathlib.Core.Path.{_≡_, refl, sym, ap, _∙_}
+use native.Mathlib.Omega.{arith}
+use Rattle.format.specs.Runs.{Span}
+use Rattle.levels.specs.LevelZero.{spanOf, spanAt, summed}
 use borrow.Author.Needs.{needs}
-use Rattle.levels.proofs.Filling.{Filling, filling-first, filling-end, cells-fit, empty-fit, entry-room, filling-next}
+use Rattle.levels.proofs.Filling.{Filling, filling-first, filling-end, cells-fit, empty-fit, filling-next}
 use Rattle.levels.proofs.put_level.Statement.{statement}
 use Rattle.levels.proofs.put_level.Tie as tie
-use Rattle.levels.proofs.put_level.Reads as reads
-use Rattle.levels.proofs.put_level.Lts as lts
-use Rattle.levels.proofs.add.Reads as add-reads
-use Rattle.levels.proofs.index.Reads as index-reads
-use Rattle.levels.proofs.least.Reads as least-reads
-use Rattle.levels.proofs.pair_at.Reads as pair-at-reads
-use Rattle.levels.proofs.put_sums.Reads as put-sums-reads
 
 abbrev Inv-loop : tie.InvT-loop
 Inv-loop dst₀ step start below under page s₀ at₀ from₀ rest₀ dst s at from rest = Filling dst₀ step start below under dst s at from rest
@@ -22,7 +21,10 @@ index-requires c κs = search needs
 
 -- src/lib.rt:94:5
 loop-holds : tie.Need-loop-holds Inv-loop μ-loop
-loop-holds c = search needs
+loop-holds c =
+    let a = c .before .before .args in
+    let p = c .before .before .pre in
+    filling-first (a .dst .now) (a .step) (a .start) (a .below) (a .under) (p .0) (p .1)
 
 -- src/lib.rt:95:13
 least-requires : tie.Need-least-requires Inv-loop μ-loop
@@ -48,9 +50,31 @@ sub-pair-at c = search needs
 pair-at-requires : tie.Need-pair-at-requires Inv-loop μ-loop
 pair-at-requires c κs = search needs
 
+-- the size of the page
+page-size : (c : tie.After-least Inv-loop μ-loop) → c .least .result ≡ min (c .before .before .before .before .before .args .step) (c .before .before .loop .rest)
+page-size c = c .least .ensures ∙ rw (c .before .before .before .index .ensures .0)
+
+-- its last entry
+page-last : (c : tie.After-pair-at Inv-loop μ-loop) → let l = c .before .before .before .before .loop in
+    spanOf (c .pair-at .result)
+    ≡ spanAt (l .dst) (l .from + 8 * min (c .before .before .before .before .before .before .before .args .step) (l .rest) - 8)
+page-last c =
+    let l = c .before .before .before .before .loop in
+    c .pair-at .ensures ∙ ap (λ (n : ℕ). spanAt (l .dst) (l .from + 8 * n - 8)) (page-size (c .before .before))
+
 -- src/lib.rt:98:9
 add-requires : tie.Need-add-requires Inv-loop μ-loop
-add-requires c κs = search needs
+add-requires c κs =
+    let a = c .before .before .before .before .before .before .before .args in
+    let p = c .before .before .before .before .before .before .before .pre in
+    let l = c .before .before .before .before .loop in
+    let t = c .before .before .before .loop-test .taken in
+    let h = p .0 .step-least in
+    let x : c .pair-at .result .cells ≡ _ = ap (λ (y : Span). y .cells) (page-last c) in
+    let y : c .pair-at .result .empty ≡ _ = ap (λ (y : Span). y .empty) (page-last c) in
+    let u = cells-fit (a .dst .now) (a .step) (a .start) (a .below) (a .under) (l .dst) (l .s) (l .at) (l .from) (l .rest) (l .inv) (omega arith) t in
+    let v = empty-fit (a .dst .now) (a .step) (a .start) (a .below) (a .under) (l .dst) (l .s) (l .at) (l .from) (l .rest) (l .inv) (omega arith) t in
+    (omega arith, rw x u, rw y v)
 
 -- src/lib.rt:99:9
 put-sums-requires : tie.Need-put-sums-requires Inv-loop μ-loop
@@ -66,7 +90,17 @@ loop-less c = search needs
 
 -- src/lib.rt:94:5
 loop-again : tie.Need-loop-again Inv-loop μ-loop
-loop-again c = search needs
+loop-again c =
+    let m = c .before .before .before .before .before in
+    let r = m .before .before .before .before .before .before .before in
+    let a = r .args in
+    let l = m .before .before .before .before .loop in
+    let t = m .before .before .before .loop-test .taken in
+    let h = r .pre .0 .step-least in
+    let e = page-size (m .before .before) in
+    let q = c .before .before .before .before .add .ensures ∙ ap (summed (a .step) (l .s)) (page-last m) in
+    rw (c .before .before .put-sums .ensures, e)
+    (filling-next (a .dst .now) (a .step) (a .start) (a .below) (a .under) (l .dst) (l .s) (l .at) (l .from) (l .rest) (l .inv) (omega arith) t _ q)
 
 -- src/lib.rt:81:1
 same-length : tie.Need-same-length Inv-loop μ-loop
@@ -74,7 +108,12 @@ same-length c = search needs
 
 -- src/lib.rt:81:1
 returns : tie.Need-returns Inv-loop μ-loop
-returns c = search needs
+returns c =
+    let a = c .before .before .before .before .args in
+    let l = c .before .loop in
+    let z = c .loop-test .left in
+    let h = c .before .before .before .before .pre .0 .step-least in
+    filling-end (a .dst .now) (a .step) (a .start) (a .below) (a .under) (l .dst) (l .s) (l .at) (l .from) (l .rest) (l .inv) (omega arith) (omega arith)
 
 pub put-level-spec : {M : Type 1} → statement M
 put-level-spec =
