@@ -15,7 +15,7 @@ use Rattle.laws.proofs.Bounds.{upTo-suc}
 use Rattle.stores.specs.Put.{put}
 use Rattle.stores.proofs.Laws.{length-put, put-numbers-nil}
 use Rattle.levels.specs.declared.Sums.{Sums}
-use Rattle.levels.specs.LevelZero.{levelIn, pairSum, LevelZero, spanAt, sumIn, summed}
+use Rattle.levels.specs.Levels.{levelIn, pairSum, LevelZero, spanAt, sumIn, summed}
 use Rattle.levels.proofs.Reading.{level-none, lasts-next, level-put, put-entry}
 
 -- ---- one entry

@@ -8,7 +8,7 @@ use Rattle.format.specs.Runs.{Span}
 use Rattle.format.specs.PagedRuns.{plus, none, sumsFrom, level, lastsFrom, lasts, flatSpans}
 use Rattle.laws.proofs.Levels.{plus-assoc}
 use Rattle.paged_runs.proofs.Bounded.{cellsOf, emptyOf, level-below}
-use Rattle.levels.specs.LevelZero.{pairSum}
+use Rattle.levels.specs.Levels.{pairSum}
 
 -- the last entries of the pages have the sum of all pairs
 last-sums : (b k : ℕ) (a : Span) (xs : List Span) → pairSum (lastsFrom b k a (sumsFrom b k a xs)) ≡ plus a (pairSum xs)

@@ -15,7 +15,7 @@ use Rattle.laws.proofs.Positions.{length-flatSpans}
 use Rattle.stores.specs.Put.{put}
 use Rattle.stores.proofs.Laws.{put-fits, put-numbers-cons, put-numbers-nil}
 use Rattle.paged_runs.proofs.Reading.{pairsIn, pairs-none, length-pairs, pairs-at, pairs-drop, pairs-back}
-use Rattle.levels.specs.LevelZero.{levelIn, spanAt}
+use Rattle.levels.specs.Levels.{levelIn, spanAt}
 
 -- ---- entries at their offsets
 

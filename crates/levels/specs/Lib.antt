@@ -1,1 +1,1 @@
-pub mod LevelZero
+pub mod Levels

@@ -9,7 +9,7 @@ ghost use Rattle.format.specs.Tools.{upTo};
 ghost use Rattle.format.specs.Bytes.{bytesOf};
 ghost use Rattle.format.specs.PagedRuns.{level, lasts, upperLevels, flatSpans};
 ghost use Rattle.stores.specs.Put.{put};
-ghost use Rattle.levels.specs.LevelZero.{levelIn, LevelZero, spanOf, spanAt, summed};
+ghost use Rattle.levels.specs.Levels.{levelIn, LevelZero, spanOf, spanAt, summed};
 
 // An entry's two sums: all cells, and the empty ones among them.
 struct Pair {

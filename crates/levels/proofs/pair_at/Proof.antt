@@ -1,5 +1,5 @@
 -- `pair_at` meets its contract. Assumes nothing.
-use Rattle.levels.specs.LevelZero.{spanAt}
+use Rattle.levels.specs.Levels.{spanAt}
 use borrow.Author.Needs.{needs}
 use Rattle.levels.proofs.pair_at.Statement.{statement}
 use Rattle.levels.proofs.pair_at.Tie as tie

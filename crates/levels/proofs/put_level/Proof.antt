@@ -3,7 +3,7 @@ use Prim.Native.Nat.{ℕ, _+_, _-_, _*_, _≤_, min}
 use mathlib.Core.Path.{_≡_, refl, sym, ap, _∙_}
 use native.Mathlib.Omega.{arith}
 use Rattle.format.specs.Runs.{Span}
-use Rattle.levels.specs.LevelZero.{spanOf, spanAt, summed}
+use Rattle.levels.specs.Levels.{spanOf, spanAt, summed}
 use borrow.Author.Needs.{needs}
 use Rattle.levels.proofs.Filling.{Filling, filling-first, filling-end, cells-fit, empty-fit, filling-next}
 use Rattle.levels.proofs.put_level.Statement.{statement}

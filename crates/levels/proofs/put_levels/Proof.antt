@@ -1,16 +1,22 @@
+-- `put_levels` meets its contract. The invariant: the level that was put out last stands as level 0 does, and what is left gives the whole.
+-- Assumes nothing.
+use Prim.Native.Nat.{ℕ, _+_, _-_, _*_, _≤_, _<_}
+use mathlib.Core.Path.{_≡_, refl, sym, ap, _∙_}
+use native.Mathlib.Omega.{arith}
+use lib.ListN.{length}
+use Rattle.format.specs.Tools.{upTo}
+use Rattle.stores.proofs.Laws.{length-put}
+use Rattle.levels.specs.Levels.{LevelZero}
+use Rattle.levels.proofs.Climbing.{withUpper, climbing-end, start-least, size-less, start-ends, level-up, whole-up}
 use borrow.Author.Needs.{needs}
 use Rattle.levels.proofs.put_levels.Statement.{statement}
 use Rattle.levels.proofs.put_levels.Tie as tie
-use Rattle.levels.proofs.put_levels.Reads as reads
-use Rattle.levels.proofs.put_levels.Lts as lts
-use Rattle.levels.proofs.index.Reads as index-reads
-use Rattle.levels.proofs.put_level.Reads as put-level-reads
 
 abbrev Inv-loop : tie.InvT-loop
-Inv-loop dst₀ step runs second page below₀ under₀ dst below under = ?
+Inv-loop dst₀ step runs second page below₀ under₀ dst below under = LevelZero dst step under below × (withUpper dst step under below ≡ withUpper dst₀ step runs second)
 
 abbrev μ-loop : tie.MeasureT-loop
-μ-loop dst₀ step runs second page below₀ under₀ dst below under = ?
+μ-loop dst₀ step runs second page below₀ under₀ dst below under = under
 
 -- src/lib.rt:109:9
 index-requires : tie.Need-index-requires Inv-loop μ-loop
@@ -22,7 +28,7 @@ index-requires-2 c κs = search needs
 
 -- src/lib.rt:112:5
 loop-holds : tie.Need-loop-holds Inv-loop μ-loop
-loop-holds c = search needs
+loop-holds c = rw (c .index2 .ensures .0) (c .before .before .before .pre, refl)
 
 -- src/lib.rt:113:30
 sub-size : tie.Need-sub-size Inv-loop μ-loop
@@ -38,31 +44,67 @@ div-size c = search needs
 
 -- src/lib.rt:114:29
 mul-start : tie.Need-mul-start Inv-loop μ-loop
-mul-start c = search needs
+mul-start c =
+    let a = c .before .before .before .before .before .args in
+    let e = c .before .before .before .index .ensures .0 in
+    let l = c .before .loop in
+    let m = l .inv .0 .runs-most in
+    let t = rw e at (c .loop-test .taken) in
+    rw e (omega (arith, size-less (l .dst) (a .step) (l .under) (l .below) (l .inv .0) t))
 
 -- src/lib.rt:114:21
 sub-start : tie.Need-sub-start Inv-loop μ-loop
-sub-start c = search needs
+sub-start c =
+    let a = c .before .before .before .before .before .args in
+    let e = c .before .before .before .index .ensures .0 in
+    let l = c .before .loop in
+    let t = rw e at (c .loop-test .taken) in
+    rw e (start-least (l .dst) (a .step) (l .under) (l .below) (l .inv .0) t)
 
 -- src/lib.rt:115:9
 put-level-requires : tie.Need-put-level-requires Inv-loop μ-loop
-put-level-requires c κs = search needs
+put-level-requires c κs =
+    let a = c .before .before .before .before .before .before .args in
+    let e = c .before .before .before .before .index .ensures .0 in
+    let l = c .before .before .loop in
+    let t = rw e at (c .before .loop-test .taken) in
+    rw e (l .inv .0, start-ends (l .dst) (a .step) (l .under) (l .below) (l .inv .0) t (l .below - 8 * upTo (l .under) (a .step)) refl)
 
 -- src/lib.rt:112:5
 loop-less : tie.Need-loop-less Inv-loop μ-loop
-loop-less c = search needs
+loop-less c =
+    let m = c .before .before .before .before in
+    let a = m .before .before .before .before .before .args in
+    let e = m .before .before .before .index .ensures .0 in
+    let l = m .before .loop in
+    let t = rw e at (m .loop-test .taken) in
+    rw e (size-less (l .dst) (a .step) (l .under) (l .below) (l .inv .0) t)
 
 -- src/lib.rt:112:5
 loop-again : tie.Need-loop-again Inv-loop μ-loop
-loop-again c = search needs
-
--- src/lib.rt:105:1
-same-length : tie.Need-same-length Inv-loop μ-loop
-same-length c = search needs
+loop-again c =
+    let m = c .before .before .before .before in
+    let a = m .before .before .before .before .before .args in
+    let e = m .before .before .before .index .ensures .0 in
+    let l = m .before .loop in
+    let t = rw e at (m .loop-test .taken) in
+    let start = l .below - 8 * upTo (l .under) (a .step) in
+    rw (c .before .before .put-level .ensures, e)
+    (level-up (l .dst) (a .step) (l .under) (l .below) (l .inv .0) t start refl,
+    whole-up (l .dst) (a .step) (l .under) (l .below) (l .inv .0) t start refl ∙ l .inv .1)
 
 -- src/lib.rt:105:1
 returns : tie.Need-returns Inv-loop μ-loop
-returns c = search needs
+returns c =
+    let a = c .before .before .before .before .before .args in
+    let e = c .before .before .before .index .ensures .0 in
+    let l = c .before .loop in
+    let t = rw e at (c .loop-test .left) in
+    sym (climbing-end (l .dst) (a .step) (l .under) (l .below) t) ∙ l .inv .1
+
+-- src/lib.rt:105:1
+same-length : tie.Need-same-length Inv-loop μ-loop
+same-length c = ap length (returns c) ∙ length-put _ 52 _
 
 pub put-levels-spec : {M : Type 1} → statement M
 put-levels-spec =
