@@ -1,6 +1,6 @@
 -- The loop along a level: what is left to put out gives the whole. Assumes nothing.
 use Prim.Native.Nat.{ℕ, zero, suc, _+_, _-_, _*_, _^_, _≤_, _<_, min}
-use mathlib.Core.Path.{_≡_, refl, sym, ap, ap₂, _∙_}
+use mathlib.Core.Path.{_≡_, refl, sym, ap, _∙_}
 use mathlib.Core.List.{List, [], _∷_}
 use native.Mathlib.Omega.{arith}
 use lib.ListN.{length}
@@ -9,7 +9,7 @@ use borrow.Author.Tests.{ne-eqb}
 use Rattle.format.specs.Tools.{pick, upTo}
 use Rattle.format.specs.Bytes.{bytesOf}
 use Rattle.format.specs.Runs.{Span}
-use Rattle.format.specs.PagedRuns.{none, plus, sumsFrom, level, lasts, flatSpans}
+use Rattle.format.specs.PagedRuns.{plus, sumsFrom, level, lasts, flatSpans}
 use Rattle.laws.proofs.Bytes.{length-bytesOf}
 use Rattle.laws.proofs.Bounds.{upTo-suc}
 use Rattle.stores.specs.Put.{put}
@@ -43,7 +43,7 @@ pick-most zero x y = omega arith
 pick-most (suc k) x y = rw (ne-eqb (suc k) 0 (λ z. omega arith)) (omega arith)
 
 -- one page fewer
-pub fewer-pages : (b n : ℕ) → 1 ≤ b → 1 ≤ n → upTo n b ≡ suc (upTo (n - min b n) b)
+fewer-pages : (b n : ℕ) → 1 ≤ b → 1 ≤ n → upTo n b ≡ suc (upTo (n - min b n) b)
 fewer-pages b zero h k = absurd (omega arith)
 fewer-pages b (suc n) h k =
     let e : suc n - min b (suc n) ≡ n - (b - 1) = omega arith in
@@ -108,7 +108,7 @@ module _ (d₀ : List ℕ) (b start below under : ℕ) (d : List ℕ) (s : Sums)
     empty-fit = let c = rw sum-next at (f .empty) in omega arith
 
     -- there is room for the entry below the level that is read
-    pub entry-room : at + 8 ≤ below
+    entry-room : at + 8 ≤ below
     entry-room = let p = f .place in let u = fewer-pages b rest h k in omega arith
 
     pub filling-next : (r : Sums) → r ≡ summed b s last

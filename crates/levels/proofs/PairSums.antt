@@ -1,11 +1,10 @@
 -- The sum of all pairs, level by level. Assumes nothing.
-use Prim.Native.Nat.{ℕ, zero, suc, _+_, _-_, _^_, _≤_, _<_}
-use mathlib.Core.Path.{_≡_, refl, sym, ap, ap₂, _∙_}
+use Prim.Native.Nat.{ℕ, zero, suc, _-_, _<_}
+use mathlib.Core.Path.{_≡_, refl, ap, _∙_}
 use mathlib.Core.List.{List, [], _∷_}
-use native.Mathlib.Omega.{arith}
 use Rattle.format.specs.Tools.{Below}
 use Rattle.format.specs.Runs.{Span}
-use Rattle.format.specs.PagedRuns.{plus, none, sumsFrom, level, lastsFrom, lasts, flatSpans}
+use Rattle.format.specs.PagedRuns.{plus, sumsFrom, level, lastsFrom, lasts, flatSpans}
 use Rattle.laws.proofs.Levels.{plus-assoc}
 use Rattle.paged_runs.proofs.Bounded.{cellsOf, emptyOf, level-below}
 use Rattle.levels.specs.Levels.{pairSum}

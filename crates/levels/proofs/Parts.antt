@@ -1,14 +1,12 @@
 -- Where the second part of rising positions stands, the levels above it are the first part. Assumes nothing.
-use Prim.Native.Nat.{ℕ, zero, suc, _+_, _-_, _*_, _^_, _≤_, _<_}
-use mathlib.Core.Path.{_≡_, refl, sym, ap, ap₂, _∙_}
-use mathlib.Core.Bool.{Bool, true}
+use Prim.Native.Nat.{ℕ, suc, _+_, _*_, _^_, _≤_}
+use mathlib.Core.Path.{_≡_, sym, ap, _∙_}
+use mathlib.Core.Bool.{true}
 use mathlib.Core.List.{List, [], _∷_}
 use native.Mathlib.Omega.{arith}
 use lib.ListN.{length, take, drop}
 use Rattle.format.specs.declared.Setting.{Setting}
-use Rattle.format.specs.Tools.{Below}
 use Rattle.format.specs.Bytes.{bytesOf}
-use Rattle.format.specs.Codec.{Parts}
 use Rattle.format.specs.Runs.{Span, runs, spans}
 use Rattle.format.specs.PagedRuns.{level, lasts, upperLevels, upperEntries, flatSpans, pagedParts}
 use Rattle.format.specs.Kinds.{settingAllowed}
@@ -75,7 +73,7 @@ module _ (s : Setting) (allowed : settingAllowed s ≡ true) (kind : s .kind ≡
       (length-level (s .step) (spans (runs ls)))
       (unfold pagedParts in (sym stands) ∙ ap (λ (n : ℕ). take n (drop second d)) second-length)
 
-  pub level-zero : LevelZero d (s .step) (length (spans (runs ls))) second
+  level-zero : LevelZero d (s .step) (length (spans (runs ls))) second
   level-zero =
       let t = steps s allowed kind in
       let n = length-spans ls in
@@ -94,7 +92,12 @@ module _ (s : Setting) (allowed : settingAllowed s ≡ true) (kind : s .kind ≡
         empty = omega arith;
       }
 
-  pub first-put : put d 52 (bytesOf 4 (flatSpans (upperLevels (s .step) (levelIn d (length (spans (runs ls))) second))))
+  first-put : put d 52 (bytesOf 4 (flatSpans (upperLevels (s .step) (levelIn d (length (spans (runs ls))) second))))
       ≡ put d 52 (pagedParts (s .step) (spans (runs ls)) .first)
   unfolding pagedParts
   first-put = ap (λ (ys : List Span). put d 52 (bytesOf 4 (flatSpans (upperLevels (s .step) ys)))) level-stands
+
+  -- what `put_levels` asks, and what it puts out then
+  pub first-from-second : LevelZero d (s .step) (length (spans (runs ls))) second
+      × (put d 52 (bytesOf 4 (flatSpans (upperLevels (s .step) (levelIn d (length (spans (runs ls))) second)))) ≡ put d 52 (pagedParts (s .step) (spans (runs ls)) .first))
+  first-from-second = (level-zero, first-put)

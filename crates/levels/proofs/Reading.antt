@@ -1,15 +1,15 @@
 -- A level as it stands in bytes: page by page, and past stores below it. Assumes nothing.
 use Prim.Native.Nat.{ℕ, zero, suc, _+_, _-_, _*_, _^_, _≤_, _<_, min}
-use mathlib.Core.Path.{_≡_, refl, sym, ap, ap₂, _∙_}
+use mathlib.Core.Path.{_≡_, refl, sym, ap, _∙_}
 use mathlib.Core.List.{List, [], _∷_, _++_, append-assoc}
 use native.Mathlib.Nat.{zero-min, min-zero}
 use native.Mathlib.Omega.{arith}
-use lib.ListN.{length, take, drop, getD, set, length-take}
+use lib.ListN.{length, take, drop, getD, set}
 use lib.Seq.{drop-drop, drop-set-lt, drop-at, take-at, length-take-le}
 use Rattle.format.specs.Tools.{Below}
-use Rattle.format.specs.Bytes.{bytes, bytesOf, field, numbersOf}
+use Rattle.format.specs.Bytes.{bytes, bytesOf, field}
 use Rattle.format.specs.Runs.{Span}
-use Rattle.format.specs.PagedRuns.{none, lastsFrom, lasts, flatSpans, spansIn}
+use Rattle.format.specs.PagedRuns.{none, lastsFrom, lasts, flatSpans}
 use Rattle.laws.proofs.Bytes.{length-bytesOf}
 use Rattle.laws.proofs.Positions.{length-flatSpans}
 use Rattle.stores.specs.Put.{put}

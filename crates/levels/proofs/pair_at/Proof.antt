@@ -4,19 +4,15 @@ use borrow.Author.Needs.{needs}
 use Rattle.levels.proofs.pair_at.Statement.{statement}
 use Rattle.levels.proofs.pair_at.Tie as tie
 
--- src/lib.rt:47:16
 get-u32-requires : tie.Need-get-u32-requires
 get-u32-requires c κs = search needs
 
--- src/lib.rt:48:27
 add-get-u32 : tie.Need-add-get-u32
 add-get-u32 c = search needs
 
--- src/lib.rt:48:16
 get-u32-requires-2 : tie.Need-get-u32-requires-2
 get-u32-requires-2 c κs = search needs
 
--- src/lib.rt:42:1
 returns : tie.Need-returns
 returns c = unfold spanAt in (rw (c .get-u322 .ensures .0, c .before .get-u32 .ensures .0))
 

@@ -1,6 +1,6 @@
 -- `put_level` meets its contract. The loop's invariant is `Filling`. Assumes nothing.
-use Prim.Native.Nat.{ℕ, _+_, _-_, _*_, _≤_, min}
-use mathlib.Core.Path.{_≡_, refl, sym, ap, _∙_}
+use Prim.Native.Nat.{ℕ, _+_, _-_, _*_, min}
+use mathlib.Core.Path.{_≡_, ap, _∙_}
 use native.Mathlib.Omega.{arith}
 use Rattle.format.specs.Runs.{Span}
 use Rattle.levels.specs.Levels.{spanOf, spanAt, summed}
@@ -15,38 +15,30 @@ Inv-loop dst₀ step start below under page s₀ at₀ from₀ rest₀ dst s at 
 abbrev μ-loop : tie.MeasureT-loop
 μ-loop dst₀ step start below under page s₀ at₀ from₀ rest₀ dst s at from rest = rest
 
--- src/lib.rt:85:9
 index-requires : tie.Need-index-requires Inv-loop μ-loop
 index-requires c κs = search needs
 
--- src/lib.rt:94:5
 loop-holds : tie.Need-loop-holds Inv-loop μ-loop
 loop-holds c =
     let a = c .before .before .args in
     let p = c .before .before .pre in
     filling-first (a .dst .now) (a .step) (a .start) (a .below) (a .under) (p .0) (p .1)
 
--- src/lib.rt:95:13
 least-requires : tie.Need-least-requires Inv-loop μ-loop
 least-requires c κs = search needs
 
--- src/lib.rt:96:17
 mul-from : tie.Need-mul-from Inv-loop μ-loop
 mul-from c = search needs
 
--- src/lib.rt:96:9
 add-from : tie.Need-add-from Inv-loop μ-loop
 add-from c = search needs
 
--- src/lib.rt:97:9
 sub-rest : tie.Need-sub-rest Inv-loop μ-loop
 sub-rest c = search needs
 
--- src/lib.rt:98:44
 sub-pair-at : tie.Need-sub-pair-at Inv-loop μ-loop
 sub-pair-at c = search needs
 
--- src/lib.rt:98:26
 pair-at-requires : tie.Need-pair-at-requires Inv-loop μ-loop
 pair-at-requires c κs = search needs
 
@@ -62,7 +54,6 @@ page-last c =
     let l = c .before .before .before .before .loop in
     c .pair-at .ensures ∙ ap (λ (n : ℕ). spanAt (l .dst) (l .from + 8 * n - 8)) (page-size (c .before .before))
 
--- src/lib.rt:98:9
 add-requires : tie.Need-add-requires Inv-loop μ-loop
 add-requires c κs =
     let a = c .before .before .before .before .before .before .before .args in
@@ -76,19 +67,15 @@ add-requires c κs =
     let v = empty-fit (a .dst .now) (a .step) (a .start) (a .below) (a .under) (l .dst) (l .s) (l .at) (l .from) (l .rest) (l .inv) (omega arith) t in
     (omega arith, rw x u, rw y v)
 
--- src/lib.rt:99:9
 put-sums-requires : tie.Need-put-sums-requires Inv-loop μ-loop
 put-sums-requires c κs = search needs
 
--- src/lib.rt:100:9
 add-at : tie.Need-add-at Inv-loop μ-loop
 add-at c = search needs
 
--- src/lib.rt:94:5
 loop-less : tie.Need-loop-less Inv-loop μ-loop
 loop-less c = search needs
 
--- src/lib.rt:94:5
 loop-again : tie.Need-loop-again Inv-loop μ-loop
 loop-again c =
     let m = c .before .before .before .before .before in
@@ -102,11 +89,9 @@ loop-again c =
     rw (c .before .before .put-sums .ensures, e)
     (filling-next (a .dst .now) (a .step) (a .start) (a .below) (a .under) (l .dst) (l .s) (l .at) (l .from) (l .rest) (l .inv) (omega arith) t _ q)
 
--- src/lib.rt:81:1
 same-length : tie.Need-same-length Inv-loop μ-loop
 same-length c = search needs
 
--- src/lib.rt:81:1
 returns : tie.Need-returns Inv-loop μ-loop
 returns c =
     let a = c .before .before .before .before .args in

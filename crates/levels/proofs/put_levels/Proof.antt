@@ -1,6 +1,6 @@
 -- `put_levels` meets its contract. The invariant: the level that was put out last stands as level 0 does, and what is left gives the whole.
 -- Assumes nothing.
-use Prim.Native.Nat.{ℕ, _+_, _-_, _*_, _≤_, _<_}
+use Prim.Native.Nat.{_-_, _*_}
 use mathlib.Core.Path.{_≡_, refl, sym, ap, _∙_}
 use native.Mathlib.Omega.{arith}
 use lib.ListN.{length}
@@ -18,31 +18,24 @@ Inv-loop dst₀ step runs second page below₀ under₀ dst below under = LevelZ
 abbrev μ-loop : tie.MeasureT-loop
 μ-loop dst₀ step runs second page below₀ under₀ dst below under = under
 
--- src/lib.rt:109:9
 index-requires : tie.Need-index-requires Inv-loop μ-loop
 index-requires c κs = search needs
 
--- src/lib.rt:111:9
 index-requires-2 : tie.Need-index-requires-2 Inv-loop μ-loop
 index-requires-2 c κs = search needs
 
--- src/lib.rt:112:5
 loop-holds : tie.Need-loop-holds Inv-loop μ-loop
 loop-holds c = rw (c .index2 .ensures .0) (c .before .before .before .pre, refl)
 
--- src/lib.rt:113:30
 sub-size : tie.Need-sub-size Inv-loop μ-loop
 sub-size c = search needs
 
--- src/lib.rt:113:21
 add-size : tie.Need-add-size Inv-loop μ-loop
 add-size c = search needs
 
--- src/lib.rt:113:20
 div-size : tie.Need-div-size Inv-loop μ-loop
 div-size c = search needs
 
--- src/lib.rt:114:29
 mul-start : tie.Need-mul-start Inv-loop μ-loop
 mul-start c =
     let a = c .before .before .before .before .before .args in
@@ -52,7 +45,6 @@ mul-start c =
     let t = rw e at (c .loop-test .taken) in
     rw e (omega (arith, size-less (l .dst) (a .step) (l .under) (l .below) (l .inv .0) t))
 
--- src/lib.rt:114:21
 sub-start : tie.Need-sub-start Inv-loop μ-loop
 sub-start c =
     let a = c .before .before .before .before .before .args in
@@ -61,7 +53,6 @@ sub-start c =
     let t = rw e at (c .loop-test .taken) in
     rw e (start-least (l .dst) (a .step) (l .under) (l .below) (l .inv .0) t)
 
--- src/lib.rt:115:9
 put-level-requires : tie.Need-put-level-requires Inv-loop μ-loop
 put-level-requires c κs =
     let a = c .before .before .before .before .before .before .args in
@@ -70,7 +61,6 @@ put-level-requires c κs =
     let t = rw e at (c .before .loop-test .taken) in
     rw e (l .inv .0, start-ends (l .dst) (a .step) (l .under) (l .below) (l .inv .0) t (l .below - 8 * upTo (l .under) (a .step)) refl)
 
--- src/lib.rt:112:5
 loop-less : tie.Need-loop-less Inv-loop μ-loop
 loop-less c =
     let m = c .before .before .before .before in
@@ -80,7 +70,6 @@ loop-less c =
     let t = rw e at (m .loop-test .taken) in
     rw e (size-less (l .dst) (a .step) (l .under) (l .below) (l .inv .0) t)
 
--- src/lib.rt:112:5
 loop-again : tie.Need-loop-again Inv-loop μ-loop
 loop-again c =
     let m = c .before .before .before .before in
@@ -89,11 +78,11 @@ loop-again c =
     let l = m .before .loop in
     let t = rw e at (m .loop-test .taken) in
     let start = l .below - 8 * upTo (l .under) (a .step) in
-    rw (c .before .before .put-level .ensures, e)
-    (level-up (l .dst) (a .step) (l .under) (l .below) (l .inv .0) t start refl,
-    whole-up (l .dst) (a .step) (l .under) (l .below) (l .inv .0) t start refl ∙ l .inv .1)
+    rw (c .before .before .put-level .ensures, e) (
+      level-up (l .dst) (a .step) (l .under) (l .below) (l .inv .0) t start refl,
+      whole-up (l .dst) (a .step) (l .under) (l .below) (l .inv .0) t start refl ∙ l .inv .1,
+    )
 
--- src/lib.rt:105:1
 returns : tie.Need-returns Inv-loop μ-loop
 returns c =
     let a = c .before .before .before .before .before .args in
@@ -102,7 +91,6 @@ returns c =
     let t = rw e at (c .loop-test .left) in
     sym (climbing-end (l .dst) (a .step) (l .under) (l .below) t) ∙ l .inv .1
 
--- src/lib.rt:105:1
 same-length : tie.Need-same-length Inv-loop μ-loop
 same-length c = ap length (returns c) ∙ length-put _ 52 _
 
