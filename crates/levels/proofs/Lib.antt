@@ -1,0 +1,5 @@
+pub mod PairSums
+pub mod Reading
+pub mod Filling
+pub mod Climbing
+pub mod Parts
