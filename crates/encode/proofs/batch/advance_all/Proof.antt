@@ -1,69 +1,102 @@
-use borrow.Author.Needs.{needs}
+use Rattle.encode.proofs.Choice.{coder-runs, coder-positions, coder-based-at, coder-jumps-at, coder-pages, widths, width-wide, kind-rest, all-by}
+use Rattle.encode.specs.Encoder.{runsCoder, positionsCoder, basedCoder, jumpsCoder, pagesCoder}
+use mathlib.Core.Path.{_∙_}
+use native.Mathlib.Omega.{arith}
 use Rattle.encode.proofs.batch.advance_all.Statement.{statement}
 use Rattle.encode.proofs.batch.advance_all.Tie as tie
-use Rattle.encode.proofs.batch.advance_all.Reads as reads
-use Rattle.encode.proofs.batch.advance_all.Lts as lts
-use Rattle.encode.proofs.batch.based_taken_all.Reads as based-taken-all-reads
-use Rattle.encode.proofs.batch.jumps_taken_all.Reads as jumps-taken-all-reads
-use Rattle.encode.proofs.batch.pages_taken_all.Reads as pages-taken-all-reads
-use Rattle.encode.proofs.batch.positions_taken_all.Reads as positions-taken-all-reads
-use Rattle.encode.proofs.batch.runs_taken_all.Reads as runs-taken-all-reads
 
--- src/batch.rt:99:14
 runs-taken-all-requires : tie.Need-runs-taken-all-requires
-runs-taken-all-requires c κs = search needs
+runs-taken-all-requires c κs =
+    let p = c .before .before in
+    let a = p .args in
+    record { sound = p .pre .1; rising = p .pre .2 }
 
--- src/batch.rt:100:14
-positions-taken-all-requires : tie.Need-positions-taken-all-requires
-positions-taken-all-requires c κs = search needs
-
--- src/batch.rt:102:13
-based-taken-all-requires : tie.Need-based-taken-all-requires
-based-taken-all-requires c κs = search needs
-
--- src/batch.rt:104:13
-based-taken-all-requires-2 : tie.Need-based-taken-all-requires-2
-based-taken-all-requires-2 c κs = search needs
-
--- src/batch.rt:107:13
-jumps-taken-all-requires : tie.Need-jumps-taken-all-requires
-jumps-taken-all-requires c κs = search needs
-
--- src/batch.rt:109:13
-jumps-taken-all-requires-2 : tie.Need-jumps-taken-all-requires-2
-jumps-taken-all-requires-2 c κs = search needs
-
--- src/batch.rt:111:14
-pages-taken-all-requires : tie.Need-pages-taken-all-requires
-pages-taken-all-requires c κs = search needs
-
--- src/batch.rt:93:1
 returns : tie.Need-returns
-returns c = search needs
+returns c =
+    let p = c .before .before .before in
+    let a = p .args in
+    c .runs-taken-all .ensures ∙ all-by (a .s) (a .e) (a .ps .now) runsCoder (coder-runs (a .s) (c .before .match .keys1))
 
--- src/batch.rt:93:1
+positions-taken-all-requires : tie.Need-positions-taken-all-requires
+positions-taken-all-requires c κs =
+    let p = c .before .before in
+    let a = p .args in
+    record { sound = p .pre .1; rising = p .pre .2 }
+
 returns-2 : tie.Need-returns-2
-returns-2 c = search needs
+returns-2 c =
+    let p = c .before .before .before in
+    let a = p .args in
+    c .positions-taken-all .ensures ∙ all-by (a .s) (a .e) (a .ps .now) positionsCoder (coder-positions (a .s) (c .before .match .keys2))
 
--- src/batch.rt:93:1
+based-taken-all-requires : tie.Need-based-taken-all-requires
+based-taken-all-requires c κs =
+    let p = c .before .before .before .before in
+    let a = p .args in
+    let t = widths (a .s) (p .pre .0) .based (c .before .before .match .keys3) in
+    (record { sound = p .pre .1; rising = p .pre .2 }, omega arith, omega arith, t .2)
+
 returns-3 : tie.Need-returns-3
-returns-3 c = search needs
+returns-3 c =
+    let p = c .before .before .before .before .before in
+    let a = p .args in
+    c .based-taken-all .ensures ∙ all-by (a .s) (a .e) (a .ps .now) (basedCoder 1 (a .s .step)) (coder-based-at (a .s) 1 (c .before .before .before .match .keys3) (c .before .if1 .taken))
 
--- src/batch.rt:93:1
+based-taken-all-requires-2 : tie.Need-based-taken-all-requires-2
+based-taken-all-requires-2 c κs =
+    let p = c .before .before .before .before in
+    let a = p .args in
+    let t = widths (a .s) (p .pre .0) .based (c .before .before .match .keys3) in
+    (record { sound = p .pre .1; rising = p .pre .2 }, omega arith, omega arith, t .2)
+
 returns-4 : tie.Need-returns-4
-returns-4 c = search needs
+returns-4 c =
+    let p = c .before .before .before .before .before in
+    let a = p .args in
+    let t = widths (a .s) (p .pre .0) .based (c .before .before .before .match .keys3) in
+    c .based-taken-all2 .ensures ∙ all-by (a .s) (a .e) (a .ps .now) (basedCoder 2 (a .s .step)) (coder-based-at (a .s) 2 (c .before .before .before .match .keys3) (width-wide (a .s .width) (t .0) (t .1) (c .before .if1 .left)))
 
--- src/batch.rt:93:1
+jumps-taken-all-requires : tie.Need-jumps-taken-all-requires
+jumps-taken-all-requires c κs =
+    let p = c .before .before .before .before in
+    let a = p .args in
+    let t = widths (a .s) (p .pre .0) .jumps (c .before .before .match .keys4) in
+    (record { sound = p .pre .1; rising = p .pre .2 }, omega arith, omega arith)
+
 returns-5 : tie.Need-returns-5
-returns-5 c = search needs
+returns-5 c =
+    let p = c .before .before .before .before .before in
+    let a = p .args in
+    c .jumps-taken-all .ensures ∙ all-by (a .s) (a .e) (a .ps .now) (jumpsCoder 1) (coder-jumps-at (a .s) 1 (c .before .before .before .match .keys4) (c .before .if2 .taken))
 
--- src/batch.rt:93:1
+jumps-taken-all-requires-2 : tie.Need-jumps-taken-all-requires-2
+jumps-taken-all-requires-2 c κs =
+    let p = c .before .before .before .before in
+    let a = p .args in
+    let t = widths (a .s) (p .pre .0) .jumps (c .before .before .match .keys4) in
+    (record { sound = p .pre .1; rising = p .pre .2 }, omega arith, omega arith)
+
 returns-6 : tie.Need-returns-6
-returns-6 c = search needs
+returns-6 c =
+    let p = c .before .before .before .before .before in
+    let a = p .args in
+    let t = widths (a .s) (p .pre .0) .jumps (c .before .before .before .match .keys4) in
+    c .jumps-taken-all2 .ensures ∙ all-by (a .s) (a .e) (a .ps .now) (jumpsCoder 2) (coder-jumps-at (a .s) 2 (c .before .before .before .match .keys4) (width-wide (a .s .width) (t .0) (t .1) (c .before .if2 .left)))
 
--- src/batch.rt:93:1
+pages-taken-all-requires : tie.Need-pages-taken-all-requires
+pages-taken-all-requires c κs =
+    let p = c .before .before in
+    let a = p .args in
+    let m = c .match .rest in
+    let t = widths (a .s) (p .pre .0) .pages (kind-rest (a .s) (p .pre .0) (m .0 .0 .0 .1) (m .0 .0 .1) (m .0 .1) (m .1)) in
+    (record { sound = p .pre .1; rising = p .pre .2 }, t)
+
 returns-7 : tie.Need-returns-7
-returns-7 c = search needs
+returns-7 c =
+    let p = c .before .before .before in
+    let a = p .args in
+    let m = c .before .match .rest in
+    c .pages-taken-all .ensures ∙ all-by (a .s) (a .e) (a .ps .now) (pagesCoder (a .s .step)) (coder-pages (a .s) (kind-rest (a .s) (p .pre .0) (m .0 .0 .0 .1) (m .0 .0 .1) (m .0 .1) (m .1)))
 
 pub advance-all-spec : {M : Type 1} → statement M
 advance-all-spec =
