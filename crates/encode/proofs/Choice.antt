@@ -93,9 +93,9 @@ module _ (s : Setting) (e : Encoder) (p : ℕ) (k : Coder) (h : coder s ≡ k) w
 -- ---- many positions, by the kind
 
 module _ (s : Setting) (e : Encoder) (ls : List ℕ) (k : Coder) (h : coder s ≡ k) where
-  pub all-by : takenAllBy k e ls ≡ takenAll s e ls
+  pub all-by : {r : Encoder} → r ≡ takenAllBy k e ls → r ≡ takenAll s e ls
   unfolding takenAll
-  all-by = ap (λ (x : Coder). takenAllBy x e ls) (sym h)
+  all-by t = t ∙ ap (λ (x : Coder). takenAllBy x e ls) (sym h)
 
   pub room-all-by : (n : ℕ) → e .first + length (addedFirst s e ls) ≤ e .second → e .second + length (addedSecond s e ls) ≤ n → RoomAll k e ls n
   unfolding addedFirst addedSecond
@@ -104,7 +104,7 @@ module _ (s : Setting) (e : Encoder) (ls : List ℕ) (k : Coder) (h : coder s �
   pub written-all-by : (d : List ℕ) {r : Encoder} {o : List ℕ} → (r ≡ takenAllBy k e ls) × (o ≡ putAllBy k d e ls)
       → (r ≡ takenAll s e ls) × (o ≡ put (put d (e .first) (addedFirst s e ls)) (e .second) (addedSecond s e ls))
   unfolding putAllBy addedFirst addedSecond
-  written-all-by d t = (t .0 ∙ all-by, t .1 ∙ ap (λ (x : Coder). putAllBy x d e ls) (sym h))
+  written-all-by d t = (all-by (t .0), t .1 ∙ ap (λ (x : Coder). putAllBy x d e ls) (sym h))
 
 -- ---- the end
 

@@ -11,3 +11,4 @@ pub mod Steps
 pub mod Choice
 pub mod Turn
 pub mod Along
+pub mod Batches

@@ -1,6 +1,5 @@
 use Rattle.encode.proofs.Choice.{coder-runs, coder-positions, coder-based-at, coder-jumps-at, coder-pages, widths, width-wide, kind-rest, all-by}
 use Rattle.encode.specs.Encoder.{runsCoder, positionsCoder, basedCoder, jumpsCoder, pagesCoder}
-use mathlib.Core.Path.{_∙_}
 use native.Mathlib.Omega.{arith}
 use Rattle.encode.proofs.batch.advance_all.Statement.{statement}
 use Rattle.encode.proofs.batch.advance_all.Tie as tie
@@ -15,7 +14,7 @@ returns : tie.Need-returns
 returns c =
     let p = c .before .before .before in
     let a = p .args in
-    c .runs-taken-all .ensures ∙ all-by (a .s) (a .e) (a .ps .now) runsCoder (coder-runs (a .s) (c .before .match .keys1))
+    all-by (a .s) (a .e) (a .ps .now) runsCoder (coder-runs (a .s) (c .before .match .keys1)) (c .runs-taken-all .ensures)
 
 positions-taken-all-requires : tie.Need-positions-taken-all-requires
 positions-taken-all-requires c κs =
@@ -27,7 +26,7 @@ returns-2 : tie.Need-returns-2
 returns-2 c =
     let p = c .before .before .before in
     let a = p .args in
-    c .positions-taken-all .ensures ∙ all-by (a .s) (a .e) (a .ps .now) positionsCoder (coder-positions (a .s) (c .before .match .keys2))
+    all-by (a .s) (a .e) (a .ps .now) positionsCoder (coder-positions (a .s) (c .before .match .keys2)) (c .positions-taken-all .ensures)
 
 based-taken-all-requires : tie.Need-based-taken-all-requires
 based-taken-all-requires c κs =
@@ -40,7 +39,7 @@ returns-3 : tie.Need-returns-3
 returns-3 c =
     let p = c .before .before .before .before .before in
     let a = p .args in
-    c .based-taken-all .ensures ∙ all-by (a .s) (a .e) (a .ps .now) (basedCoder 1 (a .s .step)) (coder-based-at (a .s) 1 (c .before .before .before .match .keys3) (c .before .if1 .taken))
+    all-by (a .s) (a .e) (a .ps .now) (basedCoder 1 (a .s .step)) (coder-based-at (a .s) 1 (c .before .before .before .match .keys3) (c .before .if1 .taken)) (c .based-taken-all .ensures)
 
 based-taken-all-requires-2 : tie.Need-based-taken-all-requires-2
 based-taken-all-requires-2 c κs =
@@ -54,7 +53,7 @@ returns-4 c =
     let p = c .before .before .before .before .before in
     let a = p .args in
     let t = widths (a .s) (p .pre .0) .based (c .before .before .before .match .keys3) in
-    c .based-taken-all2 .ensures ∙ all-by (a .s) (a .e) (a .ps .now) (basedCoder 2 (a .s .step)) (coder-based-at (a .s) 2 (c .before .before .before .match .keys3) (width-wide (a .s .width) (t .0) (t .1) (c .before .if1 .left)))
+    all-by (a .s) (a .e) (a .ps .now) (basedCoder 2 (a .s .step)) (coder-based-at (a .s) 2 (c .before .before .before .match .keys3) (width-wide (a .s .width) (t .0) (t .1) (c .before .if1 .left))) (c .based-taken-all2 .ensures)
 
 jumps-taken-all-requires : tie.Need-jumps-taken-all-requires
 jumps-taken-all-requires c κs =
@@ -67,7 +66,7 @@ returns-5 : tie.Need-returns-5
 returns-5 c =
     let p = c .before .before .before .before .before in
     let a = p .args in
-    c .jumps-taken-all .ensures ∙ all-by (a .s) (a .e) (a .ps .now) (jumpsCoder 1) (coder-jumps-at (a .s) 1 (c .before .before .before .match .keys4) (c .before .if2 .taken))
+    all-by (a .s) (a .e) (a .ps .now) (jumpsCoder 1) (coder-jumps-at (a .s) 1 (c .before .before .before .match .keys4) (c .before .if2 .taken)) (c .jumps-taken-all .ensures)
 
 jumps-taken-all-requires-2 : tie.Need-jumps-taken-all-requires-2
 jumps-taken-all-requires-2 c κs =
@@ -81,7 +80,7 @@ returns-6 c =
     let p = c .before .before .before .before .before in
     let a = p .args in
     let t = widths (a .s) (p .pre .0) .jumps (c .before .before .before .match .keys4) in
-    c .jumps-taken-all2 .ensures ∙ all-by (a .s) (a .e) (a .ps .now) (jumpsCoder 2) (coder-jumps-at (a .s) 2 (c .before .before .before .match .keys4) (width-wide (a .s .width) (t .0) (t .1) (c .before .if2 .left)))
+    all-by (a .s) (a .e) (a .ps .now) (jumpsCoder 2) (coder-jumps-at (a .s) 2 (c .before .before .before .match .keys4) (width-wide (a .s .width) (t .0) (t .1) (c .before .if2 .left))) (c .jumps-taken-all2 .ensures)
 
 pages-taken-all-requires : tie.Need-pages-taken-all-requires
 pages-taken-all-requires c κs =
@@ -96,7 +95,7 @@ returns-7 c =
     let p = c .before .before .before in
     let a = p .args in
     let m = c .before .match .rest in
-    c .pages-taken-all .ensures ∙ all-by (a .s) (a .e) (a .ps .now) (pagesCoder (a .s .step)) (coder-pages (a .s) (kind-rest (a .s) (p .pre .0) (m .0 .0 .0 .1) (m .0 .0 .1) (m .0 .1) (m .1)))
+    all-by (a .s) (a .e) (a .ps .now) (pagesCoder (a .s .step)) (coder-pages (a .s) (kind-rest (a .s) (p .pre .0) (m .0 .0 .0 .1) (m .0 .0 .1) (m .0 .1) (m .1))) (c .pages-taken-all .ensures)
 
 pub advance-all-spec : {M : Type 1} → statement M
 advance-all-spec =
