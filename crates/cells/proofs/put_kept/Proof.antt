@@ -1,0 +1,107 @@
+use Prim.Native.Nat.{ℕ, _+_, _-_, _*_, _≤_, _<_}
+use mathlib.Core.Path.{_≡_, refl, sym, ap, _∙_}
+use native.Mathlib.Nat.{add-zero}
+use native.Mathlib.Omega.{arith}
+use lib.ListN.{length, drop, getD}
+use Rattle.format.specs.Bytes.{bytesOf}
+use Rattle.format.specs.Stored.{kept}
+use Rattle.laws.proofs.Stored.{length-stored}
+use Rattle.stores.specs.Put.{put}
+use Rattle.stores.proofs.Laws.{length-put, put-numbers-drop, put-numbers-end}
+use Rattle.cells.proofs.Stored.{cell-of}
+use borrow.Author.Needs.{needs}
+use Rattle.cells.proofs.put_kept.Statement.{statement}
+use Rattle.cells.proofs.put_kept.Tie as tie
+use Rattle.cells.proofs.put_kept.Reads as reads
+use Rattle.cells.proofs.put_kept.Lts as lts
+use Rattle.stores.proofs.put_u32.Reads as put-u32-reads
+
+abbrev Inv-loop : tie.InvT-loop
+Inv-loop dst₀ place words at empty ps rank₀ dst rank =
+    (rank ≤ length ps) × (length dst ≡ length dst₀)
+    × (put dst (place + 4 * rank) (bytesOf 4 (drop rank (kept empty words))) ≡ put dst₀ place (bytesOf 4 (kept empty words)))
+
+abbrev μ-loop : tie.MeasureT-loop
+μ-loop dst₀ place words at empty ps rank₀ dst rank = length ps - rank
+
+-- src/lib.rt:76:5
+loop-holds : tie.Need-loop-holds Inv-loop μ-loop
+loop-holds c = (omega arith, refl, rw add-zero)
+
+-- src/lib.rt:77:21
+mul-cell : tie.Need-mul-cell Inv-loop μ-loop
+mul-cell c = search needs
+
+-- src/lib.rt:77:21
+shared-slice-read-cell : tie.Need-shared-slice-read-cell Inv-loop μ-loop
+shared-slice-read-cell c = search needs
+
+-- src/lib.rt:77:21
+sub-cell : tie.Need-sub-cell Inv-loop μ-loop
+sub-cell c = search needs
+
+-- src/lib.rt:77:20
+cast-cell : tie.Need-cast-cell Inv-loop μ-loop
+cast-cell c = search needs
+
+-- src/lib.rt:78:30
+mul-put-u32 : tie.Need-mul-put-u32 Inv-loop μ-loop
+mul-put-u32 c = search needs
+
+-- src/lib.rt:78:22
+add-put-u32 : tie.Need-add-put-u32 Inv-loop μ-loop
+add-put-u32 c = search needs
+
+-- src/lib.rt:78:40
+mul-put-u32-2 : tie.Need-mul-put-u32-2 Inv-loop μ-loop
+mul-put-u32-2 c = search needs
+
+-- src/lib.rt:78:40
+shared-slice-read-put-u32 : tie.Need-shared-slice-read-put-u32 Inv-loop μ-loop
+shared-slice-read-put-u32 c = search needs
+
+-- src/lib.rt:78:9
+put-u32-requires : tie.Need-put-u32-requires Inv-loop μ-loop
+put-u32-requires c κs = search needs
+
+-- src/lib.rt:79:9
+add-rank : tie.Need-add-rank Inv-loop μ-loop
+add-rank c = search needs
+
+-- src/lib.rt:76:5
+loop-less : tie.Need-loop-less Inv-loop μ-loop
+loop-less c = search needs
+
+-- src/lib.rt:76:5
+loop-again : tie.Need-loop-again Inv-loop μ-loop
+loop-again c = search needs
+
+-- src/lib.rt:71:1
+same-length : tie.Need-same-length Inv-loop μ-loop
+same-length c = search needs
+
+-- src/lib.rt:71:1
+returns : tie.Need-returns Inv-loop μ-loop
+returns c = search needs
+
+pub put-kept-spec : {M : Type 1} → statement M
+put-kept-spec =
+    tie.close
+    (tie.spec
+    Inv-loop
+    μ-loop
+    loop-holds
+    mul-cell
+    shared-slice-read-cell
+    sub-cell
+    cast-cell
+    mul-put-u32
+    add-put-u32
+    mul-put-u32-2
+    shared-slice-read-put-u32
+    put-u32-requires
+    add-rank
+    loop-less
+    loop-again
+    same-length
+    returns)
