@@ -30,11 +30,19 @@ fn all_empty(words: &[u32], from: usize, empty: u32) -> bool
 }
 
 // The positions of the stored cells from one index to another, listed after the first n elements of `out`; the number listed then.
-fn list_cells(words: &[u32], from: usize, to: usize, at: u32, empty: u32, out: &mut [u32], n: usize) -> usize
+fn list_cells(
+    words: &[u32],
+    from: usize,
+    to: usize,
+    at: u32,
+    empty: u32,
+    out: &mut [u32],
+    n: usize,
+) -> usize
     requires { ⌜ (n ≤ from) × (from ≤ to) × (to ≤ length (now words)) × (at + length (now words) ≤ 2 ^ 32 - 1) × (length (now words) ≤ length (now out)) ⌝ }
     ensures { λ r. ⌜ (r ≤ to)
         × (take r (now (out .exit)) ++ storedFrom empty (at + to) (drop to (now (words .entry)))
-          ≡ take n (now (out .entry)) ++ storedFrom empty (at + from) (drop from (now (words .entry)))) ⌝ }
+        ≡ take n (now (out .entry)) ++ storedFrom empty (at + from) (drop from (now (words .entry)))) ⌝ }
 {
     let mut listed = n;
     let mut i = from;

@@ -2,13 +2,11 @@ use Prim.Native.Nat.{ℕ, _+_, _-_, _*_, _≤_, _<_}
 use mathlib.Core.Path.{_≡_, refl, sym, ap, _∙_}
 use native.Mathlib.Nat.{add-zero}
 use native.Mathlib.Omega.{arith}
-use lib.ListN.{length, drop, getD}
+use lib.ListN.{length, drop}
 use Rattle.format.specs.Bytes.{bytesOf}
 use Rattle.format.specs.Stored.{kept}
-use Rattle.laws.proofs.Stored.{length-stored}
 use Rattle.stores.specs.Put.{put}
-use Rattle.stores.proofs.Laws.{length-put, put-numbers-drop, put-numbers-end}
-use Rattle.cells.proofs.Stored.{cell-of}
+use Rattle.cells.proofs.Kept.{cell-listed, kept-turn, kept-end}
 use borrow.Author.Needs.{needs}
 use Rattle.cells.proofs.put_kept.Statement.{statement}
 use Rattle.cells.proofs.put_kept.Tie as tie
@@ -38,11 +36,19 @@ shared-slice-read-cell c = search needs
 
 -- src/lib.rt:77:21
 sub-cell : tie.Need-sub-cell Inv-loop μ-loop
-sub-cell c = search needs
+sub-cell c =
+    let a = c .before .before .before .before .before .before .args in
+    let l = c .before .before .loop in
+    let w = cell-listed (a .empty) (a .at) (a .words .now) (a .ps .now) (c .before .before .before .before .before .before .pre .0) (l .rank) (c .before .loop-test .taken) in
+    omega arith
 
 -- src/lib.rt:77:20
 cast-cell : tie.Need-cast-cell Inv-loop μ-loop
-cast-cell c = search needs
+cast-cell c =
+    let a = c .before .before .before .before .before .before .args in
+    let l = c .before .before .loop in
+    let w = cell-listed (a .empty) (a .at) (a .words .now) (a .ps .now) (c .before .before .before .before .before .before .pre .0) (l .rank) (c .before .loop-test .taken) in
+    omega arith
 
 -- src/lib.rt:78:30
 mul-put-u32 : tie.Need-mul-put-u32 Inv-loop μ-loop
@@ -54,11 +60,19 @@ add-put-u32 c = search needs
 
 -- src/lib.rt:78:40
 mul-put-u32-2 : tie.Need-mul-put-u32-2 Inv-loop μ-loop
-mul-put-u32-2 c = search needs
+mul-put-u32-2 c =
+    let a = c .before .before .before .before .before .before .before .args in
+    let l = c .before .before .before .loop in
+    let w = cell-listed (a .empty) (a .at) (a .words .now) (a .ps .now) (c .before .before .before .before .before .before .before .pre .0) (l .rank) (c .before .before .loop-test .taken) in
+    omega arith
 
 -- src/lib.rt:78:40
 shared-slice-read-put-u32 : tie.Need-shared-slice-read-put-u32 Inv-loop μ-loop
-shared-slice-read-put-u32 c = search needs
+shared-slice-read-put-u32 c =
+    let a = c .before .before .before .before .before .before .before .before .args in
+    let l = c .before .before .before .before .loop in
+    let w = cell-listed (a .empty) (a .at) (a .words .now) (a .ps .now) (c .before .before .before .before .before .before .before .before .pre .0) (l .rank) (c .before .before .before .loop-test .taken) in
+    omega arith
 
 -- src/lib.rt:78:9
 put-u32-requires : tie.Need-put-u32-requires Inv-loop μ-loop
@@ -74,7 +88,14 @@ loop-less c = search needs
 
 -- src/lib.rt:76:5
 loop-again : tie.Need-loop-again Inv-loop μ-loop
-loop-again c = search needs
+loop-again c =
+    let a = c .before .before .before .before .before .before .before .before .before .before .before .args in
+    let l = c .before .before .before .before .before .before .before .loop in
+    let turn = kept-turn (a .empty) (a .at) (a .words .now) (a .ps .now) (c .before .before .before .before .before .before .before .before .before .before .before .pre .0) (l .dst) (a .place) (l .rank) (c .before .before .before .before .before .before .loop-test .taken) in (
+      search needs,
+      search needs,
+      rw (c .before .before .put-u32 .ensures) (turn ∙ l .inv .2),
+    )
 
 -- src/lib.rt:71:1
 same-length : tie.Need-same-length Inv-loop μ-loop
@@ -82,7 +103,10 @@ same-length c = search needs
 
 -- src/lib.rt:71:1
 returns : tie.Need-returns Inv-loop μ-loop
-returns c = search needs
+returns c =
+    let a = c .before .before .before .before .before .args in
+    let l = c .before .loop in
+    sym (kept-end (a .empty) (a .at) (a .words .now) (a .ps .now) (c .before .before .before .before .before .pre .0) (l .dst) (a .place + 4 * l .rank) (l .rank) (c .loop-test .left)) ∙ l .inv .2
 
 pub put-kept-spec : {M : Type 1} → statement M
 put-kept-spec =

@@ -5,6 +5,7 @@ use native.Mathlib.Omega.{arith}
 use lib.ListN.{length}
 use Rattle.format.specs.Stored.{storedFrom}
 use Rattle.cells.proofs.Stored.{listedFrom, group-skipped, all-listed}
+use borrow.Author.Tests.{not-false}
 use borrow.Author.Needs.{needs}
 use Rattle.cells.proofs.stored_cells.Statement.{statement}
 use Rattle.cells.proofs.stored_cells.Tie as tie
@@ -46,7 +47,7 @@ loop-less c = search needs
 
 -- src/lib.rt:60:5
 loop-again : tie.Need-loop-again Inv-loop μ-loop
-loop-again c = search needs
+loop-again c = (search needs, search needs, search needs, c .before .before .list-cells .ensures .1 ∙ c .before .before .before .before .before .before .before .loop .inv .3)
 
 -- src/lib.rt:60:5
 loop-less-2 : tie.Need-loop-less-2 Inv-loop μ-loop
@@ -54,7 +55,15 @@ loop-less-2 c = search needs
 
 -- src/lib.rt:60:5
 loop-again-2 : tie.Need-loop-again-2 Inv-loop μ-loop
-loop-again-2 c = search needs
+loop-again-2 c =
+    let a = c .before .before .before .before .before .before .args in
+    let l = c .before .before .before .loop in
+    let all = sym (c .before .all-empty .ensures) ∙ not-false _ (c .if1 .left) in (
+      search needs,
+      search needs,
+      search needs,
+      group-skipped (a .empty) (a .at) (a .words .now) (l .out) (l .listed) (l .i) 16 (omega arith) all ∙ l .inv .3,
+    )
 
 -- src/lib.rt:67:5
 list-cells-requires-2 : tie.Need-list-cells-requires-2 Inv-loop μ-loop
@@ -66,7 +75,10 @@ same-length c = search needs
 
 -- src/lib.rt:53:1
 returns : tie.Need-returns Inv-loop μ-loop
-returns c = search needs
+returns c =
+    let a = c .before .before .before .before .before .before .before .before .args in
+    let l = c .before .before .before .before .before .loop in
+    all-listed (a .empty) (a .at) (a .words .now) _ (c .before .before .list-cells2 .result) (search needs) (c .before .before .list-cells2 .ensures .1 ∙ l .inv .3)
 
 pub stored-cells-spec : {M : Type 1} → statement M
 stored-cells-spec =
