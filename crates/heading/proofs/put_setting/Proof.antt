@@ -1,0 +1,53 @@
+use Prim.Native.Nat.{ℕ}
+use mathlib.Core.Path.{_≡_, ap, _∙_}
+use mathlib.Core.List.{List}
+use Rattle.format.specs.Bytes.{bytes}
+use Rattle.stores.specs.Put.{put}
+use Rattle.heading.proofs.Laws.{put-four}
+use borrow.Author.Needs.{needs}
+use Rattle.heading.proofs.put_setting.Statement.{statement}
+use Rattle.heading.proofs.put_setting.Tie as tie
+use Rattle.heading.proofs.put_setting.Reads as reads
+use Rattle.heading.proofs.put_setting.Lts as lts
+use Rattle.stores.proofs.put_u8.Reads as put-u8-reads
+
+-- src/lib.rt:29:5
+put-u8-requires : tie.Need-put-u8-requires
+put-u8-requires c κs = search needs
+
+-- src/lib.rt:30:5
+put-u8-requires-2 : tie.Need-put-u8-requires-2
+put-u8-requires-2 c κs = search needs
+
+-- src/lib.rt:31:5
+put-u8-requires-3 : tie.Need-put-u8-requires-3
+put-u8-requires-3 c κs = search needs
+
+-- src/lib.rt:32:5
+put-u8-requires-4 : tie.Need-put-u8-requires-4
+put-u8-requires-4 c κs = search needs
+
+-- src/lib.rt:25:1
+same-length : tie.Need-same-length
+same-length c = search needs
+
+-- src/lib.rt:25:1
+returns : tie.Need-returns
+returns c =
+    let a = c .before .before .before .before .before .before .before .before .before .before .before .before .before .before .before .before .before .args in
+    c .before .before .put-u84 .ensures
+    ∙ ap (λ (l : List ℕ). put l 3 (bytes 1 (a .s .step))) (c .before .before .before .before .before .before .put-u83 .ensures)
+    ∙ ap (λ (l : List ℕ). put (put l 2 (bytes 1 (a .s .width))) 3 (bytes 1 (a .s .step))) (c .before .before .before .before .before .before .before .before .before .before .put-u82 .ensures)
+    ∙ ap (λ (l : List ℕ). put (put (put l 1 (bytes 1 (a .count))) 2 (bytes 1 (a .s .width))) 3 (bytes 1 (a .s .step))) (c .before .before .before .before .before .before .before .before .before .before .before .before .before .before .put-u8 .ensures)
+    ∙ put-four (a .dst .now) (a .s .kind) (a .count) (a .s .width) (a .s .step)
+
+pub put-setting-spec : {M : Type 1} → statement M
+put-setting-spec =
+    tie.close
+    (tie.spec
+    put-u8-requires
+    put-u8-requires-2
+    put-u8-requires-3
+    put-u8-requires-4
+    same-length
+    returns)
