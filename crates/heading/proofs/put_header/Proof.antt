@@ -1,3 +1,8 @@
+use mathlib.Core.Path.{_≡_}
+use native.Mathlib.Omega.{arith}
+use lib.ListN.{length}
+use Rattle.heading.specs.Counted.{countsIn}
+use Rattle.heading.proofs.Laws.{put-pieces}
 use borrow.Author.Needs.{needs}
 use Rattle.heading.proofs.put_header.Statement.{statement}
 use Rattle.heading.proofs.put_header.Tie as tie
@@ -5,6 +10,9 @@ use Rattle.heading.proofs.put_header.Reads as reads
 use Rattle.heading.proofs.put_header.Lts as lts
 use Rattle.heading.proofs.put_numbers.Reads as put-numbers-reads
 use Rattle.heading.proofs.put_setting.Reads as put-setting-reads
+
+four : (c : tie.Start) → length (c .args .d .extents) ≡ 4
+four c = search needs
 
 -- src/lib.rt:53:18
 add-second : tie.Need-add-second
@@ -32,7 +40,7 @@ slice-aggregate-put-numbers c = search needs
 
 -- src/lib.rt:58:5
 put-numbers-requires : tie.Need-put-numbers-requires
-put-numbers-requires c κs = search needs
+put-numbers-requires c κs = let h = four (c .before .before .before .before .before .before .before .before .before .before .before) in search needs
 
 -- src/lib.rt:59:26
 slice-aggregate-put-numbers-2 : tie.Need-slice-aggregate-put-numbers-2
@@ -48,7 +56,10 @@ same-length c = search needs
 
 -- src/lib.rt:48:1
 returns : tie.Need-returns
-returns c = search needs
+returns c =
+    let a = c .before .before .before .before .before .before .before .before .before .before .before .before .before .before .before .before .before .before .before .args in
+    put-pieces (a .s) (a .d) (a .empty) (countsIn (a .z)) (a .dst .now) (four (c .before .before .before .before .before .before .before .before .before .before .before .before .before .before .before .before .before .before .before)) (c .before .before .before .before .before .before .before .before .before .before .before .before .put-setting .ensures) (c .before .before .before .before .before .before .before .put-numbers .ensures)
+    (c .before .before .put-numbers2 .ensures)
 
 pub put-header-spec : {M : Type 1} → statement M
 put-header-spec =

@@ -1,8 +1,3 @@
-use Prim.Native.Nat.{ℕ}
-use mathlib.Core.Path.{_≡_, ap, _∙_}
-use mathlib.Core.List.{List}
-use Rattle.format.specs.Bytes.{bytes}
-use Rattle.stores.specs.Put.{put}
 use Rattle.heading.proofs.Laws.{put-four}
 use borrow.Author.Needs.{needs}
 use Rattle.heading.proofs.put_setting.Statement.{statement}
@@ -35,11 +30,8 @@ same-length c = search needs
 returns : tie.Need-returns
 returns c =
     let a = c .before .before .before .before .before .before .before .before .before .before .before .before .before .before .before .before .before .args in
-    c .before .before .put-u84 .ensures
-    ∙ ap (λ (l : List ℕ). put l 3 (bytes 1 (a .s .step))) (c .before .before .before .before .before .before .put-u83 .ensures)
-    ∙ ap (λ (l : List ℕ). put (put l 2 (bytes 1 (a .s .width))) 3 (bytes 1 (a .s .step))) (c .before .before .before .before .before .before .before .before .before .before .put-u82 .ensures)
-    ∙ ap (λ (l : List ℕ). put (put (put l 1 (bytes 1 (a .count))) 2 (bytes 1 (a .s .width))) 3 (bytes 1 (a .s .step))) (c .before .before .before .before .before .before .before .before .before .before .before .before .before .before .put-u8 .ensures)
-    ∙ put-four (a .dst .now) (a .s .kind) (a .count) (a .s .width) (a .s .step)
+    put-four (a .dst .now) (a .s .kind) (a .count) (a .s .width) (a .s .step) (c .before .before .before .before .before .before .before .before .before .before .before .before .before .before .put-u8 .ensures) (c .before .before .before .before .before .before .before .before .before .before .put-u82 .ensures)
+    (c .before .before .before .before .before .before .put-u83 .ensures) (c .before .before .put-u84 .ensures)
 
 pub put-setting-spec : {M : Type 1} → statement M
 put-setting-spec =
