@@ -1,6 +1,6 @@
 -- The header put in three pieces, and its length. Assumes nothing.
-use Prim.Native.Nat.{ℕ, _+_, _*_, _≤_, _<_}
-use mathlib.Core.Path.{_≡_, refl, sym, ap, _∙_}
+use Prim.Native.Nat.{ℕ, _+_, _*_, _<_}
+use mathlib.Core.Path.{_≡_, sym, _∙_}
 use mathlib.Core.List.{List, [], _∷_, _++_}
 use native.Mathlib.Omega.{arith}
 use lib.ListN.{length, drop, getD, length-append}
@@ -10,7 +10,7 @@ use Rattle.format.specs.Bytes.{bytes, bytesOf}
 use Rattle.format.specs.File.{Counts, header}
 use Rattle.laws.proofs.Bytes.{length-bytesOf}
 use Rattle.stores.specs.Put.{put}
-use Rattle.stores.proofs.Laws.{put-nil, put-append, put-numbers-cons, put-numbers-nil, put-numbers-drop}
+use Rattle.stores.proofs.Laws.{put-append, put-numbers-cons, put-numbers-nil, put-numbers-drop}
 
 -- four numbers of one byte, one by one
 pub put-four : (b0 : List ℕ) (w x y z : ℕ) {b1 b2 b3 b4 : List ℕ}
@@ -27,9 +27,9 @@ numbers-turn d at xs i h =
 
 pub length-header : (s : Setting) (d : Dimensions) (E : ℕ) (n : Counts) → length (d .extents) ≡ 4 → length (header s d E n) ≡ 52
 unfolding header
-length-header s d E n h = rw (length-append, length-append, length-bytesOf, length-bytesOf, length-bytesOf, h)
+length-header s d E n h = simp (length-append, length-bytesOf, h)
 
--- the header from the second number of four bytes on: the empty word, the counts and the offsets
+-- what follows the extents: the empty word, the counts, the offsets and the length
 abbrev pub fields : ℕ → Counts → List ℕ
 fields E n =
     E

@@ -1,5 +1,6 @@
+-- `all_empty` meets its contract: what was seen so far, and the rest of the group, give the answer. Assumes nothing.
 use Prim.Native.Nat.{ℕ, suc, _+_, _-_, _≤_, _<_}
-use mathlib.Core.Path.{_≡_, sym, ap, _∙_}
+use mathlib.Core.Path.{_≡_, sym, _∙_}
 use mathlib.Core.List.{List}
 use mathlib.Core.Logic.{⊎-elim}
 use native.Mathlib.Nat.{add-zero}
@@ -11,8 +12,6 @@ use Rattle.cells.proofs.Stored.{empties, not-all, all-yet, all-end}
 use borrow.Author.Needs.{needs}
 use Rattle.cells.proofs.all_empty.Statement.{statement}
 use Rattle.cells.proofs.all_empty.Tie as tie
-use Rattle.cells.proofs.all_empty.Reads as reads
-use Rattle.cells.proofs.all_empty.Lts as lts
 
 abbrev Inv-loop : tie.InvT-loop
 Inv-loop words from empty same₀ i₀ same i =
@@ -21,31 +20,24 @@ Inv-loop words from empty same₀ i₀ same i =
 abbrev μ-loop : tie.MeasureT-loop
 μ-loop words from empty same₀ i₀ same i = 16 - i
 
--- src/lib.rt:23:5
 loop-holds : tie.Need-loop-holds Inv-loop μ-loop
 loop-holds c = (omega arith, rw add-zero)
 
--- src/lib.rt:24:18
 add-if1 : tie.Need-add-if1 Inv-loop μ-loop
 add-if1 c = search needs
 
--- src/lib.rt:24:12
 mul-if1 : tie.Need-mul-if1 Inv-loop μ-loop
 mul-if1 c = search needs
 
--- src/lib.rt:24:12
 shared-slice-read-if1 : tie.Need-shared-slice-read-if1 Inv-loop μ-loop
 shared-slice-read-if1 c = search needs
 
--- src/lib.rt:27:9
 add-i : tie.Need-add-i Inv-loop μ-loop
 add-i c = search needs
 
--- src/lib.rt:23:5
 loop-less : tie.Need-loop-less Inv-loop μ-loop
 loop-less c = search needs
 
--- src/lib.rt:23:5
 loop-again : tie.Need-loop-again Inv-loop μ-loop
 loop-again c =
     let a = c .before .before .before .before .args in
@@ -64,7 +56,6 @@ loop-again c =
           (c .if1 .came),
     )
 
--- src/lib.rt:17:1
 returns : tie.Need-returns Inv-loop μ-loop
 returns c =
     let a = c .before .before .args in

@@ -1,6 +1,6 @@
-use Prim.Native.Nat.{ℕ, _+_, _-_, _≤_, _<_}
-use mathlib.Core.Path.{_≡_, sym, ap, _∙_}
-use mathlib.Core.List.{List}
+-- `list_cells` meets its contract: what is listed, then the stored cells that are left, stays the same. Assumes nothing.
+use Prim.Native.Nat.{_+_, _-_, _≤_, _<_}
+use mathlib.Core.Path.{_≡_, _∙_}
 use mathlib.Core.Logic.{⊎-elim}
 use native.Mathlib.Omega.{arith}
 use lib.ListN.{length, set, length-set}
@@ -8,8 +8,6 @@ use Rattle.cells.proofs.Stored.{listedFrom, cell-empty, cell-stored}
 use borrow.Author.Needs.{needs}
 use Rattle.cells.proofs.list_cells.Statement.{statement}
 use Rattle.cells.proofs.list_cells.Tie as tie
-use Rattle.cells.proofs.list_cells.Reads as reads
-use Rattle.cells.proofs.list_cells.Lts as lts
 
 abbrev Inv-loop : tie.InvT-loop
 Inv-loop words from to at empty out₀ n listed₀ i₀ out listed i =
@@ -18,47 +16,36 @@ Inv-loop words from to at empty out₀ n listed₀ i₀ out listed i =
 abbrev μ-loop : tie.MeasureT-loop
 μ-loop words from to at empty out₀ n listed₀ i₀ out listed i = to - i
 
--- src/lib.rt:41:5
 loop-holds : tie.Need-loop-holds Inv-loop μ-loop
 loop-holds c = search needs
 
--- src/lib.rt:42:28
 cast-out : tie.Need-cast-out Inv-loop μ-loop
 cast-out c = search needs
 
--- src/lib.rt:42:23
 add-out : tie.Need-add-out Inv-loop μ-loop
 add-out c = search needs
 
--- src/lib.rt:42:9
 mul-out : tie.Need-mul-out Inv-loop μ-loop
 mul-out c = search needs
 
--- src/lib.rt:42:9
 slice-write-out : tie.Need-slice-write-out Inv-loop μ-loop
 slice-write-out c = search needs
 
--- src/lib.rt:43:12
 mul-if1 : tie.Need-mul-if1 Inv-loop μ-loop
 mul-if1 c = search needs
 
--- src/lib.rt:43:12
 shared-slice-read-if1 : tie.Need-shared-slice-read-if1 Inv-loop μ-loop
 shared-slice-read-if1 c = search needs
 
--- src/lib.rt:44:13
 add-listed : tie.Need-add-listed Inv-loop μ-loop
 add-listed c = search needs
 
--- src/lib.rt:46:9
 add-i : tie.Need-add-i Inv-loop μ-loop
 add-i c = search needs
 
--- src/lib.rt:41:5
 loop-less : tie.Need-loop-less Inv-loop μ-loop
 loop-less c = search needs
 
--- src/lib.rt:41:5
 loop-again : tie.Need-loop-again Inv-loop μ-loop
 loop-again c =
     let a = c .before .before .before .before .args in
@@ -71,11 +58,9 @@ loop-again c =
     (λ w. rw (w .1) (omega arith, omega arith, omega arith, size, cell-empty (a .empty) (a .at) (a .words .now) (l .out) (l .listed) (l .i) (a .at + l .i) inside (w .0 .left) ∙ l .inv .4))
     (c .if1 .came)
 
--- src/lib.rt:33:1
 same-length : tie.Need-same-length Inv-loop μ-loop
 same-length c = search needs
 
--- src/lib.rt:33:1
 returns : tie.Need-returns Inv-loop μ-loop
 returns c =
     let a = c .before .before .args in

@@ -1,5 +1,6 @@
-use Prim.Native.Nat.{ℕ, _+_, _-_, _*_, _≤_, _<_}
-use mathlib.Core.Path.{_≡_, refl, sym, ap, _∙_}
+-- `put_kept` meets its contract: the words that are left, put on, give the whole. Assumes nothing.
+use Prim.Native.Nat.{_+_, _-_, _*_, _≤_}
+use mathlib.Core.Path.{_≡_, refl, sym, _∙_}
 use native.Mathlib.Nat.{add-zero}
 use native.Mathlib.Omega.{arith}
 use lib.ListN.{length, drop}
@@ -10,9 +11,6 @@ use Rattle.cells.proofs.Kept.{cell-listed, kept-turn, kept-end}
 use borrow.Author.Needs.{needs}
 use Rattle.cells.proofs.put_kept.Statement.{statement}
 use Rattle.cells.proofs.put_kept.Tie as tie
-use Rattle.cells.proofs.put_kept.Reads as reads
-use Rattle.cells.proofs.put_kept.Lts as lts
-use Rattle.stores.proofs.put_u32.Reads as put-u32-reads
 
 abbrev Inv-loop : tie.InvT-loop
 Inv-loop dst₀ place words at empty ps rank₀ dst rank =
@@ -22,19 +20,15 @@ Inv-loop dst₀ place words at empty ps rank₀ dst rank =
 abbrev μ-loop : tie.MeasureT-loop
 μ-loop dst₀ place words at empty ps rank₀ dst rank = length ps - rank
 
--- src/lib.rt:76:5
 loop-holds : tie.Need-loop-holds Inv-loop μ-loop
 loop-holds c = (omega arith, refl, rw add-zero)
 
--- src/lib.rt:77:21
 mul-cell : tie.Need-mul-cell Inv-loop μ-loop
 mul-cell c = search needs
 
--- src/lib.rt:77:21
 shared-slice-read-cell : tie.Need-shared-slice-read-cell Inv-loop μ-loop
 shared-slice-read-cell c = search needs
 
--- src/lib.rt:77:21
 sub-cell : tie.Need-sub-cell Inv-loop μ-loop
 sub-cell c =
     let a = c .before .before .before .before .before .before .args in
@@ -42,7 +36,6 @@ sub-cell c =
     let w = cell-listed (a .empty) (a .at) (a .words .now) (a .ps .now) (c .before .before .before .before .before .before .pre .0) (l .rank) (c .before .loop-test .taken) in
     omega arith
 
--- src/lib.rt:77:20
 cast-cell : tie.Need-cast-cell Inv-loop μ-loop
 cast-cell c =
     let a = c .before .before .before .before .before .before .args in
@@ -50,15 +43,12 @@ cast-cell c =
     let w = cell-listed (a .empty) (a .at) (a .words .now) (a .ps .now) (c .before .before .before .before .before .before .pre .0) (l .rank) (c .before .loop-test .taken) in
     omega arith
 
--- src/lib.rt:78:30
 mul-put-u32 : tie.Need-mul-put-u32 Inv-loop μ-loop
 mul-put-u32 c = search needs
 
--- src/lib.rt:78:22
 add-put-u32 : tie.Need-add-put-u32 Inv-loop μ-loop
 add-put-u32 c = search needs
 
--- src/lib.rt:78:40
 mul-put-u32-2 : tie.Need-mul-put-u32-2 Inv-loop μ-loop
 mul-put-u32-2 c =
     let a = c .before .before .before .before .before .before .before .args in
@@ -66,7 +56,6 @@ mul-put-u32-2 c =
     let w = cell-listed (a .empty) (a .at) (a .words .now) (a .ps .now) (c .before .before .before .before .before .before .before .pre .0) (l .rank) (c .before .before .loop-test .taken) in
     omega arith
 
--- src/lib.rt:78:40
 shared-slice-read-put-u32 : tie.Need-shared-slice-read-put-u32 Inv-loop μ-loop
 shared-slice-read-put-u32 c =
     let a = c .before .before .before .before .before .before .before .before .args in
@@ -74,19 +63,15 @@ shared-slice-read-put-u32 c =
     let w = cell-listed (a .empty) (a .at) (a .words .now) (a .ps .now) (c .before .before .before .before .before .before .before .before .pre .0) (l .rank) (c .before .before .before .loop-test .taken) in
     omega arith
 
--- src/lib.rt:78:9
 put-u32-requires : tie.Need-put-u32-requires Inv-loop μ-loop
 put-u32-requires c κs = search needs
 
--- src/lib.rt:79:9
 add-rank : tie.Need-add-rank Inv-loop μ-loop
 add-rank c = search needs
 
--- src/lib.rt:76:5
 loop-less : tie.Need-loop-less Inv-loop μ-loop
 loop-less c = search needs
 
--- src/lib.rt:76:5
 loop-again : tie.Need-loop-again Inv-loop μ-loop
 loop-again c =
     let a = c .before .before .before .before .before .before .before .before .before .before .before .args in
@@ -97,11 +82,9 @@ loop-again c =
       rw (c .before .before .put-u32 .ensures) (turn ∙ l .inv .2),
     )
 
--- src/lib.rt:71:1
 same-length : tie.Need-same-length Inv-loop μ-loop
 same-length c = search needs
 
--- src/lib.rt:71:1
 returns : tie.Need-returns Inv-loop μ-loop
 returns c =
     let a = c .before .before .before .before .before .args in

@@ -1,5 +1,6 @@
-use Prim.Native.Nat.{ℕ, _+_, _-_, _≤_, _<_}
-use mathlib.Core.Path.{_≡_, refl, sym, ap, _∙_}
+-- `stored_cells` meets its contract: what is listed, then the stored cells that are left, are all stored cells. Assumes nothing.
+use Prim.Native.Nat.{_-_, _≤_}
+use mathlib.Core.Path.{_≡_, refl, sym, _∙_}
 use native.Mathlib.Nat.{add-zero}
 use native.Mathlib.Omega.{arith}
 use lib.ListN.{length}
@@ -9,10 +10,6 @@ use borrow.Author.Tests.{not-false}
 use borrow.Author.Needs.{needs}
 use Rattle.cells.proofs.stored_cells.Statement.{statement}
 use Rattle.cells.proofs.stored_cells.Tie as tie
-use Rattle.cells.proofs.stored_cells.Reads as reads
-use Rattle.cells.proofs.stored_cells.Lts as lts
-use Rattle.cells.proofs.all_empty.Reads as all-empty-reads
-use Rattle.cells.proofs.list_cells.Reads as list-cells-reads
 
 abbrev Inv-loop : tie.InvT-loop
 Inv-loop words at empty out₀ count listed₀ i₀ out listed i =
@@ -21,39 +18,30 @@ Inv-loop words at empty out₀ count listed₀ i₀ out listed i =
 abbrev μ-loop : tie.MeasureT-loop
 μ-loop words at empty out₀ count listed₀ i₀ out listed i = count - i
 
--- src/lib.rt:60:5
 loop-holds : tie.Need-loop-holds Inv-loop μ-loop
 loop-holds c = (omega arith, omega arith, refl, rw add-zero)
 
--- src/lib.rt:60:20
 sub-loop : tie.Need-sub-loop Inv-loop μ-loop
 sub-loop c = search needs
 
--- src/lib.rt:61:20
 add-next : tie.Need-add-next Inv-loop μ-loop
 add-next c = search needs
 
--- src/lib.rt:62:13
 all-empty-requires : tie.Need-all-empty-requires Inv-loop μ-loop
 all-empty-requires c κs = search needs
 
--- src/lib.rt:63:13
 list-cells-requires : tie.Need-list-cells-requires Inv-loop μ-loop
 list-cells-requires c κs = search needs
 
--- src/lib.rt:60:5
 loop-less : tie.Need-loop-less Inv-loop μ-loop
 loop-less c = search needs
 
--- src/lib.rt:60:5
 loop-again : tie.Need-loop-again Inv-loop μ-loop
 loop-again c = (search needs, search needs, search needs, c .before .before .list-cells .ensures .1 ∙ c .before .before .before .before .before .before .before .loop .inv .3)
 
--- src/lib.rt:60:5
 loop-less-2 : tie.Need-loop-less-2 Inv-loop μ-loop
 loop-less-2 c = search needs
 
--- src/lib.rt:60:5
 loop-again-2 : tie.Need-loop-again-2 Inv-loop μ-loop
 loop-again-2 c =
     let a = c .before .before .before .before .before .before .args in
@@ -65,15 +53,12 @@ loop-again-2 c =
       group-skipped (a .empty) (a .at) (a .words .now) (l .out) (l .listed) (l .i) 16 (omega arith) all ∙ l .inv .3,
     )
 
--- src/lib.rt:67:5
 list-cells-requires-2 : tie.Need-list-cells-requires-2 Inv-loop μ-loop
 list-cells-requires-2 c κs = search needs
 
--- src/lib.rt:53:1
 same-length : tie.Need-same-length Inv-loop μ-loop
 same-length c = search needs
 
--- src/lib.rt:53:1
 returns : tie.Need-returns Inv-loop μ-loop
 returns c =
     let a = c .before .before .before .before .before .before .before .before .args in

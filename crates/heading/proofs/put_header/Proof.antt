@@ -1,60 +1,45 @@
+-- `put_header` meets its contract. Assumes nothing.
 use mathlib.Core.Path.{_≡_}
-use native.Mathlib.Omega.{arith}
 use lib.ListN.{length}
 use Rattle.heading.specs.Counted.{countsIn}
 use Rattle.heading.proofs.Laws.{put-pieces}
 use borrow.Author.Needs.{needs}
 use Rattle.heading.proofs.put_header.Statement.{statement}
 use Rattle.heading.proofs.put_header.Tie as tie
-use Rattle.heading.proofs.put_header.Reads as reads
-use Rattle.heading.proofs.put_header.Lts as lts
-use Rattle.heading.proofs.put_numbers.Reads as put-numbers-reads
-use Rattle.heading.proofs.put_setting.Reads as put-setting-reads
 
 four : (c : tie.Start) → length (c .args .d .extents) ≡ 4
 four c = search needs
 
--- src/lib.rt:53:18
 add-second : tie.Need-add-second
 add-second c = search needs
 
--- src/lib.rt:54:17
 add-words : tie.Need-add-words
 add-words c = search needs
 
--- src/lib.rt:55:23
 mul-end : tie.Need-mul-end
 mul-end c = search needs
 
--- src/lib.rt:55:15
 add-end : tie.Need-add-end
 add-end c = search needs
 
--- src/lib.rt:57:5
 put-setting-requires : tie.Need-put-setting-requires
 put-setting-requires c κs = search needs
 
--- src/lib.rt:58:25
 slice-aggregate-put-numbers : tie.Need-slice-aggregate-put-numbers
 slice-aggregate-put-numbers c = search needs
 
--- src/lib.rt:58:5
 put-numbers-requires : tie.Need-put-numbers-requires
 put-numbers-requires c κs = let h = four (c .before .before .before .before .before .before .before .before .before .before .before) in search needs
 
--- src/lib.rt:59:26
 slice-aggregate-put-numbers-2 : tie.Need-slice-aggregate-put-numbers-2
 slice-aggregate-put-numbers-2 c = search needs
 
--- src/lib.rt:59:5
 put-numbers-requires-2 : tie.Need-put-numbers-requires-2
 put-numbers-requires-2 c κs = search needs
 
--- src/lib.rt:48:1
 same-length : tie.Need-same-length
 same-length c = search needs
 
--- src/lib.rt:48:1
 returns : tie.Need-returns
 returns c =
     let a = c .before .before .before .before .before .before .before .before .before .before .before .before .before .before .before .before .before .before .before .args in

@@ -1,4 +1,5 @@
-use Prim.Native.Nat.{ℕ, _+_, _-_, _*_, _≤_, _<_}
+-- `put_numbers` meets its contract: the numbers that are left, put on, give the whole. Assumes nothing.
+use Prim.Native.Nat.{_+_, _-_, _*_, _≤_}
 use mathlib.Core.Path.{_≡_, refl, sym, _∙_}
 use native.Mathlib.Nat.{add-zero}
 use native.Mathlib.Omega.{arith}
@@ -10,9 +11,6 @@ use Rattle.heading.proofs.Laws.{numbers-turn}
 use borrow.Author.Needs.{needs}
 use Rattle.heading.proofs.put_numbers.Statement.{statement}
 use Rattle.heading.proofs.put_numbers.Tie as tie
-use Rattle.heading.proofs.put_numbers.Reads as reads
-use Rattle.heading.proofs.put_numbers.Lts as lts
-use Rattle.stores.proofs.put_u32.Reads as put-u32-reads
 
 abbrev Inv-loop : tie.InvT-loop
 Inv-loop dst₀ at numbers i₀ dst i =
@@ -21,39 +19,30 @@ Inv-loop dst₀ at numbers i₀ dst i =
 abbrev μ-loop : tie.MeasureT-loop
 μ-loop dst₀ at numbers i₀ dst i = length numbers - i
 
--- src/lib.rt:41:5
 loop-holds : tie.Need-loop-holds Inv-loop μ-loop
 loop-holds c = (omega arith, refl, rw add-zero)
 
--- src/lib.rt:42:27
 mul-put-u32 : tie.Need-mul-put-u32 Inv-loop μ-loop
 mul-put-u32 c = search needs
 
--- src/lib.rt:42:22
 add-put-u32 : tie.Need-add-put-u32 Inv-loop μ-loop
 add-put-u32 c = search needs
 
--- src/lib.rt:42:34
 mul-put-u32-2 : tie.Need-mul-put-u32-2 Inv-loop μ-loop
 mul-put-u32-2 c = search needs
 
--- src/lib.rt:42:34
 shared-slice-read-put-u32 : tie.Need-shared-slice-read-put-u32 Inv-loop μ-loop
 shared-slice-read-put-u32 c = search needs
 
--- src/lib.rt:42:9
 put-u32-requires : tie.Need-put-u32-requires Inv-loop μ-loop
 put-u32-requires c κs = search needs
 
--- src/lib.rt:43:9
 add-i : tie.Need-add-i Inv-loop μ-loop
 add-i c = search needs
 
--- src/lib.rt:41:5
 loop-less : tie.Need-loop-less Inv-loop μ-loop
 loop-less c = search needs
 
--- src/lib.rt:41:5
 loop-again : tie.Need-loop-again Inv-loop μ-loop
 loop-again c =
     let a = c .before .before .before .before .before .before .before .before .before .args in
@@ -63,11 +52,9 @@ loop-again c =
       rw (c .before .before .put-u32 .ensures) (numbers-turn (l .dst) (a .at) (a .numbers .now) (l .i) (c .before .before .before .before .before .loop-test .taken) ∙ l .inv .2),
     )
 
--- src/lib.rt:36:1
 same-length : tie.Need-same-length Inv-loop μ-loop
 same-length c = search needs
 
--- src/lib.rt:36:1
 returns : tie.Need-returns Inv-loop μ-loop
 returns c =
     let a = c .before .before .before .before .args in

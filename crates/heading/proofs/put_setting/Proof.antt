@@ -1,32 +1,24 @@
+-- `put_setting` meets its contract. Assumes nothing.
 use Rattle.heading.proofs.Laws.{put-four}
 use borrow.Author.Needs.{needs}
 use Rattle.heading.proofs.put_setting.Statement.{statement}
 use Rattle.heading.proofs.put_setting.Tie as tie
-use Rattle.heading.proofs.put_setting.Reads as reads
-use Rattle.heading.proofs.put_setting.Lts as lts
-use Rattle.stores.proofs.put_u8.Reads as put-u8-reads
 
--- src/lib.rt:29:5
 put-u8-requires : tie.Need-put-u8-requires
 put-u8-requires c κs = search needs
 
--- src/lib.rt:30:5
 put-u8-requires-2 : tie.Need-put-u8-requires-2
 put-u8-requires-2 c κs = search needs
 
--- src/lib.rt:31:5
 put-u8-requires-3 : tie.Need-put-u8-requires-3
 put-u8-requires-3 c κs = search needs
 
--- src/lib.rt:32:5
 put-u8-requires-4 : tie.Need-put-u8-requires-4
 put-u8-requires-4 c κs = search needs
 
--- src/lib.rt:25:1
 same-length : tie.Need-same-length
 same-length c = search needs
 
--- src/lib.rt:25:1
 returns : tie.Need-returns
 returns c =
     let a = c .before .before .before .before .before .before .before .before .before .before .before .before .before .before .before .before .before .args in
