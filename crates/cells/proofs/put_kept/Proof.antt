@@ -7,7 +7,7 @@ use lib.ListN.{length, drop}
 use Rattle.format.specs.Bytes.{bytesOf}
 use Rattle.format.specs.Stored.{kept}
 use Rattle.stores.specs.Put.{put}
-use Rattle.cells.proofs.Kept.{cell-listed, kept-turn, kept-end}
+use Rattle.cells.proofs.Kept.{Listed, cell-listed, kept-turn, kept-end}
 use borrow.Author.Needs.{needs}
 use Rattle.cells.proofs.put_kept.Statement.{statement}
 use Rattle.cells.proofs.put_kept.Tie as tie
@@ -20,6 +20,13 @@ Inv-loop dst₀ place words at empty ps rank₀ dst rank =
 abbrev μ-loop : tie.MeasureT-loop
 μ-loop dst₀ place words at empty ps rank₀ dst rank = length ps - rank
 
+-- the cell of the rank at hand
+seen : (c : tie.In-loop Inv-loop μ-loop)
+    → Listed (c .before .before .before .before .before .args .empty) (c .before .before .before .before .before .args .at)
+    (c .before .before .before .before .before .args .words .now) (c .before .before .before .before .before .args .ps .now)
+    (c .before .before .before .before .before .pre .0) (c .before .loop .rank)
+seen c = cell-listed _ _ _ _ (c .before .before .before .before .before .pre .0) (c .before .loop .rank) (c .loop-test .taken)
+
 loop-holds : tie.Need-loop-holds Inv-loop μ-loop
 loop-holds c = (omega arith, refl, rw add-zero)
 
@@ -30,18 +37,10 @@ shared-slice-read-cell : tie.Need-shared-slice-read-cell Inv-loop μ-loop
 shared-slice-read-cell c = search needs
 
 sub-cell : tie.Need-sub-cell Inv-loop μ-loop
-sub-cell c =
-    let a = c .before .before .before .before .before .before .args in
-    let l = c .before .before .loop in
-    let w = cell-listed (a .empty) (a .at) (a .words .now) (a .ps .now) (c .before .before .before .before .before .before .pre .0) (l .rank) (c .before .loop-test .taken) in
-    omega arith
+sub-cell c = let h = seen (c .before) in omega arith
 
 cast-cell : tie.Need-cast-cell Inv-loop μ-loop
-cast-cell c =
-    let a = c .before .before .before .before .before .before .args in
-    let l = c .before .before .loop in
-    let w = cell-listed (a .empty) (a .at) (a .words .now) (a .ps .now) (c .before .before .before .before .before .before .pre .0) (l .rank) (c .before .loop-test .taken) in
-    omega arith
+cast-cell c = let h = seen (c .before) in omega arith
 
 mul-put-u32 : tie.Need-mul-put-u32 Inv-loop μ-loop
 mul-put-u32 c = search needs
@@ -50,18 +49,10 @@ add-put-u32 : tie.Need-add-put-u32 Inv-loop μ-loop
 add-put-u32 c = search needs
 
 mul-put-u32-2 : tie.Need-mul-put-u32-2 Inv-loop μ-loop
-mul-put-u32-2 c =
-    let a = c .before .before .before .before .before .before .before .args in
-    let l = c .before .before .before .loop in
-    let w = cell-listed (a .empty) (a .at) (a .words .now) (a .ps .now) (c .before .before .before .before .before .before .before .pre .0) (l .rank) (c .before .before .loop-test .taken) in
-    omega arith
+mul-put-u32-2 c = let h = seen (c .before .before) in omega arith
 
 shared-slice-read-put-u32 : tie.Need-shared-slice-read-put-u32 Inv-loop μ-loop
-shared-slice-read-put-u32 c =
-    let a = c .before .before .before .before .before .before .before .before .args in
-    let l = c .before .before .before .before .loop in
-    let w = cell-listed (a .empty) (a .at) (a .words .now) (a .ps .now) (c .before .before .before .before .before .before .before .before .pre .0) (l .rank) (c .before .before .before .loop-test .taken) in
-    omega arith
+shared-slice-read-put-u32 c = let h = seen (c .before .before .before) in omega arith
 
 put-u32-requires : tie.Need-put-u32-requires Inv-loop μ-loop
 put-u32-requires c κs = search needs
