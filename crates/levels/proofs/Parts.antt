@@ -32,7 +32,7 @@ steps =
       paged = λ b b1 b2 e. (b1, b2);
     })
 
-rising-length : (a B : ℕ) (ls : List ℕ) → a ≤ B → Rising a B ls → a + length ls ≤ B
+pub rising-length : (a B : ℕ) (ls : List ℕ) → a ≤ B → Rising a B ls → a + length ls ≤ B
 rising-length a B [] h r = omega arith
 rising-length a B (l ∷ ls) h r =
     let r0 = r .0 in

@@ -79,7 +79,7 @@ pub length-entries : (xs : List Span) → length (bytesOf 4 (flatSpans xs)) ≡ 
 length-entries xs = length-bytesOf 4 (flatSpans xs) ∙ rw (length-flatSpans xs) (omega arith)
 
 -- bytes back from where they were put
-put-back : (d : List ℕ) (at : ℕ) (bs : List ℕ) → at + length bs ≤ length d → take (length bs) (drop at (put d at bs)) ≡ bs
+pub put-back : (d : List ℕ) (at : ℕ) (bs : List ℕ) → at + length bs ≤ length d → take (length bs) (drop at (put d at bs)) ≡ bs
 put-back d at bs h =
     let l : length (take at d) ≡ at = length-take-le at d (omega arith) in
     let more = drop (at + length bs) d in
