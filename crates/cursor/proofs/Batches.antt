@@ -6,8 +6,9 @@ use native.Mathlib.Nat.{sub-zero, sub-eq-zero-of-le, zero-add}
 use native.Mathlib.Numerals.{add-one}
 use native.Mathlib.Omega.{arith}
 use lib.ListN.{length, take, drop, set}
-use lib.Seq.{take-all, take-suc-set, append-snoc}
+use lib.Seq.{take-all, take-suc-set, append-snoc, take-append-seam, drop-append-seam, drop-drop}
 use Rattle.format.specs.declared.View.{View}
+use Rattle.format.specs.Accepted.{wordsCount, positionsOf}
 use Rattle.cursor.specs.declared.Cursor.{Cursor}
 use Rattle.cursor.specs.Cursor.{nextOf, walked, steppedBy, walkedAs, steppedAs, Batch}
 
@@ -58,3 +59,37 @@ module _ (b : List ℕ) (v : View) (f : Cursor → Cursor) (same : (c : Cursor) 
 
   pub batch-file : (c : Cursor) (n : ℕ) (r : Cursor) (out : List ℕ) → Batch f c n r out → (r ≡ steppedBy b v c n) × (out ≡ walked b v c n)
   batch-file c n r out x = (x .cursor ∙ stepped-as c n, x .positions ∙ walked-as c n)
+
+-- ---- m steps, then n
+
+module _ (b : List ℕ) (v : View) where
+  pub walked-add : (c : Cursor) (m n : ℕ) → walked b v c (m + n) ≡ walked b v c m ++ walked b v (steppedBy b v c m) n
+  unfolding walked steppedBy
+  walked-add c zero n = rw zero-add
+  walked-add c (suc m) n =
+      let e : suc m + n ≡ suc (m + n) = omega arith in
+      rw e (ap (λ (l : List ℕ). c .at ∷ l) (walked-add (nextOf b v c) m n))
+
+  pub length-walked : (c : Cursor) (n : ℕ) → length (walked b v c n) ≡ n
+  unfolding walked
+  length-walked c zero = refl
+  length-walked c (suc n) = ap suc (length-walked (nextOf b v c) n)
+
+-- ---- a walk along an accepted file, batch by batch
+
+-- n steps from rank r on: the positions along them, and what is left
+pub record Batched (b : List ℕ) (v : View) (c : Cursor) (r n : ℕ) : Type 0 where
+  pub positions : walked b v c n ≡ take n (drop r (positionsOf b))
+  pub rest : walked b v (steppedBy b v c n) (wordsCount b - (r + n)) ≡ drop (r + n) (positionsOf b)
+
+module _ (b : List ℕ) (v : View) (c : Cursor) (r n : ℕ) (fits : r + n ≤ wordsCount b) where
+  pub batched : walked b v c (wordsCount b - r) ≡ drop r (positionsOf b) → Batched b v c r n
+  batched e =
+      let left = walked b v (steppedBy b v c n) (wordsCount b - (r + n)) in
+      let m : wordsCount b - r ≡ n + (wordsCount b - (r + n)) = omega arith in
+      let s : drop r (positionsOf b) ≡ walked b v c n ++ left = sym e ∙ rw m (walked-add b v c n (wordsCount b - (r + n))) in
+      let k = length-walked b v c n in
+      record {
+        positions = sym (rw s (rw k at (take-append-seam (walked b v c n) left)));
+        rest = sym (rw k at (drop-append-seam (walked b v c n) left)) ∙ ap (drop n) (sym s) ∙ drop-drop n r (positionsOf b);
+      }
