@@ -112,3 +112,6 @@ module _ (b : List ℕ) (v : View) (o : ViewOf b v) where
       let k : length (take n ls) ≡ n = length-take-le n ls (rw (length-drop r (positionsOf b)) (omega (arith, as-long))) in
       let s = scatter-add d (take n ls) (drop n ls) (drop r (keptOf b)) in
       rw (← drop-drop n r (positionsOf b), ← drop-drop n r (keptOf b)) (sym (rw (take-append-drop n ls, k) at s))
+
+  pub past : (r : ℕ) → v .words ≤ r → length (positionsOf b) ≤ r
+  past r h = omega (arith, words-seen, as-long)
