@@ -6,7 +6,7 @@ use native.Mathlib.Nat.{min-le-left}
 use native.Mathlib.Numerals.{add-one}
 use native.Mathlib.Omega.{arith}
 use lib.ListN.{length, getD, take, drop, set, replicate, length-append, length-replicate, length-set, replicate-append-replicate, length-take, length-drop, drop-of-length-le}
-use lib.Seq.{length-take-le, take-append-seam, drop-append-add, drop-append-seam, drop-drop, set-append-left, drop-set-lt, take-set-lt}
+use lib.Seq.{length-take-le, take-append-seam, drop-append-add, drop-drop, set-append-left, drop-set-lt, take-set-lt}
 use Rattle.format.specs.Tools.{Below, first, others}
 use Rattle.laws.proofs.Stored.{Rising}
 use Rattle.scatter.specs.Scatter.{scattered}

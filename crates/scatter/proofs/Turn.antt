@@ -15,8 +15,6 @@ use Rattle.format.specs.Accepted.{dimensionsOf, emptyOf, wordsCount, wordsAt, p
 use Rattle.format.specs.Opened.{viewOf}
 use Rattle.laws.proofs.Numbers.{numbers-at}
 use Rattle.laws.proofs.Stored.{Rising}
-use Rattle.laws.proofs.Bytes.{below-drop}
-use Rattle.laws.proofs.Bounds.{below-rising, below-widen}
 use Rattle.laws.proofs.Check.{length-numbersOf}
 use Rattle.laws.proofs.Acceptance.{accepted}
 use Rattle.header.specs.View.{wordsPlace}
@@ -47,13 +45,7 @@ scatter-add d (x ∷ xs) ys vs = scatter-add (set d x (first vs)) xs ys (others 
     others-drop (suc n) [] = refl
     others-drop n (x ∷ l) = refl
 
--- ---- positions below a bound
-
-below-take : (B n : ℕ) (xs : List ℕ) → Below B xs → Below B (take n xs)
-below-take B zero xs h = tt
-below-take B (suc n) [] h = tt
-below-take B (suc n) (x ∷ xs) h = (h .0, below-take B n xs (h .1))
-
+-- positions below a bound
 pub below-at : (B : ℕ) (xs : List ℕ) (i : ℕ) → i < length xs → Below B xs → getD xs i 0 < B
 below-at B [] i k h = absurd (omega arith)
 below-at B (x ∷ xs) zero k h = h .0
@@ -100,15 +92,7 @@ module _ (b : List ℕ) (v : View) (o : ViewOf b v) where
       rw (e, p, q, word-seen (r + i) n) (sym (scatter-turn d at (keptOf b) i (r + i) k (omega (arith, kept-long))))
 
   -- a batch of n from rank r on
-  pub below-batch : (m r n : ℕ) → v .cells ≤ m → Below m (take n (drop r (positionsOf b)))
-  below-batch m r n h =
-      let k = frame .cells in
-      let z = cells-seen in
-      below-widen (cells (dimensionsOf b)) m (take n (drop r (positionsOf b))) (omega arith)
-      (below-take (cells (dimensionsOf b)) n (drop r (positionsOf b))
-      (below-drop (cells (dimensionsOf b)) r (positionsOf b) (below-rising 0 (cells (dimensionsOf b)) (positionsOf b) (accepted-parts b (o .accepted) .rising))))
-
-  pub batch-turned : (d : List ℕ) (r n : ℕ) → r + n ≤ wordsCount b
+  batch-turned : (d : List ℕ) (r n : ℕ) → r + n ≤ wordsCount b
       → scattered (scattered d (take n (drop r (positionsOf b))) (drop r (keptOf b))) (drop (r + n) (positionsOf b)) (drop (r + n) (keptOf b))
       ≡ scattered d (drop r (positionsOf b)) (drop r (keptOf b))
   batch-turned d r n h =
@@ -117,6 +101,7 @@ module _ (b : List ℕ) (v : View) (o : ViewOf b v) where
       let s = scatter-add d (take n ls) (drop n ls) (drop r (keptOf b)) in
       rw (← drop-drop n r (positionsOf b), ← drop-drop n r (keptOf b)) (sym (rw (take-append-drop n ls, k) at s))
 
+  -- at the end
   pub past : (r : ℕ) → v .words ≤ r → length (positionsOf b) ≤ r
   past r h = omega (arith, words-seen, as-long)
 

@@ -1,4 +1,4 @@
-// A file's words into a destination: all empty at first, then each stored word at its position.
+// A file's words into a destination, batch by batch: the cells up to a batch's last position become empty, then each stored word comes to its position.
 use cursor::batch::positions;
 use cursor::start;
 use format::View;
@@ -9,7 +9,7 @@ ghost use mathlib.Core.List.{_++_};
 ghost use Prim.Native.Nat.{_+_, _-_, _*_, _≤_, _<_, _^_};
 ghost use lib.ListN.{length, take, drop, replicate};
 ghost use Rattle.format.specs.Tools.{Below};
-ghost use Rattle.format.specs.Accepted.{positionsOf, keptOf, wordsOf};
+ghost use Rattle.format.specs.Accepted.{keptOf, wordsOf};
 ghost use Rattle.header.specs.Search.{ViewOf};
 ghost use Rattle.scatter.specs.Scatter.{scattered};
 
@@ -54,22 +54,6 @@ fn scatter_batch(file: &[u8], v: View, rank: u32, at: &[u32], dst: &mut [u32])
         let to = at[i] as usize;
         dst[to] = get_u32(file, words + 4 * i);
         i += 1;
-    }
-}
-
-// Each stored word of an accepted file at its position.
-pub fn scatter(file: &[u8], v: View, dst: &mut [u32])
-    requires { ⌜ ViewOf (now file) v × (v .cells ≤ length (now dst)) ⌝ }
-    ensures { λ _. ⌜ now (dst .exit) ≡ scattered (now (dst .entry)) (positionsOf (now (file .entry))) (keptOf (now (file .entry))) ⌝ }
-{
-    let mut c = start(file, v);
-    let mut batch: [u32; 512] = [0; 512];
-    let mut rank: u32 = 0;
-    while rank < v.words {
-        let n = batch_of(v.words - rank);
-        c = positions(file, v, c, &mut batch[..n]);
-        scatter_batch(file, v, rank, &batch[..n], dst);
-        rank += n as u32;
     }
 }
 

@@ -161,7 +161,7 @@ scatter-batch-requires c κs =
       s .pre .0,
       rw (t .count) (fits (p .before .before)),
       rw (t .front) (below-widen (last p + 1) (length (c .before .before .before .before .fill-range .last .0)) (take (c .before .before .before .before .before .before .before .before .before .batch-of .result) (drop (c .before .before .before .before .before .before .before .before .before .before .before .before .before .loop .rank) (positionsOf (s .args .file .now))))
-      (omega arith) (u .below)),
+          (omega arith) (u .below)),
     )
 
 cast-rank : tie.Need-cast-rank Inv-loop μ-loop
@@ -202,7 +202,7 @@ loop-again c =
       low,
       u .rest,
       expand-turned (s .args .file .now) (s .args .v) (s .pre .0) (l .dst) (f .fill-range .last .0) _ (l .filled) (last p + 1) (l .rank) n (fits-file (c .before .before .before .before .before .before .before .before .before .before .before .before))
-      (omega arith) low (u .below) (blanked f) e ∙ l .inv .6,
+          (omega arith) low (u .below) (blanked f) e ∙ l .inv .6,
     )
 
 cast-fill-range : tie.Need-cast-fill-range Inv-loop μ-loop
