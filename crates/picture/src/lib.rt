@@ -91,14 +91,7 @@ fn put_chunk(
 
 // The parts of the stored positions, the first at byte 52 and the second at `second`, and the stored words at `place`. Of kind 5 only
 // the second part.
-pub fn put_out(
-    dst: &mut [u8],
-    words: &[u32],
-    empty: u32,
-    s: Setting,
-    second: usize,
-    place: usize,
-)
+pub fn put_out(dst: &mut [u8], words: &[u32], empty: u32, s: Setting, second: usize, place: usize)
     requires { ⌜ (settingAllowed s ≡ true) × (length (now words) ≤ 16777216) × (second ≤ 4294967296)
         × Apart s (begun 52 second) (stored empty (now words)) place × (place + 4 * length (kept empty (now words)) ≤ length (now dst)) ⌝ }
     ensures { λ _. ⌜ now (dst .exit) ≡ put (put (put (now (dst .entry)) 52 (firsts s (begun 52 second) (stored empty (now (words .entry))))) second
