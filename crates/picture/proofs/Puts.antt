@@ -1,0 +1,117 @@
+-- The cells of a picture put out chunk by chunk: those of the chunk first, then those that are left, give the whole. Assumes nothing.
+use Prim.Native.Nat.{ℕ, _+_, _*_, _≤_}
+use mathlib.Core.Path.{_≡_, refl, sym, ap, ap₂, _∙_}
+use mathlib.Core.Bool.{true}
+use mathlib.Core.List.{List, [], _∷_, _++_, append-assoc}
+use native.Mathlib.Nat.{add-zero}
+use native.Mathlib.Omega.{arith}
+use lib.ListN.{length, drop, length-append, drop-of-length-le}
+use Rattle.format.specs.declared.Setting.{Setting}
+use Rattle.format.specs.Kinds.{settingAllowed}
+use Rattle.format.specs.Bytes.{bytes, bytesOf}
+use Rattle.format.specs.Stored.{storedFrom, stored, kept}
+use Rattle.laws.proofs.Bytes.{length-bytesOf}
+use Rattle.laws.proofs.Stored.{length-stored}
+use Rattle.stores.specs.Put.{put}
+use Rattle.encode.specs.declared.state.Encoder.{Encoder}
+use Rattle.encode.specs.Encoder.{begun, takenAll, firsts, seconds, endFirst, endSecond}
+use Rattle.encode.specs.Ready.{Apart}
+use Rattle.encode.specs.Batch.{Along}
+use Rattle.encode.proofs.Turn.{put-end}
+use Rattle.encode.proofs.Batches.{rank-added, room-first-all, room-second-all, apart-added, put-turn-all}
+use Rattle.picture.specs.Chunk.{putChunk, ChunkRoom}
+use Rattle.picture.proofs.Chunks.{left, chunk, Cut, left-none, along-begun, stored-cut, kept-cut, along-chunk, along-left}
+
+bytes-append : (w : ℕ) (xs ys : List ℕ) → bytesOf w (xs ++ ys) ≡ bytesOf w xs ++ bytesOf w ys
+unfolding bytesOf
+bytes-append w [] ys = refl
+bytes-append w (x ∷ xs) ys = rw (bytes-append w xs ys) (sym (append-assoc (bytes w x) (bytesOf w xs) (bytesOf w ys)))
+
+-- d with the bytes of the positions ls and of the end, and with the words vs after those put out before
+abbrev pub putRest : Setting → List ℕ → Encoder → List ℕ → ℕ → List ℕ → List ℕ
+putRest s d e ls place vs = put (put (put d (e .first) (firsts s e ls)) (e .second) (seconds s e ls)) (place + 4 * e .rank) (bytesOf 4 vs)
+
+-- the cells from `at` on can be put out into n elements
+pub record Going (s : Setting) (E : ℕ) (ws : List ℕ) (place n : ℕ) (e : Encoder) (at : ℕ) : Type 0 where
+  pub along : Along e (left E ws at)
+  pub apart : Apart s e (left E ws at) place
+  pub room : place + 4 * (e .rank + length (kept E (drop at ws))) ≤ n
+
+module _ (s : Setting) (E : ℕ) (ws : List ℕ) (place n : ℕ) where
+  -- before the first cell
+  pub going-begun : (g : ℕ) → length ws ≤ 16777216 → g ≤ 4294967296 → Apart s (begun 52 g) (stored E ws) place → place + 4 * length (kept E ws) ≤ n
+      → Going s E ws place n (begun 52 g) 0
+  unfolding stored begun
+  going-begun g l h a r = record { along = along-begun 52 g E ws (omega arith) h l; apart = a; room = omega arith }
+
+  pub put-begun : (g : ℕ) (d : List ℕ)
+      → putRest s d (begun 52 g) (left E ws 0) place (kept E (drop 0 ws))
+      ≡ put (put (put d 52 (firsts s (begun 52 g) (stored E ws))) g (seconds s (begun 52 g) (stored E ws))) place (bytesOf 4 (kept E ws))
+  unfolding stored begun
+  put-begun g d = rw add-zero
+
+  -- a chunk
+  module _ (e : Encoder) (at end : ℕ) (z : Cut (length ws) at end) (g : Going s E ws place n e at) where
+    apart-cut : (v : ℕ) → place ≤ v → Apart s e (storedFrom E at (chunk ws at end) ++ left E ws end) v
+    apart-cut v h =
+        let k = g .apart .second in
+        let a : Apart s e (left E ws at) v = record { first = g .apart .first; second = omega arith } in
+        rw (← stored-cut E ws at end z) a
+
+    length-cut : length (kept E (drop at ws)) ≡ length (storedFrom E at (chunk ws at end)) + length (kept E (drop end ws))
+    length-cut =
+        ap length (kept-cut E ws at end z) ∙ length-append (kept E (chunk ws at end)) (kept E (drop end ws))
+        ∙ rw (length-stored E at (chunk ws at end))
+
+    pub room-chunk : ChunkRoom s e (storedFrom E at (chunk ws at end)) (place + 4 * e .rank) n
+    room-chunk =
+        let a = apart-cut place (omega arith) in
+        let r = g .room in
+        let l = length-cut in
+        record {
+          along = along-chunk E ws at end z e (g .along);
+          first = room-first-all s e (storedFrom E at (chunk ws at end)) (left E ws end) place a;
+          second = room-second-all s e (storedFrom E at (chunk ws at end)) (left E ws end) place a n (omega arith);
+          words = omega arith;
+        }
+
+    pub going-next : settingAllowed s ≡ true → Going s E ws place n (takenAll s e (storedFrom E at (chunk ws at end))) end
+    going-next t =
+        let r = g .room in
+        let l = length-cut in
+        let k = rank-added s e (storedFrom E at (chunk ws at end)) in
+        record {
+          along = along-left E ws at end z s e t (g .along);
+          apart = apart-added s e (storedFrom E at (chunk ws at end)) (left E ws end) place (apart-cut place (omega arith));
+          room = omega arith;
+        }
+
+    pub put-next : (d : List ℕ)
+        → putRest s (putChunk s d e (storedFrom E at (chunk ws at end)) (place + 4 * e .rank) (kept E (chunk ws at end)))
+        (takenAll s e (storedFrom E at (chunk ws at end))) (left E ws end) place (kept E (drop end ws))
+        ≡ putRest s d e (left E ws at) place (kept E (drop at ws))
+    unfolding putChunk
+    put-next d =
+        let xs : List ℕ = storedFrom E at (chunk ws at end) in
+        let ys : List ℕ = left E ws end in
+        let t : Encoder = takenAll s e xs in
+        let v : ℕ = place + 4 * e .rank in
+        let b : List ℕ = putChunk s d e xs v (kept E (chunk ws at end)) in
+        let cells : bytesOf 4 (kept E (drop at ws)) ≡ bytesOf 4 (kept E (chunk ws at end)) ++ bytesOf 4 (kept E (drop end ws))
+        = ap (bytesOf 4) (kept-cut E ws at end z) ∙ bytes-append 4 (kept E (chunk ws at end)) (kept E (drop end ws)) in
+        let l = length-bytesOf 4 (kept E (chunk ws at end)) in
+        let m = length-stored E at (chunk ws at end) in
+        let k = rank-added s e xs in
+        let to : v + length (bytesOf 4 (kept E (chunk ws at end))) ≡ place + 4 * t .rank = omega arith in
+        sym (ap₂ (λ (ls vs : List ℕ). put (put (put d (e .first) (firsts s e ls)) (e .second) (seconds s e ls)) v vs) (stored-cut E ws at end z) cells
+        ∙ put-turn-all s e xs ys v (apart-cut v (omega arith)) d (bytesOf 4 (kept E (chunk ws at end))) (bytesOf 4 (kept E (drop end ws)))
+        ∙ ap (λ (p : ℕ). put (put (put b (t .first) (firsts s t ys)) (t .second) (seconds s t ys)) p (bytesOf 4 (kept E (drop end ws)))) to)
+
+  -- after the last cell
+  module _ (e : Encoder) (at : ℕ) (h : length ws ≤ at) where
+    pub apart-end : Going s E ws place n e at → Apart s e [] place
+    apart-end g = rw (← left-none E ws at h) (g .apart)
+
+    pub put-rest-end : (d : List ℕ) → putRest s d e (left E ws at) place (kept E (drop at ws)) ≡ put (put d (e .first) (endFirst s e)) (e .second) (endSecond s e)
+    unfolding kept bytesOf
+    put-rest-end d = rw (left-none E ws at h, drop-of-length-le ws {i = at} h) (put-end s e (place + 4 * e .rank) d)

@@ -1,0 +1,110 @@
+// A picture's lent words, chunk by chunk: measured, and put out.
+use cells::put_kept;
+use cells::stored_cells;
+use encode::batch::advance_all;
+use encode::batch::emit_all;
+use encode::begin;
+use encode::finish;
+use encode::finished;
+use encode::state::Encoder;
+use format::Setting;
+ghost use mathlib.Core.Path.{_≡_};
+ghost use mathlib.Core.Bool.{true};
+ghost use Prim.Native.Nat.{_+_, _*_, _≤_, min};
+ghost use lib.ListN.{length};
+ghost use Rattle.format.specs.Kinds.{settingAllowed};
+ghost use Rattle.format.specs.Bytes.{bytesOf};
+ghost use Rattle.format.specs.Stored.{storedFrom, stored, kept};
+ghost use Rattle.stores.specs.Put.{put};
+ghost use Rattle.encode.specs.Encoder.{begun, ended, takenAll, firsts, seconds};
+ghost use Rattle.encode.specs.Ready.{Apart};
+ghost use Rattle.encode.specs.Batch.{Along};
+ghost use Rattle.picture.specs.Chunk.{putChunk, ChunkRoom};
+
+// The cells of a chunk, at most.
+const CHUNK: usize = 1024;
+
+// The lesser of two numbers.
+fn lesser(x: usize, y: usize) -> usize
+    ensures { λ r. ⌜ r ≡ min x y ⌝ }
+{
+    if x < y { x } else { y }
+}
+
+// The encoder after the stored cells of a chunk, of which the first stands at position `at`.
+fn measure_chunk(
+    words: &[u32],
+    at: u32,
+    empty: u32,
+    s: Setting,
+    e: Encoder,
+    batch: &mut [u32],
+) -> Encoder
+    requires { ⌜ (settingAllowed s ≡ true) × (length (now words) ≤ length (now batch)) × (at + length (now words) ≤ 16777216)
+        × Along e (storedFrom empty at (now words)) ⌝ }
+    ensures { λ r. ⌜ r ≡ takenAll s e (storedFrom empty at (now (words .entry))) ⌝ }
+{
+    let n = stored_cells(words, at, empty, batch);
+    advance_all(s, e, &batch[..n])
+}
+
+// The encoder after the stored positions and the end, with nothing put out.
+pub fn measure(words: &[u32], empty: u32, s: Setting) -> Encoder
+    requires { ⌜ (settingAllowed s ≡ true) × (length (now words) ≤ 16777216) ⌝ }
+    ensures { λ r. ⌜ r ≡ ended s (takenAll s (begun 0 0) (stored empty (now (words .entry)))) ⌝ }
+{
+    let mut batch = [0u32; 1024];
+    let mut e = begin(0, 0);
+    let mut at: usize = 0;
+    while at < words.len() {
+        let end = lesser(at + CHUNK, words.len());
+        let chunk = &words[at..end];
+        e = measure_chunk(chunk, at as u32, empty, s, e, &mut batch);
+        at = end;
+    }
+    finished(s, e)
+}
+
+// The stored cells of a chunk put out: their positions into the parts, and their words after those put out before, the first of which
+// stands at `place`. The encoder after them.
+fn put_chunk(
+    dst: &mut [u8],
+    words: &[u32],
+    at: u32,
+    empty: u32,
+    s: Setting,
+    e: Encoder,
+    place: usize,
+    batch: &mut [u32],
+) -> Encoder
+    requires { ⌜ (settingAllowed s ≡ true) × (length (now words) ≤ length (now batch)) × (at + length (now words) ≤ 16777216)
+        × ChunkRoom s e (storedFrom empty at (now words)) (place + 4 * e .rank) (length (now dst)) ⌝ }
+    ensures { λ r. ⌜ (r ≡ takenAll s e (storedFrom empty at (now (words .entry))))
+        × (now (dst .exit) ≡ putChunk s (now (dst .entry)) e (storedFrom empty at (now (words .entry))) (place + 4 * e .rank) (kept empty (now (words .entry)))) ⌝ }
+{
+    let n = stored_cells(words, at, empty, batch);
+    let next = emit_all(dst, s, e, &batch[..n]);
+    let to = place + 4 * (e.rank as usize);
+    put_kept(dst, to, words, at, empty, &batch[..n]);
+    next
+}
+
+// The parts of the stored positions, the first at byte 52 and the second at `second`, and the stored words at `place`. Of kind 5 only
+// the second part.
+pub fn put_out(dst: &mut [u8], words: &[u32], empty: u32, s: Setting, second: usize, place: usize)
+    requires { ⌜ (settingAllowed s ≡ true) × (length (now words) ≤ 16777216) × (second ≤ 4294967296)
+        × Apart s (begun 52 second) (stored empty (now words)) place × (place + 4 * length (kept empty (now words)) ≤ length (now dst)) ⌝ }
+    ensures { λ _. ⌜ now (dst .exit) ≡ put (put (put (now (dst .entry)) 52 (firsts s (begun 52 second) (stored empty (now (words .entry))))) second
+        (seconds s (begun 52 second) (stored empty (now (words .entry))))) place (bytesOf 4 (kept empty (now (words .entry)))) ⌝ }
+{
+    let mut batch = [0u32; 1024];
+    let mut e = begin(52, second);
+    let mut at: usize = 0;
+    while at < words.len() {
+        let end = lesser(at + CHUNK, words.len());
+        let chunk = &words[at..end];
+        e = put_chunk(dst, chunk, at as u32, empty, s, e, place, &mut batch);
+        at = end;
+    }
+    finish(dst, s, e);
+}
