@@ -1,6 +1,6 @@
 -- What make answers and leaves. Assumes nothing.
-use Prim.Native.Nat.{ℕ, zero, suc, _+_, _≤_}
-use mathlib.Core.Path.{_≡_, refl, sym, ap, _∙_}
+use Prim.Native.Nat.{ℕ, zero, suc, _+_, _*_, _≤_}
+use mathlib.Core.Path.{_≡_, refl, sym, ap, subst, _∙_}
 use mathlib.Core.Bool.{Bool, true, false, not}
 use mathlib.Core.List.{List, _++_}
 use native.Mathlib.Omega.{arith}
@@ -11,13 +11,26 @@ use Rattle.format.specs.declared.Dimensions.{Dimensions}
 use Rattle.format.specs.declared.Setting.{Setting}
 use Rattle.format.specs.Tools.{pick}
 use Rattle.format.specs.Signals.{KIND, SETTING, EXTENT, PICTURE, refuse, orElse}
+use Rattle.format.specs.Answers.{leaves}
 use Rattle.format.specs.Picture.{cells, dimensionsAllowed}
 use Rattle.format.specs.Kinds.{kindAllowed, settingAllowed}
-use Rattle.format.specs.File.{layout}
+use Rattle.format.specs.Bytes.{bytesOf}
+use Rattle.format.specs.Stored.{stored, kept}
+use Rattle.format.specs.File.{header, layout}
 use Rattle.format.specs.Calls.{outNumber, settingNumber, makeNumber, Made}
 use Rattle.laws.proofs.Tools.{refuse-zero}
 use Rattle.laws.proofs.Limits.{small-dims}
 use Rattle.laws.proofs.Calls.{setting-zero}
+use Rattle.stores.specs.Put.{put}
+use Rattle.stores.proofs.Laws.{length-put}
+use Rattle.encode.specs.declared.state.Encoder.{Encoder}
+use Rattle.encode.specs.Encoder.{begun, firsts, seconds}
+use Rattle.heading.specs.declared.Sizes.{Sizes}
+use Rattle.heading.specs.Counted.{countsIn}
+use Rattle.shape.specs.Shape.{measuredBy, sizesOf}
+use Rattle.levels.specs.Levels.{LevelZero}
+use Rattle.assemble.specs.Assembled.{outOf, withUpper, Goes}
+use Rattle.assemble.proofs.WholeFile.{out-number, laidOut, Laid, laid-out}
 use Rattle.header.proofs.CellCount.{count-none, count-some}
 use Rattle.archive.specs.Known.{pictureNumber}
 
@@ -117,3 +130,42 @@ module _ (s : Setting) (d : Dimensions) (E : ℕ) (ws before : List ℕ) where
     pub make-done : (after : List ℕ) → outNumber s d E ws (length before) ≡ 0 → after ≡ layout s d E ws ++ drop (length (layout s d E ws)) before
         → Made s d E ws before 0 after
     make-done after e f = record { number = sym e ∙ made-number; left = f }
+
+-- ---- the file put out in steps
+
+module _ (s : Setting) (d : Dimensions) (E : ℕ) (ws before : List ℕ) (e : Encoder) (z : Sizes) (g : Goes s d E ws e (length before)) (q : z ≡ sizesOf s e) where
+  pub laid-by : Laid s d E ws before e z
+  laid-by = laid-out s d E ws before e z g q
+
+  module _ (d1 : List ℕ) (h : d1 ≡ put before 0 (header s d E (countsIn z))) where
+    pub same-room : length d1 ≡ length before
+    same-room = ap length h ∙ length-put before 0 (header s d E (countsIn z))
+
+    pub words-room : 52 + z .first + z .second + 4 * length (kept E ws) ≤ length d1
+    words-room = let l = same-room in let r = laid-by .words-room in omega arith
+
+    module _ (d2 : List ℕ)
+        (i : d2 ≡ put (put (put d1 52 (firsts s (begun 52 (52 + z .first)) (stored E ws))) (52 + z .first) (seconds s (begun 52 (52 + z .first)) (stored E ws)))
+        (52 + z .first + z .second) (bytesOf 4 (kept E ws))) where
+      steps : d2 ≡ laidOut s d E ws z before
+      steps =
+          i
+          ∙ ap (λ (t : List ℕ). put (put (put t 52 (firsts s (begun 52 (52 + z .first)) (stored E ws))) (52 + z .first) (seconds s (begun 52 (52 + z .first)) (stored E ws)))
+          (52 + z .first + z .second) (bytesOf 4 (kept E ws))) h
+
+      pub levels-there : s .kind ≡ 5 → LevelZero d2 (s .step) (z .seconds) (52 + z .first)
+      levels-there k = subst (λ (t : List ℕ). LevelZero t (s .step) (z .seconds) (52 + z .first)) (sym steps) (laid-by .levels k)
+
+      pub file-there : (after : List ℕ) → after ≡ withUpper s z d2 → after ≡ leaves 0 (layout s d E ws) before
+      file-there after f = f ∙ ap (withUpper s z) steps ∙ laid-by .file
+
+module _ (s : Setting) (d : Dimensions) (E : ℕ) (ws : List ℕ) (p : pictureNumber s d (length ws) ≡ 0) (e : Encoder) (m : e ≡ measuredBy s (stored E ws)) where
+  pub measured-number : (room n : ℕ) → n ≡ outOf s e room → n ≡ outNumber s d E ws room
+  measured-number room n o =
+      let r = picture-right s d (length ws) p in
+      o ∙ ap (λ (x : Encoder). outOf s x room) m ∙ out-number s (r .setting) d (r .four) E ws (r .few) room
+
+  pub goes-by : (room : ℕ) → outOf s e room ≡ 0 → Goes s d E ws e room
+  goes-by room o =
+      let r = picture-right s d (length ws) p in
+      record { allowed = r .setting; four = r .four; few = r .few; encoder = m; number = o }

@@ -2,3 +2,4 @@
 pub mod check;
 pub mod expand;
 pub mod lookup;
+pub mod make;

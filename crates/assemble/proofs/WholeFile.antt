@@ -1,6 +1,6 @@
 -- A measured file is the layout's, and its pieces, put one after the other, are the layout. Assumes nothing.
 use Prim.Native.Nat.{ℕ, _+_, _*_, _≤_, _<_}
-use mathlib.Core.Path.{_≡_, refl, sym, ap, _∙_}
+use mathlib.Core.Path.{_≡_, sym, ap, subst, _∙_}
 use mathlib.Core.Bool.{Bool, true, false, not}
 use mathlib.Core.List.{List, [], _∷_, _++_}
 use native.Mathlib.Omega.{arith}
@@ -26,13 +26,22 @@ use Rattle.encode.specs.Encoder.{begun, firsts, seconds}
 use Rattle.encode.specs.Ready.{Apart}
 use Rattle.encode.proofs.Encoded.{measured}
 use Rattle.heading.specs.declared.Sizes.{Sizes}
-use Rattle.heading.specs.Counted.{countsIn}
+use Rattle.heading.specs.Counted.{countsIn, Fitting}
 use Rattle.heading.proofs.Laws.{length-header}
-use Rattle.shape.specs.Shape.{sizesOf, totalOf}
-use Rattle.shape.proofs.Measures.{Shaped, measuredBy, small, shaped}
+use Rattle.shape.specs.Shape.{measuredBy, Small, sizesOf, totalOf}
+use Rattle.shape.proofs.Measures.{Shaped, small, shaped}
 use Rattle.levels.specs.Levels.{LevelZero}
-use Rattle.assemble.specs.Assembled.{outOf, OutKnown, withUpper}
+use Rattle.assemble.specs.Assembled.{outOf, OutKnown, withUpper, Goes}
 use Rattle.assemble.proofs.Pieces.{apart, level-ready, assembled}
+
+-- the destination before kind 5's upper levels: header, the encoder's bytes and the words
+abbrev pub laidOut : Setting → Dimensions → ℕ → List ℕ → Sizes → List ℕ → List ℕ
+laidOut s d E ws z before =
+    put
+    (put (put (put before 0 (header s d E (countsIn z))) 52 (firsts s (begun 52 (52 + z .first)) (stored E ws))) (52 + z .first)
+    (seconds s (begun 52 (52 + z .first)) (stored E ws)))
+    (52 + z .first + z .second)
+    (bytesOf 4 (kept E ws))
 
 same-not : (t u : Bool) → t ≡ not u → not t ≡ u
 same-not t true e = rw e
@@ -141,21 +150,12 @@ module _ (s : Setting) (a : settingAllowed s ≡ true) (d : Dimensions) (four : 
         let m = length-stored E 0 ws in
         omega arith
 
-    -- the destination before kind 5's upper levels: header, the encoder's bytes and the words
-    abbrev pub out : List ℕ
-    out =
-        put
-        (put (put (put before 0 (header s d E (countsIn z))) 52 (firsts s (begun 52 (52 + z .first)) ls)) (52 + z .first)
-        (seconds s (begun 52 (52 + z .first)) ls))
-        (52 + z .first + z .second)
-        (bytesOf 4 (kept E ws))
-
-    pub out-levels : s .kind ≡ 5 → LevelZero out (s .step) (z .seconds) (52 + z .first)
+    pub out-levels : s .kind ≡ 5 → LevelZero (laidOut s d E ws z before) (s .step) (z .seconds) (52 + z .first)
     out-levels =
         level-ready s a (length ws) ls few rising z out-shape before (header s d E (countsIn z)) (bytesOf 4 (kept E ws)) (length-header s d E (countsIn z) four)
         room words-length
 
-    pub out-file : withUpper s z out ≡ layout s d E ws ++ drop (length (layout s d E ws)) before
+    pub out-file : withUpper s z (laidOut s d E ws z before) ≡ layout s d E ws ++ drop (length (layout s d E ws)) before
     out-file =
         let r = room in
         let t = total-length unfit-false in
@@ -163,3 +163,36 @@ module _ (s : Setting) (a : settingAllowed s ≡ true) (d : Dimensions) (four : 
         room words-length
         ∙ ap (put before 0) (pieces unfit-false)
         ∙ put-front before (layout s d E ws) (omega arith)
+
+-- what the code that puts the file out relies on
+pub record Laid (s : Setting) (d : Dimensions) (E : ℕ) (ws before : List ℕ) (e : Encoder) (z : Sizes) : Type 0 where
+  pub small : Small e
+  pub fitting : Fitting z
+  pub long : 52 ≤ length before
+  pub second-most : 52 + z .first ≤ 4294967296
+  pub apart : Apart s (begun 52 (52 + z .first)) (stored E ws) (52 + z .first + z .second)
+  pub words-room : 52 + z .first + z .second + 4 * length (kept E ws) ≤ length before
+  pub levels : s .kind ≡ 5 → LevelZero (laidOut s d E ws z before) (s .step) (z .seconds) (52 + z .first)
+  pub file : withUpper s z (laidOut s d E ws z before) ≡ layout s d E ws ++ drop (length (layout s d E ws)) before
+
+pub laid-out : (s : Setting) (d : Dimensions) (E : ℕ) (ws before : List ℕ) (e : Encoder) (z : Sizes) → Goes s d E ws e (length before) → z ≡ sizesOf s e
+    → Laid s d E ws before e z
+laid-out s d E ws before e z g q =
+    let a = g .allowed in
+    let m = measuredBy s (stored E ws) in
+    let o : outOf s m (length before) ≡ 0 = subst (λ (x : Encoder). outOf s x (length before) ≡ 0) (g .encoder) (g .number) in
+    let r = room s a d (g .four) E ws (g .few) before o in
+    let h = out-shape s a d (g .four) E ws (g .few) before o in
+    let base : Laid s d E ws before m (sizesOf s m) =
+        record {
+          small = small s a (length ws) (stored E ws) (g .few) (rising s a d (g .four) E ws (g .few)) (unfit-false s a d (g .four) E ws (g .few) before o);
+          fitting = h .fits;
+          long = omega arith;
+          second-most = let f = h .fits in omega arith;
+          apart = out-apart s a d (g .four) E ws (g .few) before o;
+          words-room = words-room s a d (g .four) E ws (g .few) before o;
+          levels = out-levels s a d (g .four) E ws (g .few) before o;
+          file = out-file s a d (g .four) E ws (g .few) before o;
+        }
+    in
+    subst (λ (x : Sizes). Laid s d E ws before e x) (sym q) (subst (λ (x : Encoder). Laid s d E ws before x (sizesOf s x)) (sym (g .encoder)) base)

@@ -1,20 +1,23 @@
 -- Whether a measured file fits, and a destination with kind 5's upper levels. Assumes nothing.
-use Prim.Native.Nat.{ℕ, _+_}
+use Prim.Native.Nat.{ℕ, _+_, _≤_}
 use mathlib.Core.Path.{_≡_}
 use mathlib.Core.Bool.{true, not}
 use mathlib.Core.List.{List}
+use lib.ListN.{length}
 use lib.Dec.{eqb, ltb}
+use Rattle.format.specs.declared.Dimensions.{Dimensions}
 use Rattle.format.specs.declared.Setting.{Setting}
 use Rattle.format.specs.Tools.{pick}
 use Rattle.format.specs.Signals.{UNFIT, SMALL, refuse}
 use Rattle.format.specs.Bytes.{bytesOf}
+use Rattle.format.specs.Stored.{stored}
 use Rattle.format.specs.Kinds.{settingAllowed}
 use Rattle.format.specs.PagedRuns.{flatSpans, upperLevels}
 use Rattle.stores.specs.Put.{put}
 use Rattle.encode.specs.declared.state.Encoder.{Encoder}
 use Rattle.heading.specs.declared.Sizes.{Sizes}
 use Rattle.heading.specs.Counted.{Fitting}
-use Rattle.shape.specs.Shape.{Small, sizesOf, totalOf}
+use Rattle.shape.specs.Shape.{measuredBy, Small, sizesOf, totalOf}
 use Rattle.levels.specs.Levels.{levelIn}
 
 -- 9 and 10, of what the encoder has measured
@@ -31,3 +34,11 @@ pub record OutKnown (s : Setting) (e : Encoder) : Type 0 where
 unfoldable pub withUpper : Setting → Sizes → List ℕ → List ℕ
 withUpper s z d =
     pick (eqb (s .kind) 5) (put d 52 (bytesOf 4 (flatSpans (upperLevels (s .step) (levelIn d (z .seconds) (52 + z .first)))))) d
+
+-- e has measured the file of the words ws, and the file goes into `room` bytes
+pub record Goes (s : Setting) (d : Dimensions) (E : ℕ) (ws : List ℕ) (e : Encoder) (room : ℕ) : Type 0 where
+  pub allowed : settingAllowed s ≡ true
+  pub four : length (d .extents) ≡ 4
+  pub few : length ws ≤ 16777216
+  pub encoder : e ≡ measuredBy s (stored E ws)
+  pub number : outOf s e room ≡ 0

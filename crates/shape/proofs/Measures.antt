@@ -22,11 +22,10 @@ use Rattle.laws.proofs.Settings.{by-kind}
 use Rattle.laws.proofs.Parts.{Known, known}
 use Rattle.header.proofs.EntryCounts.{page-step}
 use Rattle.encode.specs.declared.state.Encoder.{Encoder}
-use Rattle.encode.specs.Encoder.{begun, ended, takenAll}
 use Rattle.encode.proofs.Encoded.{encoded, measured}
 use Rattle.heading.specs.declared.Sizes.{Sizes}
 use Rattle.heading.specs.Counted.{countsIn, Fitting}
-use Rattle.shape.specs.Shape.{Small, counted, paged, sizesBy, sizesOf}
+use Rattle.shape.specs.Shape.{measuredBy, Small, counted, paged, sizesBy, sizesOf}
 
 eight : (n c : ℕ) → n ≡ 8 * c → n / 8 ≡ c
 eight n c e = omega arith
@@ -110,10 +109,6 @@ pages s e a = page-step (s .kind) (s .width) (s .step) e a
 pub record Shaped (s : Setting) (ls : List ℕ) (z : Sizes) : Type 0 where
   pub counts : countsIn z ≡ countsOf (length ls) (codec s .parts ls)
   pub fits : Fitting z
-
--- the encoder after all positions and the end
-abbrev pub measuredBy : Setting → List ℕ → Encoder
-measuredBy s ls = ended s (takenAll s (begun 0 0) ls)
 
 length-rising : (a B : ℕ) (ls : List ℕ) → a ≤ B → Rising a B ls → a + length ls ≤ B
 length-rising a B [] h r = omega arith

@@ -1,9 +1,15 @@
 -- What a file measures, by the encoder after all positions and the end, which began at 0 and 0. Assumes nothing.
 use Prim.Native.Nat.{ℕ, zero, suc, _+_, _*_, _/_, _≤_}
+use mathlib.Core.List.{List}
 use Rattle.format.specs.declared.Setting.{Setting}
 use Rattle.format.specs.PagedRuns.{upperEntries}
 use Rattle.encode.specs.declared.state.Encoder.{Encoder}
+use Rattle.encode.specs.Encoder.{begun, ended, takenAll}
 use Rattle.heading.specs.declared.Sizes.{Sizes}
+
+-- the encoder after all positions and the end
+abbrev pub measuredBy : Setting → List ℕ → Encoder
+measuredBy s ls = ended s (takenAll s (begun 0 0) ls)
 
 -- no size passes 32 bits
 pub record Small (e : Encoder) : Type 0 where
