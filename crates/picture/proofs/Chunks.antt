@@ -1,5 +1,5 @@
 -- The cells of a picture in chunks: those from index `at` up to `end` first, then those from there on. Assumes nothing.
-use Prim.Native.Nat.{ℕ, _+_, _-_, _*_, _≤_, _<_, min}
+use Prim.Native.Nat.{ℕ, _+_, _-_, _≤_, _<_, min}
 use mathlib.Core.Path.{_≡_, refl, sym, ap, _∙_}
 use mathlib.Core.Bool.{true}
 use mathlib.Core.List.{List, [], _++_}
@@ -25,6 +25,10 @@ left E ws at = storedFrom E at (drop at ws)
 -- the cells from `at` up to `end`
 abbrev pub chunk : List ℕ → ℕ → ℕ → List ℕ
 chunk ws at end = take (end - at) (drop at ws)
+
+-- the stored positions among them
+abbrev pub listed : ℕ → List ℕ → ℕ → ℕ → List ℕ
+listed E ws at end = storedFrom E at (chunk ws at end)
 
 -- before the first cell
 pub along-begun : (f g E : ℕ) (ws : List ℕ) → f ≤ 4294967296 → g ≤ 4294967296 → length ws ≤ 16777216 → Along (begun f g) (left E ws 0)
@@ -58,7 +62,7 @@ module _ (E : ℕ) (ws : List ℕ) (at end : ℕ) (z : Cut (length ws) at end) w
   pub length-chunk : length (chunk ws at end) ≡ end - at
   length-chunk = let h = z .inside in let n = length-drop at ws in length-take-le (end - at) (drop at ws) (omega arith)
 
-  pub stored-cut : left E ws at ≡ storedFrom E at (chunk ws at end) ++ left E ws end
+  pub stored-cut : left E ws at ≡ listed E ws at end ++ left E ws end
   stored-cut =
       let h = z .start in
       let e : at + length (chunk ws at end) ≡ end = omega (arith, length-chunk) in
@@ -68,26 +72,26 @@ module _ (E : ℕ) (ws : List ℕ) (at end : ℕ) (z : Cut (length ws) at end) w
   kept-cut = ap (kept E) cut ∙ kept-append E (chunk ws at end) (drop end ws)
 
   -- the positions of the chunk can be taken, and those left after them
-  pub along-chunk : (e : Encoder) → Along e (left E ws at) → Along e (storedFrom E at (chunk ws at end))
+  pub along-chunk : (e : Encoder) → Along e (left E ws at) → Along e (listed E ws at end)
   along-chunk e a =
       record {
         sound = a .sound;
-        rising = rising-front (passed e) 16777216 (storedFrom E at (chunk ws at end)) (left E ws end) (rw (← stored-cut) (a .rising));
+        rising = rising-front (passed e) 16777216 (listed E ws at end) (left E ws end) (rw (← stored-cut) (a .rising));
       }
 
   module _ (s : Setting) (e : Encoder) where
-    pub along-left : settingAllowed s ≡ true → Along e (left E ws at) → Along (takenAll s e (storedFrom E at (chunk ws at end))) (left E ws end)
-    along-left t a = along-added s e (storedFrom E at (chunk ws at end)) (left E ws end) t (a .sound) (rw (← stored-cut) (a .rising))
+    pub along-left : settingAllowed s ≡ true → Along e (left E ws at) → Along (takenAll s e (listed E ws at end)) (left E ws end)
+    along-left t a = along-added s e (listed E ws at end) (left E ws end) t (a .sound) (rw (← stored-cut) (a .rising))
 
-    pub all-left : takenAll s (takenAll s e (storedFrom E at (chunk ws at end))) (left E ws end) ≡ takenAll s e (left E ws at)
-    all-left = sym (ap (takenAll s e) stored-cut ∙ all-append s e (storedFrom E at (chunk ws at end)) (left E ws end))
+    pub all-left : takenAll s (takenAll s e (listed E ws at end)) (left E ws end) ≡ takenAll s e (left E ws at)
+    all-left = sym (ap (takenAll s e) stored-cut ∙ all-append s e (listed E ws at end) (left E ws end))
 
--- the first n elements are ls, which has as many
-pub record Front (n : ℕ) (out ls : List ℕ) : Type 0 where
+-- the first n elements of a list that has as many
+pub record Front (n : ℕ) (out : List ℕ) : Type 0 where
   pub inside : n ≤ length out
   pub count : n ≡ length (take n out)
 
-pub front : (n : ℕ) (out ls : List ℕ) → n ≡ length ls → take n out ≡ ls → Front n out ls
+pub front : (n : ℕ) (out ls : List ℕ) → n ≡ length ls → take n out ≡ ls → Front n out
 front n out ls h q =
     let e : n ≡ length (take n out) = h ∙ ap length (sym q) in
     record { inside = omega (arith, e, length-take n out); count = e }

@@ -9,7 +9,7 @@ use lib.ListN.{length, drop, length-append, drop-of-length-le}
 use Rattle.format.specs.declared.Setting.{Setting}
 use Rattle.format.specs.Kinds.{settingAllowed}
 use Rattle.format.specs.Bytes.{bytes, bytesOf}
-use Rattle.format.specs.Stored.{storedFrom, stored, kept}
+use Rattle.format.specs.Stored.{stored, kept}
 use Rattle.laws.proofs.Bytes.{length-bytesOf}
 use Rattle.laws.proofs.Stored.{length-stored}
 use Rattle.stores.specs.Put.{put}
@@ -20,7 +20,7 @@ use Rattle.encode.specs.Batch.{Along}
 use Rattle.encode.proofs.Turn.{put-end}
 use Rattle.encode.proofs.Batches.{rank-added, room-first-all, room-second-all, apart-added, put-turn-all}
 use Rattle.picture.specs.Chunk.{putChunk, ChunkRoom}
-use Rattle.picture.proofs.Chunks.{left, chunk, Cut, left-none, along-begun, stored-cut, kept-cut, along-chunk, along-left}
+use Rattle.picture.proofs.Chunks.{left, chunk, listed, Cut, left-none, along-begun, stored-cut, kept-cut, along-chunk, along-left}
 
 bytes-append : (w : ℕ) (xs ys : List ℕ) → bytesOf w (xs ++ ys) ≡ bytesOf w xs ++ bytesOf w ys
 unfolding bytesOf
@@ -52,47 +52,47 @@ module _ (s : Setting) (E : ℕ) (ws : List ℕ) (place n : ℕ) where
 
   -- a chunk
   module _ (e : Encoder) (at end : ℕ) (z : Cut (length ws) at end) (g : Going s E ws place n e at) where
-    apart-cut : (v : ℕ) → place ≤ v → Apart s e (storedFrom E at (chunk ws at end) ++ left E ws end) v
+    apart-cut : (v : ℕ) → place ≤ v → Apart s e (listed E ws at end ++ left E ws end) v
     apart-cut v h =
         let k = g .apart .second in
         let a : Apart s e (left E ws at) v = record { first = g .apart .first; second = omega arith } in
         rw (← stored-cut E ws at end z) a
 
-    length-cut : length (kept E (drop at ws)) ≡ length (storedFrom E at (chunk ws at end)) + length (kept E (drop end ws))
+    length-cut : length (kept E (drop at ws)) ≡ length (listed E ws at end) + length (kept E (drop end ws))
     length-cut =
         ap length (kept-cut E ws at end z) ∙ length-append (kept E (chunk ws at end)) (kept E (drop end ws))
         ∙ rw (length-stored E at (chunk ws at end))
 
-    pub room-chunk : ChunkRoom s e (storedFrom E at (chunk ws at end)) (place + 4 * e .rank) n
+    pub room-chunk : ChunkRoom s e (listed E ws at end) (place + 4 * e .rank) n
     room-chunk =
         let a = apart-cut place (omega arith) in
         let r = g .room in
         let l = length-cut in
         record {
           along = along-chunk E ws at end z e (g .along);
-          first = room-first-all s e (storedFrom E at (chunk ws at end)) (left E ws end) place a;
-          second = room-second-all s e (storedFrom E at (chunk ws at end)) (left E ws end) place a n (omega arith);
+          first = room-first-all s e (listed E ws at end) (left E ws end) place a;
+          second = room-second-all s e (listed E ws at end) (left E ws end) place a n (omega arith);
           words = omega arith;
         }
 
-    pub going-next : settingAllowed s ≡ true → Going s E ws place n (takenAll s e (storedFrom E at (chunk ws at end))) end
+    pub going-next : settingAllowed s ≡ true → Going s E ws place n (takenAll s e (listed E ws at end)) end
     going-next t =
         let r = g .room in
         let l = length-cut in
-        let k = rank-added s e (storedFrom E at (chunk ws at end)) in
+        let k = rank-added s e (listed E ws at end) in
         record {
           along = along-left E ws at end z s e t (g .along);
-          apart = apart-added s e (storedFrom E at (chunk ws at end)) (left E ws end) place (apart-cut place (omega arith));
+          apart = apart-added s e (listed E ws at end) (left E ws end) place (apart-cut place (omega arith));
           room = omega arith;
         }
 
     pub put-next : (d : List ℕ)
-        → putRest s (putChunk s d e (storedFrom E at (chunk ws at end)) (place + 4 * e .rank) (kept E (chunk ws at end)))
-        (takenAll s e (storedFrom E at (chunk ws at end))) (left E ws end) place (kept E (drop end ws))
+        → putRest s (putChunk s d e (listed E ws at end) (place + 4 * e .rank) (kept E (chunk ws at end)))
+        (takenAll s e (listed E ws at end)) (left E ws end) place (kept E (drop end ws))
         ≡ putRest s d e (left E ws at) place (kept E (drop at ws))
     unfolding putChunk
     put-next d =
-        let xs : List ℕ = storedFrom E at (chunk ws at end) in
+        let xs : List ℕ = listed E ws at end in
         let ys : List ℕ = left E ws end in
         let t : Encoder = takenAll s e xs in
         let v : ℕ = place + 4 * e .rank in

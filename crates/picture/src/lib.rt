@@ -53,7 +53,7 @@ pub fn measure(words: &[u32], empty: u32, s: Setting) -> Encoder
     requires { ⌜ (settingAllowed s ≡ true) × (length (now words) ≤ 16777216) ⌝ }
     ensures { λ r. ⌜ r ≡ ended s (takenAll s (begun 0 0) (stored empty (now (words .entry)))) ⌝ }
 {
-    let mut batch = [0u32; 1024];
+    let mut batch = [0u32; CHUNK];
     let mut e = begin(0, 0);
     let mut at: usize = 0;
     while at < words.len() {
@@ -97,14 +97,14 @@ pub fn put_out(dst: &mut [u8], words: &[u32], empty: u32, s: Setting, second: us
     ensures { λ _. ⌜ now (dst .exit) ≡ put (put (put (now (dst .entry)) 52 (firsts s (begun 52 second) (stored empty (now (words .entry))))) second
         (seconds s (begun 52 second) (stored empty (now (words .entry))))) place (bytesOf 4 (kept empty (now (words .entry)))) ⌝ }
 {
-    let mut batch = [0u32; 1024];
+    let mut batch = [0u32; CHUNK];
     let mut e = begin(52, second);
     let mut at: usize = 0;
     while at < words.len() {
-        let end = lesser(at + CHUNK, words.len());
-        let chunk = &words[at..end];
+        let next = lesser(at + CHUNK, words.len());
+        let chunk = &words[at..next];
         e = put_chunk(dst, chunk, at as u32, empty, s, e, place, &mut batch);
-        at = end;
+        at = next;
     }
     finish(dst, s, e);
 }

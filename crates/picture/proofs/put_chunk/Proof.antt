@@ -1,5 +1,4 @@
 -- `put_chunk` meets its contract: the batch holds the stored positions, and stays as it is. Assumes nothing.
-use Prim.Native.Nat.{_+_, _*_}
 use mathlib.Core.Path.{_≡_, ap, _∙_}
 use native.Mathlib.Omega.{arith}
 use Rattle.encode.specs.Encoder.{takenAll}
