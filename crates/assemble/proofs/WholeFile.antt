@@ -184,15 +184,15 @@ laid-out s d E ws before e z g q =
     let r = room s a d (g .four) E ws (g .few) before o in
     let h = out-shape s a d (g .four) E ws (g .few) before o in
     let base : Laid s d E ws before m (sizesOf s m) =
-        record {
-          small = small s a (length ws) (stored E ws) (g .few) (rising s a d (g .four) E ws (g .few)) (unfit-false s a d (g .four) E ws (g .few) before o);
-          fitting = h .fits;
-          long = omega arith;
-          second-most = let f = h .fits in omega arith;
-          apart = out-apart s a d (g .four) E ws (g .few) before o;
-          words-room = words-room s a d (g .four) E ws (g .few) before o;
-          levels = out-levels s a d (g .four) E ws (g .few) before o;
-          file = out-file s a d (g .four) E ws (g .few) before o;
-        }
+    record {
+      small = small s a (length ws) (stored E ws) (g .few) (rising s a d (g .four) E ws (g .few)) (unfit-false s a d (g .four) E ws (g .few) before o);
+      fitting = h .fits;
+      long = omega arith;
+      second-most = let f = h .fits in omega arith;
+      apart = out-apart s a d (g .four) E ws (g .few) before o;
+      words-room = words-room s a d (g .four) E ws (g .few) before o;
+      levels = out-levels s a d (g .four) E ws (g .few) before o;
+      file = out-file s a d (g .four) E ws (g .few) before o;
+    }
     in
     subst (λ (x : Sizes). Laid s d E ws before e x) (sym q) (subst (λ (x : Encoder). Laid s d E ws before x (sizesOf s x)) (sym (g .encoder)) base)
