@@ -1,23 +1,68 @@
--- A step of a search, by what is loaded. Assumes nothing.
-use Prim.Native.Nat.{ℕ, _+_, _*_, _≤_, _<_}
-use mathlib.Core.Path.{_≡_}
+-- The steps of a search, one by one and by the sum of a group. Assumes nothing.
+use Prim.Native.Nat.{ℕ, zero, suc, _+_, _*_, _≤_}
+use mathlib.Core.Path.{_≡_, refl}
+use mathlib.Core.Bool.{true, false, not}
 use mathlib.Core.List.{List}
-use borrow.Author.Tests.{lt-ltb, le-ltb, ne-eqb}
+use native.Mathlib.Nat.{add-zero, add-assoc, mul-le-mul-left}
+use native.Mathlib.Numerals.{add-one}
+use native.Mathlib.Omega.{arith}
+use lib.Dec.{eqb}
+use borrow.Author.Tests.{ne-eqb, not-true}
+use Rattle.format.specs.Bytes.{field}
 use Rattle.wire.specs.Wire.{whole}
+use Rattle.laws.proofs.Tools.{both-true}
 use Rattle.jumps.specs.declared.search.Reached.{Reached}
-use Rattle.jumps.specs.declared.search.Step.the-variants.{To, End}
-use Rattle.jumps.specs.Walk.{jumpTo, stepBy, stepped}
+use Rattle.jumps.specs.declared.search.Group.{Group}
+use Rattle.jumps.specs.Walk.{stepBy, stepped, walked, joined, grouped, Room}
 
-module _ (w second : ℕ) (b : List ℕ) (r : ℕ) (s : Reached) {d : ℕ} (e : d ≡ whole w (second + w * r) b) where
-  pub by-difference : (d ≡ 0 → ⊥) → To (record { position = s .position + d; taken = s .taken }) ≡ stepped w second b r s
-  unfolding stepped stepBy
-  by-difference n = rw (← e, ne-eqb d 0 n)
+module _ (w second : ℕ) (b : List ℕ) where
+  -- an earlier difference lies in the file too
+  pub earlier : {r m : ℕ} → Room w second b m → r ≤ m → Room w second b r
+  earlier {r} {m} z h =
+      let k : w * r ≤ w * m = mul-le-mul-left w h in
+      let i = z .inside in
+      let n = z .rank in
+      record { narrow = z .narrow; wide = z .wide; inside = omega arith; rank = omega arith }
 
-  module _ (z : d ≡ 0) {j : ℕ} (f : j ≡ whole 4 (52 + 4 * s .taken) b) where
-    pub by-none : j ≤ s .position → End ≡ stepped w second b r s
-    unfolding stepped stepBy jumpTo
-    by-none h = rw (← e, ← f, z, le-ltb (s .position) j h)
+  -- ---- to rank r
 
-    pub by-jump : s .position < j → To (record { position = j; taken = s .taken + 1 }) ≡ stepped w second b r s
-    unfolding stepped stepBy jumpTo
-    by-jump h = rw (← e, ← f, z, lt-ltb (s .position) j h)
+  module _ (r : ℕ) (s : Reached) {d : ℕ} (e : d ≡ field w (second + w * r) b) where
+    pub by-difference : (d ≡ 0 → ⊥) → _≡_ {A = Reached} (record { position = s .position + d; taken = s .taken }) (stepped w second b r s)
+    unfolding stepped stepBy
+    by-difference n = rw (← e, ne-eqb d 0 n)
+
+    pub by-jump : d ≡ 0 → {j : ℕ} → j ≡ whole 4 (52 + 4 * s .taken) b
+        → _≡_ {A = Reached} (record { position = j; taken = s .taken + 1 }) (stepped w second b r s)
+    unfolding stepped stepBy
+    by-jump z f = rw (← e, ← f, z)
+
+  -- ---- on from rank r
+
+  module _ (r : ℕ) where
+    pub walked-next : (k : ℕ) (s : Reached) {t u : Reached} → t ≡ walked w second b r k s → u ≡ stepped w second b (r + (k + 1)) t
+        → u ≡ walked w second b r (k + 1) s
+    unfolding walked
+    walked-next k s e f = rw (f, e, add-one k)
+
+    pub group-start : _≡_ {A = Group} (record { sum = 0; plain = true }) (grouped w second b r 0)
+    unfolding grouped
+    group-start = refl
+
+    module _ (k : ℕ) {g : Group} (e : g ≡ grouped w second b r k) {d : ℕ} (f : d ≡ field w (second + w * (r + (k + 1))) b) where
+      pub group-plain : (d ≡ 0 → ⊥) → _≡_ {A = Group} (record { sum = g .sum + d; plain = g .plain }) (grouped w second b r (k + 1))
+      unfolding grouped joined
+      group-plain n = let q = rw (add-one k) at f in rw (add-one k, ← e, ← q, ne-eqb d 0 n)
+
+      pub group-jump : d ≡ 0 → _≡_ {A = Group} (record { sum = g .sum + d; plain = false }) (grouped w second b r (k + 1))
+      unfolding grouped joined
+      group-jump z = let q = rw (add-one k) at f in rw (add-one k, ← e, ← q, z)
+
+    -- the differences of a group that holds no jump, one after the other, are their sum
+    pub plain-walked : (n : ℕ) (s : Reached) → grouped w second b r n .plain ≡ true
+        → _≡_ {A = Reached} (record { position = s .position + grouped w second b r n .sum; taken = s .taken }) (walked w second b r n s)
+    unfolding walked grouped joined stepped stepBy
+    plain-walked zero s h = rw (add-zero (s .position))
+    plain-walked (suc n) s h =
+        let d = field w (second + w * (r + suc n)) b in
+        let z = both-true (not (eqb d 0)) (grouped w second b r n .plain) h in
+        rw (← plain-walked n s (z .1), ← add-assoc, not-true (eqb d 0) (z .0))

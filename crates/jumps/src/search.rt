@@ -1,19 +1,18 @@
-// The searches of kind 4: one pass from rank 0 on, over any bytes and any view.
+// The searches of kind 4: one pass from rank 0 on, over any bytes and any view. Ranks are taken in groups.
+use super::check::difference;
 use format::Position;
 use format::PositionAnswer;
 use format::Rank;
 use format::RankAnswer;
 use format::View;
 use header::places::second_at;
-use wire::load_u8;
-use wire::load_u16;
 use wire::load_u32;
 ghost use mathlib.Core.Path.{_≡_};
 ghost use Prim.Native.Nat.{_+_, _*_, _^_, _≤_, _<_};
+ghost use lib.ListN.{length};
 ghost use Rattle.format.specs.Answers.{rankSays, positionSays};
 ghost use Rattle.header.specs.Search.{KindRankSearched, KindPositionSearched};
-ghost use Rattle.wire.specs.Wire.{whole};
-ghost use Rattle.jumps.specs.Walk.{stepped, Within, StepWithin, OfWidth};
+ghost use Rattle.jumps.specs.Walk.{stepped, walked, grouped, Within, Room, OfWidth};
 
 // How far a search has come: the position of a rank, and the number of jumps that are taken up to it.
 pub struct Reached {
@@ -21,45 +20,86 @@ pub struct Reached {
     pub taken: usize,
 }
 
-// The next rank, or the end where positions rise no more.
-pub enum Step {
-    To(Reached),
-    End,
+// The differences of a group of ranks: their sum, and whether no jump is among them.
+pub struct Group {
+    pub sum: u32,
+    pub plain: bool,
 }
 
-// The difference of rank i, of width 1 or 2; 0 past the end of the file.
-fn load_difference(file: &[u8], second: usize, i: usize, width: u32) -> u32
-    requires { ⌜ (1 ≤ width) × (width ≤ 2) × (second < 2 ^ 36) × (i < 2 ^ 32) ⌝ }
-    ensures { λ r. ⌜ (r ≡ whole width (second + width * i) (now (file .entry))) × (r < 65536) ⌝ }
-{
-    if width == 1 {
-        return load_u8(file, second + i);
-    }
-    load_u16(file, second + 2 * i)
-}
-
-// To rank r from the rank before. A jump that is not past the position before is refused, so past the end of the file a search soon ends.
-fn advance(file: &[u8], second: usize, width: u32, r: u32, s: Reached) -> Step
-    requires { ⌜ (1 ≤ width) × (width ≤ 2) × (second < 2 ^ 36) × Within r s ⌝ }
-    ensures { λ t. ⌜ (t ≡ stepped width second (now (file .entry)) r s) × StepWithin (r + 1) t ⌝ }
+// To rank r from the rank before. The next jump is read in either case, so that a jump costs no mispredicted branch.
+fn advance(file: &[u8], second: usize, width: u32, r: usize, s: Reached) -> Reached
+    requires { ⌜ Room width second (now file) r × Within r s ⌝ }
+    ensures { λ t. ⌜ (t ≡ stepped width second (now (file .entry)) r s) × Within (r + 1) t ⌝ }
 {
     let position = s.position;
     let taken = s.taken;
-    let d = load_difference(file, second, r as usize, width) as usize;
+    let d = difference(file, second, r, width) as usize;
+    let jump = load_u32(file, 52 + 4 * taken) as usize;
     if d != 0 {
-        return Step::To(Reached {
+        return Reached {
             position: position + d,
             taken: taken,
-        });
+        };
     }
-    let jump = load_u32(file, 52 + 4 * taken) as usize;
-    if jump <= position {
-        return Step::End;
-    }
-    Step::To(Reached {
+    Reached {
         position: jump,
         taken: taken + 1,
-    })
+    }
+}
+
+// The 16 differences after rank r.
+fn add_group(file: &[u8], second: usize, width: u32, r: usize) -> Group
+    requires { ⌜ Room width second (now file) (r + 16) ⌝ }
+    ensures { λ g. ⌜ (g ≡ grouped width second (now (file .entry)) r 16) × (g .sum ≤ 65536 * 16) ⌝ }
+{
+    let mut sum: u32 = 0;
+    let mut plain = true;
+    let mut k: usize = 0;
+    while k < 16 {
+        k += 1;
+        let d = difference(file, second, r + k, width);
+        sum += d;
+        if d == 0 {
+            plain = false;
+        }
+    }
+    Group {
+        sum,
+        plain,
+    }
+}
+
+// From rank r to the n-th rank after it. A group of 16 without a jump is taken by its sum.
+fn walk(file: &[u8], second: usize, width: u32, r: usize, n: usize, s: Reached) -> Reached
+    requires { ⌜ Room width second (now file) (r + n) × Within (r + 1) s ⌝ }
+    ensures { λ t. ⌜ (t ≡ walked width second (now (file .entry)) r n s) × Within (r + n + 1) t ⌝ }
+{
+    if n == 16 {
+        let g = add_group(file, second, width, r);
+        if g.plain {
+            return Reached {
+                position: s.position + g.sum as usize,
+                taken: s.taken,
+            };
+        }
+    }
+    let mut t = s;
+    let mut k: usize = 0;
+    while k < n {
+        k += 1;
+        t = advance(file, second, width, r + k, t);
+    }
+    t
+}
+
+// The ranks to take next where so many are left: a group, or what is left.
+fn next_group(left: usize) -> usize
+    ensures { λ n. ⌜ (n ≤ left) × (n ≤ 16) × (1 ≤ left → 1 ≤ n) ⌝ }
+{
+    if left < 16 {
+        return left;
+    }
+    16
 }
 
 // The rank at a position below cells. The width is 1 or 2, so that each has a loop of its own; on an accepted file it is the view's.
@@ -67,28 +107,38 @@ fn seek_rank(file: &[u8], v: View, width: u32, p: u32) -> RankAnswer
     requires { ⌜ (1 ≤ width) × (width ≤ 2) × (p < v .cells) × OfWidth (now file) v width ⌝ }
     ensures { λ r. ⌜ KindRankSearched 4 (now (file .entry)) v p (rankSays r) ⌝ }
 {
-    if v.words == 0 {
+    let words = v.words as usize;
+    let second = second_at(v);
+    if words == 0 {
         return RankAnswer::Empty;
     }
-    let second = second_at(v);
+    if file.len() < second + width as usize * words {
+        return RankAnswer::Empty;
+    }
     let target = p as usize;
     let mut s = Reached {
         position: load_u32(file, 52) as usize,
         taken: 1,
     };
-    let mut r: u32 = 0;
+    let mut r: usize = 0;
+    while r + 1 < words {
+        let n = next_group(words - 1 - r);
+        let t = walk(file, second, width, r, n, s);
+        if target <= t.position {
+            break;
+        }
+        s = t;
+        r += n;
+    }
     while s.position < target {
         r += 1;
-        if r == v.words {
+        if r == words {
             return RankAnswer::Empty;
         }
-        let Step::To(t) = advance(file, second, width, r, s) else {
-            return RankAnswer::Empty;
-        };
-        s = t;
+        s = advance(file, second, width, r, s);
     }
     if s.position == target {
-        return RankAnswer::Rank(Rank(r));
+        return RankAnswer::Rank(Rank(r as u32));
     }
     RankAnswer::Empty
 }
@@ -99,17 +149,19 @@ fn seek_position(file: &[u8], v: View, width: u32, rank: u32) -> PositionAnswer
     ensures { λ a. ⌜ KindPositionSearched 4 (now (file .entry)) v rank (positionSays a) ⌝ }
 {
     let second = second_at(v);
+    if file.len() < second + width as usize * v.words as usize {
+        return PositionAnswer::Refused(8);
+    }
+    let last = rank as usize;
     let mut s = Reached {
         position: load_u32(file, 52) as usize,
         taken: 1,
     };
-    let mut r: u32 = 0;
-    while r < rank {
-        r += 1;
-        let Step::To(t) = advance(file, second, width, r, s) else {
-            return PositionAnswer::Refused(8);
-        };
-        s = t;
+    let mut r: usize = 0;
+    while r < last {
+        let n = next_group(last - r);
+        s = walk(file, second, width, r, n, s);
+        r += n;
     }
     let position = s.position;
     if position < v.cells as usize {

@@ -1,67 +1,62 @@
--- A step from rank to rank, over any bytes. Assumes nothing.
-use native.Mathlib.Omega.{arith}
-use Rattle.jumps.proofs.Steps.{by-difference, by-none, by-jump}
 use borrow.Author.Needs.{needs}
 use Rattle.jumps.proofs.search.advance.Statement.{statement}
 use Rattle.jumps.proofs.search.advance.Tie as tie
+use Rattle.jumps.proofs.search.advance.Reads as reads
+use Rattle.jumps.proofs.search.advance.Lts as lts
+use Rattle.jumps.proofs.check.difference.Reads as difference-reads
+use Rattle.wire.proofs.load_u32.Reads as load-u32-reads
 
-load-difference-requires : tie.Need-load-difference-requires
-load-difference-requires c κs = search needs
+-- src/search.rt:36:13
+difference-requires : tie.Need-difference-requires
+difference-requires c κs = search needs
 
+-- src/search.rt:36:13
 cast-d : tie.Need-cast-d
 cast-d c = search needs
 
-add-t13 : tie.Need-add-t13
-add-t13 c = search needs
-
-returns : tie.Need-returns
-returns c =
-    let a = c .before .before .before .args in
-    let d = c .before .load-difference .ensures in
-    let d1 = d .1 in
-    (by-difference _ _ (a .file .now) (a .r) (a .s) (d .0) (c .if1 .taken), record { position = omega arith; taken = omega arith })
-
+-- src/search.rt:37:36
 mul-load-u32 : tie.Need-mul-load-u32
 mul-load-u32 c = search needs
 
+-- src/search.rt:37:31
 add-load-u32 : tie.Need-add-load-u32
 add-load-u32 c = search needs
 
+-- src/search.rt:37:16
 load-u32-requires : tie.Need-load-u32-requires
 load-u32-requires c κs = search needs
 
+-- src/search.rt:37:16
 cast-jump : tie.Need-cast-jump
 cast-jump c = search needs
 
+-- src/search.rt:40:23
+add-t14 : tie.Need-add-t14
+add-t14 c = search needs
+
+-- src/search.rt:39:9
+returns : tie.Need-returns
+returns c = search needs
+
+-- src/search.rt:46:16
+add-t11 : tie.Need-add-t11
+add-t11 c = search needs
+
+-- src/search.rt:30:1
 returns-2 : tie.Need-returns-2
-returns-2 c =
-    let a = c .before .before .before .before .before .args in
-    let d = c .before .before .before .load-difference .ensures .0 in
-    (by-none _ _ (a .file .now) (a .r) (a .s) d (c .before .before .if1 .left) (c .before .load-u32 .ensures .0) (c .if2 .taken), tt)
-
-add-t15 : tie.Need-add-t15
-add-t15 c = search needs
-
-returns-3 : tie.Need-returns-3
-returns-3 c =
-    let a = c .before .before .before .before .before .args in
-    let d = c .before .before .before .load-difference .ensures .0 in
-    let j = c .before .load-u32 .ensures in
-    let j1 = j .1 in
-    (by-jump _ _ (a .file .now) (a .r) (a .s) d (c .before .before .if1 .left) (j .0) (c .if2 .left), record { position = omega arith; taken = omega arith })
+returns-2 c = search needs
 
 pub advance-spec : {M : Type 1} → statement M
 advance-spec =
     tie.close
     (tie.spec
-    load-difference-requires
+    difference-requires
     cast-d
-    add-t13
-    returns
     mul-load-u32
     add-load-u32
     load-u32-requires
     cast-jump
-    returns-2
-    add-t15
-    returns-3)
+    add-t14
+    returns
+    add-t11
+    returns-2)
