@@ -1,55 +1,69 @@
+-- The differences of a group, one after the other. Assumes nothing.
+use Prim.Native.Nat.{ℕ, _+_, _*_, _-_, _≤_}
+use mathlib.Core.Path.{_≡_}
+use native.Mathlib.Omega.{arith}
+use Rattle.jumps.specs.declared.search.Group.{Group}
+use Rattle.jumps.specs.Walk.{grouped, Room}
+use Rattle.jumps.proofs.Steps.{earlier, group-start, group-plain, group-jump}
 use borrow.Author.Needs.{needs}
 use Rattle.jumps.proofs.search.add_group.Statement.{statement}
 use Rattle.jumps.proofs.search.add_group.Tie as tie
-use Rattle.jumps.proofs.search.add_group.Reads as reads
-use Rattle.jumps.proofs.search.add_group.Lts as lts
-use Rattle.jumps.proofs.check.difference.Reads as difference-reads
 
+-- k differences are added
 abbrev Inv-loop : tie.InvT-loop
-Inv-loop file second width r sum₀ plain₀ k₀ sum plain k = ?
+Inv-loop file second width r sum₀ plain₀ k₀ sum plain k =
+    (k ≤ 16) × (sum ≤ 65536 * k) × (_≡_ {A = Group} (record { sum = sum; plain = plain }) (grouped width second file r k))
 
 abbrev μ-loop : tie.MeasureT-loop
-μ-loop file second width r sum₀ plain₀ k₀ sum plain k = ?
+μ-loop file second width r sum₀ plain₀ k₀ sum plain k = 16 - k
 
--- src/search.rt:58:5
+-- the next difference lies in the file
+room : (c : tie.In-loop Inv-loop μ-loop)
+    → let a = c .before .before .before .args in Room (a .width) (a .second) (a .file .now) (a .r + (c .before .loop .k + 1))
+room c = earlier _ _ _ (c .before .before .before .pre) (omega arith)
+
 loop-holds : tie.Need-loop-holds Inv-loop μ-loop
-loop-holds c = search needs
+loop-holds c = let a = c .before .args in (omega arith, omega arith, group-start (a .width) (a .second) (a .file .now) (a .r))
 
--- src/search.rt:59:9
 add-k : tie.Need-add-k Inv-loop μ-loop
 add-k c = search needs
 
--- src/search.rt:60:42
 add-difference : tie.Need-add-difference Inv-loop μ-loop
-add-difference c = search needs
+add-difference c = let z = room c .rank in omega arith
 
--- src/search.rt:60:13
 difference-requires : tie.Need-difference-requires Inv-loop μ-loop
-difference-requires c κs = search needs
+difference-requires c κs = let z = room c in (z .narrow, z .wide, z .inside)
 
--- src/search.rt:61:9
 add-sum : tie.Need-add-sum Inv-loop μ-loop
 add-sum c = search needs
 
--- src/search.rt:58:5
 loop-less : tie.Need-loop-less Inv-loop μ-loop
 loop-less c = search needs
 
--- src/search.rt:58:5
 loop-again : tie.Need-loop-again Inv-loop μ-loop
-loop-again c = search needs
+loop-again c =
+    let a = c .before .before .before .before .before .args in
+    let l = c .before .before .before .loop in
+    let d = c .before .difference .ensures in
+    let d1 = d .1 in
+    (omega arith, omega arith, group-jump (a .width) (a .second) (a .file .now) (a .r) (l .k) (l .inv .2) (d .0) (c .if1 .taken))
 
--- src/search.rt:58:5
 loop-less-2 : tie.Need-loop-less-2 Inv-loop μ-loop
 loop-less-2 c = search needs
 
--- src/search.rt:58:5
 loop-again-2 : tie.Need-loop-again-2 Inv-loop μ-loop
-loop-again-2 c = search needs
+loop-again-2 c =
+    let a = c .before .before .before .before .before .args in
+    let l = c .before .before .before .loop in
+    let d = c .before .difference .ensures in
+    let d1 = d .1 in
+    (omega arith, omega arith, group-plain (a .width) (a .second) (a .file .now) (a .r) (l .k) (l .inv .2) (d .0) (c .if1 .left))
 
--- src/search.rt:51:1
 returns : tie.Need-returns Inv-loop μ-loop
-returns c = search needs
+returns c =
+    let l = c .before .loop in
+    let e : l .k ≡ 16 = omega arith in
+    (rw e at (l .inv .2), omega arith)
 
 pub add-group-spec : {M : Type 1} → statement M
 add-group-spec =

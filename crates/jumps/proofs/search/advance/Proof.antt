@@ -1,50 +1,52 @@
+-- A step from rank to rank. Assumes nothing.
+use native.Mathlib.Omega.{arith}
+use Rattle.jumps.proofs.Steps.{by-difference, by-jump}
 use borrow.Author.Needs.{needs}
 use Rattle.jumps.proofs.search.advance.Statement.{statement}
 use Rattle.jumps.proofs.search.advance.Tie as tie
-use Rattle.jumps.proofs.search.advance.Reads as reads
-use Rattle.jumps.proofs.search.advance.Lts as lts
-use Rattle.jumps.proofs.check.difference.Reads as difference-reads
-use Rattle.wire.proofs.load_u32.Reads as load-u32-reads
 
--- src/search.rt:36:13
 difference-requires : tie.Need-difference-requires
-difference-requires c κs = search needs
+difference-requires c κs = let z = c .before .pre .0 in (z .narrow, z .wide, z .inside)
 
--- src/search.rt:36:13
 cast-d : tie.Need-cast-d
 cast-d c = search needs
 
--- src/search.rt:37:36
 mul-load-u32 : tie.Need-mul-load-u32
 mul-load-u32 c = search needs
 
--- src/search.rt:37:31
 add-load-u32 : tie.Need-add-load-u32
 add-load-u32 c = search needs
 
--- src/search.rt:37:16
 load-u32-requires : tie.Need-load-u32-requires
 load-u32-requires c κs = search needs
 
--- src/search.rt:37:16
 cast-jump : tie.Need-cast-jump
 cast-jump c = search needs
 
--- src/search.rt:40:23
 add-t14 : tie.Need-add-t14
 add-t14 c = search needs
 
--- src/search.rt:39:9
 returns : tie.Need-returns
-returns c = search needs
+returns c =
+    let a = c .before .before .before .before .args in
+    let w = c .before .before .before .before .pre .1 in
+    let d = c .before .before .difference .ensures in
+    let d1 = d .1 in
+    (by-difference _ _ (a .file .now) (a .r) (a .s) (d .0) (c .if1 .taken), record { position = omega arith; taken = omega arith })
 
--- src/search.rt:46:16
 add-t11 : tie.Need-add-t11
 add-t11 c = search needs
 
--- src/search.rt:30:1
 returns-2 : tie.Need-returns-2
-returns-2 c = search needs
+returns-2 c =
+    let a = c .before .before .before .before .args in
+    let w = c .before .before .before .before .pre .1 in
+    let j = c .before .load-u32 .ensures in
+    let j1 = j .1 in
+    (
+      by-jump _ _ (a .file .now) (a .r) (a .s) (c .before .before .difference .ensures .0) (c .if1 .left) (j .0),
+      record { position = omega arith; taken = omega arith },
+    )
 
 pub advance-spec : {M : Type 1} → statement M
 advance-spec =
