@@ -1,11 +1,12 @@
 -- The steps of a search, one by one and by the sum of a group. Assumes nothing.
-use Prim.Native.Nat.{ℕ, zero, suc, _+_, _*_, _≤_}
+use Prim.Native.Nat.{ℕ, zero, suc, _+_, _*_, _^_, _≤_, _<_}
 use mathlib.Core.Path.{_≡_, refl}
 use mathlib.Core.Bool.{true, false, not}
 use mathlib.Core.List.{List}
 use native.Mathlib.Nat.{add-zero, add-assoc, mul-le-mul-left}
 use native.Mathlib.Numerals.{add-one}
 use native.Mathlib.Omega.{arith}
+use lib.ListN.{length}
 use lib.Dec.{eqb}
 use borrow.Author.Tests.{ne-eqb, not-true}
 use Rattle.format.specs.Bytes.{field}
@@ -14,6 +15,7 @@ use Rattle.laws.proofs.Tools.{both-true}
 use Rattle.jumps.specs.declared.search.Reached.{Reached}
 use Rattle.jumps.specs.declared.search.Group.{Group}
 use Rattle.jumps.specs.Walk.{stepBy, stepped, walked, joined, grouped, Room}
+use Rattle.jumps.proofs.Entries.{entry-inside}
 
 module _ (w second : ℕ) (b : List ℕ) where
   -- an earlier difference lies in the file too
@@ -39,6 +41,10 @@ module _ (w second : ℕ) (b : List ℕ) where
   -- ---- on from rank r
 
   module _ (r : ℕ) where
+    pub walked-start : (s : Reached) → s ≡ walked w second b r 0 s
+    unfolding walked
+    walked-start s = refl
+
     pub walked-next : (k : ℕ) (s : Reached) {t u : Reached} → t ≡ walked w second b r k s → u ≡ stepped w second b (r + (k + 1)) t
         → u ≡ walked w second b r (k + 1) s
     unfolding walked
@@ -58,7 +64,7 @@ module _ (w second : ℕ) (b : List ℕ) where
       group-jump z = let q = rw (add-one k) at f in rw (add-one k, ← e, ← q, z)
 
     -- the differences of a group that holds no jump, one after the other, are their sum
-    pub plain-walked : (n : ℕ) (s : Reached) → grouped w second b r n .plain ≡ true
+    plain-walked : (n : ℕ) (s : Reached) → grouped w second b r n .plain ≡ true
         → _≡_ {A = Reached} (record { position = s .position + grouped w second b r n .sum; taken = s .taken }) (walked w second b r n s)
     unfolding walked grouped joined stepped stepBy
     plain-walked zero s h = rw (add-zero (s .position))
@@ -66,3 +72,13 @@ module _ (w second : ℕ) (b : List ℕ) where
         let d = field w (second + w * (r + suc n)) b in
         let z = both-true (not (eqb d 0)) (grouped w second b r n .plain) h in
         rw (← plain-walked n s (z .1), ← add-assoc, not-true (eqb d 0) (z .0))
+
+    pub plain-sum : (n : ℕ) (s : Reached) {g : Group} → g ≡ grouped w second b r n → g .plain ≡ true
+        → _≡_ {A = Reached} (record { position = s .position + g .sum; taken = s .taken }) (walked w second b r n s)
+    plain-sum n s e h = rw e (plain-walked n s (rw e at h))
+
+-- ranks whose differences all lie in the file
+pub room : {w second n r : ℕ} (b : List ℕ) → 1 ≤ w → w ≤ 2 → second + w * n ≤ length b → n < 2 ^ 32 → r < n → Room w second b r
+room {w} {second} {n} {r} b narrow wide h m k =
+    let i = entry-inside w n r k in
+    record { narrow = narrow; wide = wide; inside = omega arith; rank = omega arith }

@@ -93,7 +93,7 @@ fn walk(file: &[u8], second: usize, width: u32, r: usize, n: usize, s: Reached) 
 }
 
 // The ranks to take next where so many are left: a group, or what is left.
-fn next_group(left: usize) -> usize
+fn next_group(left: u32) -> u32
     ensures { λ n. ⌜ (n ≤ left) × (n ≤ 16) × (1 ≤ left → 1 ≤ n) ⌝ }
 {
     if left < 16 {
@@ -107,12 +107,11 @@ fn seek_rank(file: &[u8], v: View, width: u32, p: u32) -> RankAnswer
     requires { ⌜ (1 ≤ width) × (width ≤ 2) × (p < v .cells) × OfWidth (now file) v width ⌝ }
     ensures { λ r. ⌜ KindRankSearched 4 (now (file .entry)) v p (rankSays r) ⌝ }
 {
-    let words = v.words as usize;
-    let second = second_at(v);
-    if words == 0 {
+    if v.words == 0 {
         return RankAnswer::Empty;
     }
-    if file.len() < second + width as usize * words {
+    let second = second_at(v);
+    if file.len() < second + width as usize * v.words as usize {
         return RankAnswer::Empty;
     }
     let target = p as usize;
@@ -120,10 +119,10 @@ fn seek_rank(file: &[u8], v: View, width: u32, p: u32) -> RankAnswer
         position: load_u32(file, 52) as usize,
         taken: 1,
     };
-    let mut r: usize = 0;
-    while r + 1 < words {
-        let n = next_group(words - 1 - r);
-        let t = walk(file, second, width, r, n, s);
+    let mut r: u32 = 0;
+    while r + 1 < v.words {
+        let n = next_group(v.words - 1 - r);
+        let t = walk(file, second, width, r as usize, n as usize, s);
         if target <= t.position {
             break;
         }
@@ -132,13 +131,13 @@ fn seek_rank(file: &[u8], v: View, width: u32, p: u32) -> RankAnswer
     }
     while s.position < target {
         r += 1;
-        if r == words {
+        if r == v.words {
             return RankAnswer::Empty;
         }
-        s = advance(file, second, width, r, s);
+        s = advance(file, second, width, r as usize, s);
     }
     if s.position == target {
-        return RankAnswer::Rank(Rank(r as u32));
+        return RankAnswer::Rank(Rank(r));
     }
     RankAnswer::Empty
 }
@@ -152,15 +151,14 @@ fn seek_position(file: &[u8], v: View, width: u32, rank: u32) -> PositionAnswer
     if file.len() < second + width as usize * v.words as usize {
         return PositionAnswer::Refused(8);
     }
-    let last = rank as usize;
     let mut s = Reached {
         position: load_u32(file, 52) as usize,
         taken: 1,
     };
-    let mut r: usize = 0;
-    while r < last {
-        let n = next_group(last - r);
-        s = walk(file, second, width, r, n, s);
+    let mut r: u32 = 0;
+    while r < rank {
+        let n = next_group(rank - r);
+        s = walk(file, second, width, r as usize, n as usize, s);
         r += n;
     }
     let position = s.position;
