@@ -1,7 +1,8 @@
 -- The searches' turns and answers, for any bytes: what they say on an accepted file is carried as a condition. Assumes nothing.
-use Prim.Native.Nat.{ℕ, _+_, _*_, _≤_, _<_}
-use mathlib.Core.Path.{_≡_, sym, ap, _∙_}
+use Prim.Native.Nat.{ℕ, zero, suc, _+_, _*_, _≤_, _<_}
+use mathlib.Core.Path.{_≡_, refl, sym, ap, _∙_}
 use mathlib.Core.List.{List}
+use native.Mathlib.Nat.{zero-add}
 use native.Mathlib.Omega.{arith}
 use lib.ListN.{length}
 use lib.Arith.{lt-of-le-ne}
@@ -47,16 +48,23 @@ module _ (b : List ℕ) (v : View) (small : Below 256 b) where
   pub at-start : {l : ℕ} → l ≡ whole 4 52 b → 0 < v .words → OnAccepted b v (Reaches b v 0 (record { position = l; taken = 1 }))
   at-start e h k o = rw e (sought b v small k o .start h)
 
-  module _ {w second : ℕ} (ew : OfWidth b v w) (es : second ≡ secondPlace v) (r : ℕ) (s : Reached) (g : OnAccepted b v (Reaches b v r s)) {t : Reached} where
-    pub at-next : t ≡ stepped w second b (r + 1) s → r + 1 < v .words → OnAccepted b v (Reaches b v (r + 1) t)
-    at-next e h k o = rw (e, ← ew .width k o, es) (walk b v (sought b v small k o .frame) r s h (g k o) .reached)
+  module _ {w second : ℕ} (ew : OfWidth b v w) (es : second ≡ secondPlace v) {t : Reached} where
+    pub at-next : (r : ℕ) (s : Reached) → t ≡ stepped w second b (r + 1) s → r + 1 < v .words → OnAccepted b v (Reaches b v r s)
+        → OnAccepted b v (Reaches b v (r + 1) t)
+    at-next r s e h g k o = rw (e, ← ew .width k o, es) (walk b v (sought b v small k o .frame) r s h (g k o) .reached)
 
-    module _ (n : ℕ) (e : t ≡ walked w second b r n s) (h : r + n < v .words) where
-      pub at-walk : OnAccepted b v (Reaches b v (r + n) t)
-      at-walk k o = rw (e, ← ew .width k o, es) (walk-on b v (sought b v small k o .frame) r s (g k o) n h)
+    -- from rank 0 to rank n
+    module _ (n : ℕ) (s : Reached) (e : t ≡ walked w second b 0 n s) (h : n < v .words) (g : OnAccepted b v (Reaches b v 0 s)) where
+      pub at-walk : OnAccepted b v (Reaches b v n t)
+      at-walk k o = rw (e, ← ew .width k o, es) (rw (zero-add n) at (walk-on b v (sought b v small k o .frame) 0 s (g k o) n (rw (zero-add n) h)))
 
-      pub rank-walk : {p : ℕ} → t .position < p → Left b v p r → Left b v p (r + n)
-      rank-walk {p} m a k o = a k o ∙ below-all b v (sought b v small k o) p r s (g k o) n h (rw (e, ← ew .width k o, es) at m)
+      pub rank-walk : {p : ℕ} → (1 ≤ n → t .position < p) → Left b v p 0 → Left b v p n
+      rank-walk {p} m a k o = a k o ∙ go n e h m
+        where
+          go : (n : ℕ) → t ≡ walked w second b 0 n s → n < v .words → (1 ≤ n → t .position < p) → left b p 0 ≡ left b p n
+          go zero e h m = refl
+          go (suc n) e h m =
+              rw (zero-add (suc n)) at (below-all b v (sought b v small k o) p 0 s (g k o) (suc n) (rw (zero-add (suc n)) h) (rw (e, ← ew .width k o, es) at (m (omega arith))))
 
   -- the differences of an accepted file lie in it
   too-short : {w second : ℕ} → OfWidth b v w → second ≡ secondPlace v → length b < second + w * v .words → OnAccepted b v ⊥

@@ -1,9 +1,9 @@
 -- The steps of a search, one by one and by the sum of a group. Assumes nothing.
 use Prim.Native.Nat.{ℕ, zero, suc, _+_, _*_, _^_, _≤_, _<_}
-use mathlib.Core.Path.{_≡_, refl}
-use mathlib.Core.Bool.{true, false, not}
+use mathlib.Core.Path.{_≡_, refl, _∙_}
+use mathlib.Core.Bool.{Bool, true, false, not}
 use mathlib.Core.List.{List}
-use native.Mathlib.Nat.{add-zero, add-assoc, mul-le-mul-left}
+use native.Mathlib.Nat.{add-zero, zero-add, add-suc, add-assoc, mul-le-mul-left}
 use native.Mathlib.Numerals.{add-one}
 use native.Mathlib.Omega.{arith}
 use lib.ListN.{length}
@@ -13,8 +13,7 @@ use Rattle.format.specs.Bytes.{field}
 use Rattle.wire.specs.Wire.{whole}
 use Rattle.laws.proofs.Tools.{both-true}
 use Rattle.jumps.specs.declared.search.Reached.{Reached}
-use Rattle.jumps.specs.declared.search.Group.{Group}
-use Rattle.jumps.specs.Walk.{stepBy, stepped, walked, joined, grouped, Room}
+use Rattle.jumps.specs.Walk.{stepBy, stepped, walked, plain, total, Room}
 use Rattle.jumps.proofs.Entries.{entry-inside}
 
 module _ (w second : ℕ) (b : List ℕ) where
@@ -50,32 +49,45 @@ module _ (w second : ℕ) (b : List ℕ) where
     unfolding walked
     walked-next k s e f = rw (f, e, add-one k)
 
-    pub group-start : _≡_ {A = Group} (record { sum = 0; plain = true }) (grouped w second b r 0)
-    unfolding grouped
-    group-start = refl
+    pub plain-start : true ≡ plain w second b r 0
+    unfolding plain
+    plain-start = refl
 
-    module _ (k : ℕ) {g : Group} (e : g ≡ grouped w second b r k) {d : ℕ} (f : d ≡ field w (second + w * (r + (k + 1))) b) where
-      pub group-plain : (d ≡ 0 → ⊥) → _≡_ {A = Group} (record { sum = g .sum + d; plain = g .plain }) (grouped w second b r (k + 1))
-      unfolding grouped joined
-      group-plain n = let q = rw (add-one k) at f in rw (add-one k, ← e, ← q, ne-eqb d 0 n)
+    pub total-start : 0 ≡ total w second b r 0
+    unfolding total
+    total-start = refl
 
-      pub group-jump : d ≡ 0 → _≡_ {A = Group} (record { sum = g .sum + d; plain = false }) (grouped w second b r (k + 1))
-      unfolding grouped joined
-      group-jump z = let q = rw (add-one k) at f in rw (add-one k, ← e, ← q, z)
+    module _ (k : ℕ) {d : ℕ} (f : d ≡ field w (second + w * (r + (k + 1))) b) where
+      pub plain-difference : {g : Bool} → g ≡ plain w second b r k → (d ≡ 0 → ⊥) → g ≡ plain w second b r (k + 1)
+      unfolding plain
+      plain-difference e n = let q = rw (add-one k) at f in rw (add-one k, ← e, ← q, ne-eqb d 0 n)
 
-    -- the differences of a group that holds no jump, one after the other, are their sum
-    plain-walked : (n : ℕ) (s : Reached) → grouped w second b r n .plain ≡ true
-        → _≡_ {A = Reached} (record { position = s .position + grouped w second b r n .sum; taken = s .taken }) (walked w second b r n s)
-    unfolding walked grouped joined stepped stepBy
+      pub plain-jump : d ≡ 0 → false ≡ plain w second b r (k + 1)
+      unfolding plain
+      plain-jump z = let q = rw (add-one k) at f in rw (add-one k, ← q, z)
+
+      pub total-next : {x : ℕ} → x ≡ total w second b r k → x + d ≡ total w second b r (k + 1)
+      unfolding total
+      total-next e = let q = rw (add-one k) at f in rw (add-one k, ← e, ← q)
+
+    -- the differences of a group without a jump, one after the other, are their sum
+    pub plain-walked : (n : ℕ) (s : Reached) → plain w second b r n ≡ true
+        → _≡_ {A = Reached} (record { position = s .position + total w second b r n; taken = s .taken }) (walked w second b r n s)
+    unfolding walked plain total stepped stepBy
     plain-walked zero s h = rw (add-zero (s .position))
     plain-walked (suc n) s h =
         let d = field w (second + w * (r + suc n)) b in
-        let z = both-true (not (eqb d 0)) (grouped w second b r n .plain) h in
+        let z = both-true (not (eqb d 0)) (plain w second b r n) h in
         rw (← plain-walked n s (z .1), ← add-assoc, not-true (eqb d 0) (z .0))
 
-    pub plain-sum : (n : ℕ) (s : Reached) {g : Group} → g ≡ grouped w second b r n → g .plain ≡ true
-        → _≡_ {A = Reached} (record { position = s .position + g .sum; taken = s .taken }) (walked w second b r n s)
-    plain-sum n s e h = rw e (plain-walked n s (rw e at h))
+  -- a walk from where another stopped
+  walked-on : (r m : ℕ) (s : Reached) → walked w second b r m (walked w second b 0 r s) ≡ walked w second b 0 (r + m) s
+  unfolding walked
+  walked-on r zero s = rw (add-zero r)
+  walked-on r (suc m) s = rw (walked-on r m s, add-suc r m, zero-add)
+
+  pub walked-further : (r m : ℕ) (s : Reached) {t u : Reached} → t ≡ walked w second b 0 r s → u ≡ walked w second b r m t → u ≡ walked w second b 0 (r + m) s
+  walked-further r m s e f = f ∙ rw e (walked-on r m s)
 
 -- ranks whose differences all lie in the file
 pub room : {w second n r : ℕ} (b : List ℕ) → 1 ≤ w → w ≤ 2 → second + w * n ≤ length b → n < 2 ^ 32 → r < n → Room w second b r

@@ -1,7 +1,7 @@
 -- A search of kind 4 as it goes from rank to rank, over any bytes. Assumes nothing.
 use Prim.Native.Nat.{ℕ, zero, suc, _+_, _*_, _^_, _≤_, _<_}
 use mathlib.Core.Path.{_≡_}
-use mathlib.Core.Bool.{true, not}
+use mathlib.Core.Bool.{Bool, true, not}
 use mathlib.Core.List.{List}
 use lib.ListN.{length}
 use lib.Dec.{eqb}
@@ -12,7 +12,7 @@ use Rattle.format.specs.File.{headerLength}
 use Rattle.wire.specs.Wire.{whole}
 use Rattle.header.specs.Search.{ViewOf}
 use Rattle.jumps.specs.declared.search.Reached.{Reached}
-use Rattle.jumps.specs.declared.search.Group.{Group}
+use Rattle.jumps.specs.declared.search.Place.{Place}
 
 -- by the difference d, l being the next jump
 unfoldable pub stepBy : ℕ → ℕ → Reached → Reached
@@ -27,14 +27,15 @@ unfoldable pub walked : ℕ → ℕ → List ℕ → ℕ → ℕ → Reached →
 walked w second b r zero s = s
 walked w second b r (suc n) s = stepped w second b (r + suc n) (walked w second b r n s)
 
--- one more difference
-unfoldable pub joined : ℕ → Group → Group
-joined d g = record { sum = g .sum + d; plain = both (not (eqb d 0)) (g .plain) }
+-- no jump is among the n differences after rank r
+unfoldable pub plain : ℕ → ℕ → List ℕ → ℕ → ℕ → Bool
+plain w second b r zero = true
+plain w second b r (suc n) = both (not (eqb (field w (second + w * (r + suc n)) b) 0)) (plain w second b r n)
 
--- the n differences after rank r
-unfoldable pub grouped : ℕ → ℕ → List ℕ → ℕ → ℕ → Group
-grouped w second b r zero = record { sum = 0; plain = true }
-grouped w second b r (suc n) = joined (field w (second + w * (r + suc n)) b) (grouped w second b r n)
+-- their sum
+unfoldable pub total : ℕ → ℕ → List ℕ → ℕ → ℕ → ℕ
+total w second b r zero = 0
+total w second b r (suc n) = total w second b r n + field w (second + w * (r + suc n)) b
 
 -- after n ranks: no sum passes 64 bits
 pub record Within (n : ℕ) (s : Reached) : Type 0 where
@@ -47,6 +48,14 @@ pub record Room (w second : ℕ) (b : List ℕ) (r : ℕ) : Type 0 where
   pub wide : w ≤ 2
   pub inside : second + w * r + w ≤ length b
   pub rank : r < 2 ^ 32
+
+-- a walk from rank 0 on, at most to rank n: past rank 0 only below the target, and to rank n where no position is as far as the target
+pub record Stopped (w second : ℕ) (b : List ℕ) (n target : ℕ) (s : Reached) (t : Place) : Type 0 where
+  pub most : t .rank ≤ n
+  pub there : t .reached ≡ walked w second b 0 (t .rank) s
+  pub within : Within (t .rank + 1) (t .reached)
+  pub below : 1 ≤ t .rank → t .reached .position < target
+  pub all : 2 ^ 50 ≤ target → t .rank ≡ n
 
 -- the width of an accepted file of kind 4
 pub record OfWidth (b : List ℕ) (v : View) (w : ℕ) : Type 0 where

@@ -12,7 +12,10 @@ ghost use Prim.Native.Nat.{_+_, _*_, _^_, _≤_, _<_};
 ghost use lib.ListN.{length};
 ghost use Rattle.format.specs.Answers.{rankSays, positionSays};
 ghost use Rattle.header.specs.Search.{KindRankSearched, KindPositionSearched};
-ghost use Rattle.jumps.specs.Walk.{stepped, walked, grouped, Within, Room, OfWidth};
+ghost use Rattle.jumps.specs.Walk.{stepped, walked, plain, total, Within, Room, Stopped, OfWidth};
+
+// A position that no walk reaches.
+const NO_TARGET: usize = 0xffff_ffff_ffff_ffff;
 
 // How far a search has come: the position of a rank, and the number of jumps that are taken up to it.
 pub struct Reached {
@@ -20,10 +23,10 @@ pub struct Reached {
     pub taken: usize,
 }
 
-// The differences of a group of ranks: their sum, and whether no jump is among them.
-pub struct Group {
-    pub sum: u32,
-    pub plain: bool,
+// Where a walk stops: a rank, and what is reached there.
+pub struct Place {
+    pub rank: usize,
+    pub reached: Reached,
 }
 
 // To rank r from the rank before. The next jump is read in either case, so that a jump costs no mispredicted branch.
@@ -47,38 +50,45 @@ fn advance(file: &[u8], second: usize, width: u32, r: usize, s: Reached) -> Reac
     }
 }
 
-// The 16 differences after rank r.
-fn add_group(file: &[u8], second: usize, width: u32, r: usize) -> Group
-    requires { ⌜ Room width second (now file) (r + 16) ⌝ }
-    ensures { λ g. ⌜ (g ≡ grouped width second (now (file .entry)) r 16) × (g .sum ≤ 65536 * 16) ⌝ }
+// Whether no jump is among the 32 differences after rank r.
+fn no_jump(file: &[u8], second: usize, width: u32, r: usize) -> bool
+    requires { ⌜ Room width second (now file) (r + 32) ⌝ }
+    ensures { λ g. ⌜ g ≡ plain width second (now (file .entry)) r 32 ⌝ }
 {
-    let mut sum: u32 = 0;
-    let mut plain = true;
+    let mut none = true;
     let mut k: usize = 0;
-    while k < 16 {
+    while k < 32 {
         k += 1;
-        let d = difference(file, second, r + k, width);
-        sum += d;
-        if d == 0 {
-            plain = false;
+        if difference(file, second, r + k, width) == 0 {
+            none = false;
         }
     }
-    Group {
-        sum,
-        plain,
-    }
+    none
 }
 
-// From rank r to the n-th rank after it. A group of 16 without a jump is taken by its sum.
-fn walk(file: &[u8], second: usize, width: u32, r: usize, n: usize, s: Reached) -> Reached
+// The sum of the 32 differences after rank r.
+fn sum(file: &[u8], second: usize, width: u32, r: usize) -> u32
+    requires { ⌜ Room width second (now file) (r + 32) ⌝ }
+    ensures { λ x. ⌜ (x ≡ total width second (now (file .entry)) r 32) × (x ≤ 65536 * 32) ⌝ }
+{
+    let mut x: u32 = 0;
+    let mut k: usize = 0;
+    while k < 32 {
+        k += 1;
+        x += difference(file, second, r + k, width);
+    }
+    x
+}
+
+// From rank r to the n-th rank after it. A group of 32 without a jump is taken by its sum.
+fn walk_group(file: &[u8], second: usize, width: u32, r: usize, n: usize, s: Reached) -> Reached
     requires { ⌜ Room width second (now file) (r + n) × Within (r + 1) s ⌝ }
     ensures { λ t. ⌜ (t ≡ walked width second (now (file .entry)) r n s) × Within (r + n + 1) t ⌝ }
 {
-    if n == 16 {
-        let g = add_group(file, second, width, r);
-        if g.plain {
+    if n == 32 {
+        if no_jump(file, second, width, r) {
             return Reached {
-                position: s.position + g.sum as usize,
+                position: s.position + sum(file, second, width, r) as usize,
                 taken: s.taken,
             };
         }
@@ -93,13 +103,38 @@ fn walk(file: &[u8], second: usize, width: u32, r: usize, n: usize, s: Reached) 
 }
 
 // The ranks to take next where so many are left: a group, or what is left.
-fn next_group(left: u32) -> u32
-    ensures { λ n. ⌜ (n ≤ left) × (n ≤ 16) × (1 ≤ left → 1 ≤ n) ⌝ }
+fn next_group(left: usize) -> usize
+    ensures { λ n. ⌜ (n ≤ left) × (1 ≤ left → 1 ≤ n) ⌝ }
 {
-    if left < 16 {
+    if left < 32 {
         return left;
     }
-    16
+    32
+}
+
+// From rank 0 on to rank n, group by group, as long as the position stays below the target.
+fn walk(file: &[u8], second: usize, width: u32, n: usize, target: usize, s: Reached) -> Place
+    requires { ⌜ Room width second (now file) n × Within 1 s ⌝ }
+    ensures { λ t. ⌜ Stopped width second (now (file .entry)) n target s t ⌝ }
+{
+    let mut t = s;
+    let mut r: usize = 0;
+    while r < n {
+        let m = next_group(n - r);
+        let next = walk_group(file, second, width, r, m, t);
+        if target <= next.position {
+            return Place {
+                rank: r,
+                reached: t,
+            };
+        }
+        t = next;
+        r += m;
+    }
+    Place {
+        rank: r,
+        reached: t,
+    }
 }
 
 // The rank at a position below cells. The width is 1 or 2, so that each has a loop of its own; on an accepted file it is the view's.
@@ -115,20 +150,13 @@ fn seek_rank(file: &[u8], v: View, width: u32, p: u32) -> RankAnswer
         return RankAnswer::Empty;
     }
     let target = p as usize;
-    let mut s = Reached {
+    let start = Reached {
         position: load_u32(file, 52) as usize,
         taken: 1,
     };
-    let mut r: u32 = 0;
-    while r + 1 < v.words {
-        let n = next_group(v.words - 1 - r);
-        let t = walk(file, second, width, r as usize, n as usize, s);
-        if target <= t.position {
-            break;
-        }
-        s = t;
-        r += n;
-    }
+    let place = walk(file, second, width, v.words as usize - 1, target, start);
+    let mut s = place.reached;
+    let mut r = place.rank as u32;
     while s.position < target {
         r += 1;
         if r == v.words {
@@ -151,16 +179,12 @@ fn seek_position(file: &[u8], v: View, width: u32, rank: u32) -> PositionAnswer
     if file.len() < second + width as usize * v.words as usize {
         return PositionAnswer::Refused(8);
     }
-    let mut s = Reached {
+    let start = Reached {
         position: load_u32(file, 52) as usize,
         taken: 1,
     };
-    let mut r: u32 = 0;
-    while r < rank {
-        let n = next_group(rank - r);
-        s = walk(file, second, width, r as usize, n as usize, s);
-        r += n;
-    }
+    let place = walk(file, second, width, rank as usize, NO_TARGET, start);
+    let s = place.reached;
     let position = s.position;
     if position < v.cells as usize {
         return PositionAnswer::Position(Position(position as u32));
