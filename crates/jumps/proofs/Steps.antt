@@ -71,7 +71,7 @@ module _ (w second : ℕ) (b : List ℕ) where
       total-next e = let q = rw (add-one k) at f in rw (add-one k, ← e, ← q)
 
     -- the differences of a group without a jump, one after the other, are their sum
-    pub plain-walked : (n : ℕ) (s : Reached) → plain w second b r n ≡ true
+    plain-walked : (n : ℕ) (s : Reached) → plain w second b r n ≡ true
         → _≡_ {A = Reached} (record { position = s .position + total w second b r n; taken = s .taken }) (walked w second b r n s)
     unfolding walked plain total stepped stepBy
     plain-walked zero s h = rw (add-zero (s .position))
@@ -79,6 +79,10 @@ module _ (w second : ℕ) (b : List ℕ) where
         let d = field w (second + w * (r + suc n)) b in
         let z = both-true (not (eqb d 0)) (plain w second b r n) h in
         rw (← plain-walked n s (z .1), ← add-assoc, not-true (eqb d 0) (z .0))
+
+    pub group-sum : (n : ℕ) (s : Reached) → plain w second b r n ≡ true → {x : ℕ} → x ≡ total w second b r n
+        → _≡_ {A = Reached} (record { position = s .position + x; taken = s .taken }) (walked w second b r n s)
+    group-sum n s h e = rw e (plain-walked n s h)
 
   -- a walk from where another stopped
   walked-on : (r m : ℕ) (s : Reached) → walked w second b r m (walked w second b 0 r s) ≡ walked w second b 0 (r + m) s
