@@ -42,8 +42,7 @@ returns-2 c =
     let a = c .before .before .before .before .args in
     let w = c .before .before .before .before .pre .1 in
     let j = c .before .load-u32 .ensures in
-    let j1 = j .1 in
-    (
+    let j1 = j .1 in (
       by-jump _ _ (a .file .now) (a .r) (a .s) (c .before .before .difference .ensures .0) (c .if1 .left) (j .0),
       record { position = omega arith; taken = omega arith },
     )

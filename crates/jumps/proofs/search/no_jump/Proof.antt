@@ -47,8 +47,7 @@ loop-less-2 c = search needs
 loop-again-2 : tie.Need-loop-again-2 Inv-loop μ-loop
 loop-again-2 c =
     let a = c .before .before .before .before .before .args in
-    let l = c .before .before .before .loop in
-    (
+    let l = c .before .before .before .loop in (
       omega arith,
       plain-difference (a .width) (a .second) (a .file .now) (a .r) (l .k) (c .before .difference .ensures .0) (l .inv .1) (c .if1 .left),
     )

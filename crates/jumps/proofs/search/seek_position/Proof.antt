@@ -43,14 +43,14 @@ mul-if1 : tie.Need-mul-if1
 mul-if1 c = let a = c .before .before .before in let m = mul-le-mul-right (a .args .v .words) (a .pre .1) in record { fits = omega arith }
 
 add-if1 : tie.Need-add-if1
-add-if1 c = 
+add-if1 c =
     let a = c .before .before .before in
     let m = mul-le-mul-right (a .args .v .words) (a .pre .1) in
     let n = c .before .second-at .ensures .1 in
     omega arith
 
 returns : tie.Need-returns
-returns c = 
+returns c =
     let a = c .before .before .before in
     position-short (file a) (view a) (small a) (a .before .pre .3) (c .before .before .second-at .ensures .0) (c .if1 .taken) _
 
@@ -61,11 +61,10 @@ cast-if2 : tie.Need-cast-if2
 cast-if2 c = search needs
 
 walk-requires : tie.Need-walk-requires
-walk-requires c κs = 
+walk-requires c κs =
     let a = c .before .before .before .before .before in
     let p = a .pre in
-    let m = c .load-u32 .ensures .1 in
-    (
+    let m = c .load-u32 .ensures .1 in (
       room (a .args .file .now) (p .0) (p .1) (c .before .if1 .left) (omega arith) (p .2),
       record { position = omega arith; taken = omega arith },
     )
@@ -77,13 +76,13 @@ cast-t17 : tie.Need-cast-t17
 cast-t17 c = search needs
 
 returns-2 : tie.Need-returns-2
-returns-2 c = 
+returns-2 c =
     let a = c .before .before .before .before .before .before .before .before in
     let p = a .before .pre in
     position-found (file a) (view a) (small a) (a .before .args .rank) _ (reached (c .before .before .before)) (p .2) (c .if2 .taken)
 
 returns-3 : tie.Need-returns-3
-returns-3 c = 
+returns-3 c =
     let a = c .before .before .before .before .before .before .before .before in
     let p = a .before .pre in
     position-past (file a) (view a) (small a) (a .before .args .rank) _ (reached (c .before .before .before)) (c .if2 .left)

@@ -47,14 +47,14 @@ mul-if2 : tie.Need-mul-if2 Inv-loop μ-loop
 mul-if2 c = let a = c .before .before .before .before .before in let m = mul-le-mul-right (a .args .v .words) (a .pre .1) in record { fits = omega arith }
 
 add-if2 : tie.Need-add-if2 Inv-loop μ-loop
-add-if2 c = 
+add-if2 c =
     let a = c .before .before .before .before .before in
     let m = mul-le-mul-right (a .args .v .words) (a .pre .1) in
     let n = c .before .second-at .ensures .1 in
     omega arith
 
 returns-2 : tie.Need-returns-2 Inv-loop μ-loop
-returns-2 c = 
+returns-2 c =
     let a = c .before .before .before .before .before in
     rank-short (file a) (view a) (small a) (a .before .pre .3) (c .before .before .second-at .ensures .0) (c .if2 .taken) _
 
@@ -71,12 +71,11 @@ sub-walk : tie.Need-sub-walk Inv-loop μ-loop
 sub-walk c = let h = pos-of-ne-zero (c .before .before .before .before .before .if1 .left) in omega arith
 
 walk-requires : tie.Need-walk-requires Inv-loop μ-loop
-walk-requires c κs = 
+walk-requires c κs =
     let a = c .before .before .before .before .before .before .before .before in
     let p = a .pre in
     let h = pos-of-ne-zero (c .before .before .before .before .before .if1 .left) in
-    let m = c .before .load-u32 .ensures .1 in
-    (
+    let m = c .before .load-u32 .ensures .1 in (
       room (a .args .file .now) (p .0) (p .1) (c .before .before .if2 .left) (omega arith) (omega arith),
       record { position = omega arith; taken = omega arith },
     )
@@ -85,7 +84,7 @@ cast-r : tie.Need-cast-r Inv-loop μ-loop
 cast-r c = let m = c .before .before .walk .ensures .most in omega arith
 
 loop-holds : tie.Need-loop-holds Inv-loop μ-loop
-loop-holds c = 
+loop-holds c =
     let a = c .before .before .before .before .before .before .before .before .before .before in
     let w = c .before .before .walk in
     let z = w .ensures in
@@ -93,8 +92,7 @@ loop-holds c =
     let h = pos-of-ne-zero (c .before .before .before .before .before .before .before .before .if1 .left) in
     let m : w .result .rank < view a .words = omega arith in
     let e = c .before .before .before .before .before .before .before .second-at .ensures .0 in
-    let g = at-start (file a) (view a) (small a) (c .before .before .before .before .load-u32 .ensures .0) h in
-    (
+    let g = at-start (file a) (view a) (small a) (c .before .before .before .before .load-u32 .ensures .0) h in (
       m,
       z .within,
       at-walk (file a) (view a) (small a) (a .before .pre .3) e _ _ (z .there) m g,
@@ -105,7 +103,7 @@ add-r : tie.Need-add-r Inv-loop μ-loop
 add-r c = search needs
 
 returns-3 : tie.Need-returns-3 Inv-loop μ-loop
-returns-3 c = 
+returns-3 c =
     let a = c .before .before .before .before .before .before .before .before .before .before .before .before .before .before .before in
     let l = c .before .before .before .before .loop in
     let e = c .if4 .taken in
@@ -115,7 +113,7 @@ cast-advance : tie.Need-cast-advance Inv-loop μ-loop
 cast-advance c = search needs
 
 advance-requires : tie.Need-advance-requires Inv-loop μ-loop
-advance-requires c κs = 
+advance-requires c κs =
     let a = c .before .before .before .before .before .before .before .before .before .before .before .before .before .before .before .before in
     let p = a .pre in
     let l = c .before .before .before .before .loop in
@@ -126,12 +124,11 @@ loop-less : tie.Need-loop-less Inv-loop μ-loop
 loop-less c = search needs
 
 loop-again : tie.Need-loop-again Inv-loop μ-loop
-loop-again c = 
+loop-again c =
     let a = c .before .before .before .before .before .before .before .before .before .before .before .before .before .before .before .before in
     let l = c .before .before .before .before .before .loop in
     let e = c .before .before .before .before .before .before .before .before .before .before .before .before .before .second-at .ensures .0 in
-    let h = next-below (l .inv .0) (c .before .if4 .left) in
-    (
+    let h = next-below (l .inv .0) (c .before .if4 .left) in (
       h,
       c .advance .ensures .1,
       at-next (file a) (view a) (small a) (a .before .pre .3) e (l .r) (l .s) (c .advance .ensures .0) h (l .inv .2),
@@ -139,13 +136,13 @@ loop-again c =
     )
 
 returns-4 : tie.Need-returns-4 Inv-loop μ-loop
-returns-4 c = 
+returns-4 c =
     let a = c .before .before .before .before .before .before .before .before .before .before .before .before .before .before .before in
     let l = c .before .before .before .before .loop in
     rank-found (file a) (view a) (small a) _ (l .r) (l .s) (l .inv .2) (l .inv .3) (c .if5 .taken) (l .inv .0)
 
 returns-5 : tie.Need-returns-5 Inv-loop μ-loop
-returns-5 c = 
+returns-5 c =
     let a = c .before .before .before .before .before .before .before .before .before .before .before .before .before .before .before in
     let l = c .before .before .before .before .loop in
     let h = lt-of-le-ne (c .before .before .if3 .left) (λ q. c .if5 .left (sym q)) in

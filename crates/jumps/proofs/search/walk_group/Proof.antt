@@ -47,8 +47,7 @@ returns c =
     let e = c .before .before .before .before .if1 .taken in
     let x = c .before .sum .ensures in
     let x1 = x .1 in
-    let g = sym (c .before .before .before .no-jump .ensures) ∙ c .before .before .if2 .taken in
-    (
+    let g = sym (c .before .before .before .no-jump .ensures) ∙ c .before .before .if2 .taken in (
       rw e (group-sum (a .width) (a .second) (a .file .now) (a .r) 32 (a .s) g (x .0)),
       record { position = omega arith; taken = omega arith },
     )
@@ -83,8 +82,7 @@ loop-again c =
     let l = c .before .before .loop in
     let t = c .advance .ensures in
     let p = t .1 .position in
-    let q = t .1 .taken in
-    (
+    let q = t .1 .taken in (
       omega arith,
       walked-next (a .width) (a .second) (a .file .now) (a .r) (l .k) (a .s) (l .inv .1) (t .0),
       record { position = omega arith; taken = omega arith },
