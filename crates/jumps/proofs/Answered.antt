@@ -64,7 +64,8 @@ module _ (b : List ℕ) (v : View) (small : Below 256 b) where
           go : (n : ℕ) → t ≡ walked w second b 0 n s → n < v .words → (1 ≤ n → t .position < p) → left b p 0 ≡ left b p n
           go zero e h m = refl
           go (suc n) e h m =
-              rw (zero-add (suc n)) at (below-all b v (sought b v small k o) p 0 s (g k o) (suc n) (rw (zero-add (suc n)) h) (rw (e, ← ew .width k o, es) at (m (omega arith))))
+              let q = rw (e, ← ew .width k o, es) at (m (omega arith)) in
+              rw (zero-add (suc n)) at (below-all b v (sought b v small k o) p 0 s (g k o) (suc n) (rw (zero-add (suc n)) h) q)
 
   -- the differences of an accepted file lie in it
   too-short : {w second : ℕ} → OfWidth b v w → second ≡ secondPlace v → length b < second + w * v .words → OnAccepted b v ⊥

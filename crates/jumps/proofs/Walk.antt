@@ -8,7 +8,7 @@ use native.Mathlib.Omega.{arith}
 use lib.ListN.{length, drop}
 use lib.Seq.{drop-drop}
 use lib.Dec.{leb, ltb, eqb}
-use borrow.Author.Tests.{leb-true, ltb-true, ltb-false, eqb-true, eqb-false, lt-ltb}
+use borrow.Author.Tests.{leb-true, ltb-true, ltb-false, eqb-true, eqb-false}
 use Rattle.format.specs.declared.View.{View}
 use Rattle.format.specs.Tools.{first, others}
 use Rattle.format.specs.Bytes.{field}
@@ -21,7 +21,7 @@ use Rattle.laws.proofs.Tools.{cases, both-true}
 use Rattle.jumps.specs.declared.search.Reached.{Reached}
 use Rattle.jumps.specs.Pass.{passes, passesAll, jumpsLeft, differencesLeft}
 use Rattle.jumps.specs.Walk.{stepBy, stepped, walked}
-use Rattle.jumps.proofs.Entries.{Right, entry-inside}
+use Rattle.jumps.proofs.Entries.{Right}
 use Rattle.jumps.proofs.Turns.{jumps-none, jumps-cons, differences-cons}
 
 -- ---- on lists: what goes on from a position

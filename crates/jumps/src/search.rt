@@ -8,8 +8,7 @@ use format::View;
 use header::places::second_at;
 use wire::load_u32;
 ghost use mathlib.Core.Path.{_≡_};
-ghost use Prim.Native.Nat.{_+_, _*_, _^_, _≤_, _<_};
-ghost use lib.ListN.{length};
+ghost use Prim.Native.Nat.{_+_, _*_, _≤_, _<_};
 ghost use Rattle.format.specs.Answers.{rankSays, positionSays};
 ghost use Rattle.header.specs.Search.{KindRankSearched, KindPositionSearched};
 ghost use Rattle.jumps.specs.Walk.{stepped, walked, plain, total, Within, Room, Stopped, OfWidth};
@@ -41,7 +40,7 @@ fn advance(file: &[u8], second: usize, width: u32, r: usize, s: Reached) -> Reac
     if d != 0 {
         return Reached {
             position: position + d,
-            taken: taken,
+            taken,
         };
     }
     Reached {
@@ -137,7 +136,7 @@ fn walk(file: &[u8], second: usize, width: u32, n: usize, target: usize, s: Reac
     }
 }
 
-// The rank at a position below cells. The width is 1 or 2, so that each has a loop of its own; on an accepted file it is the view's.
+// The rank at a position below cells. The width is 1 or 2; on an accepted file it is the view's. A file too short for its counts is not accepted.
 fn seek_rank(file: &[u8], v: View, width: u32, p: u32) -> RankAnswer
     requires { ⌜ (1 ≤ width) × (width ≤ 2) × (p < v .cells) × OfWidth (now file) v width ⌝ }
     ensures { λ r. ⌜ KindRankSearched 4 (now (file .entry)) v p (rankSays r) ⌝ }
