@@ -1,8 +1,10 @@
 -- The searches' turns and answers, for any bytes: what they say on an accepted file is carried as a condition. Assumes nothing.
-use Prim.Native.Nat.{ℕ, _+_, _≤_, _<_}
-use mathlib.Core.Path.{_≡_, sym, _∙_}
+use Prim.Native.Nat.{ℕ, zero, suc, _+_, _*_, _≤_, _<_}
+use mathlib.Core.Path.{_≡_, refl, sym, ap, _∙_}
 use mathlib.Core.List.{List}
+use native.Mathlib.Nat.{zero-add}
 use native.Mathlib.Omega.{arith}
+use lib.ListN.{length}
 use lib.Arith.{lt-of-le-ne}
 use Rattle.format.specs.declared.View.{View}
 use Rattle.format.specs.Tools.{Below}
@@ -15,12 +17,10 @@ use Rattle.header.specs.View.{secondPlace}
 use Rattle.header.specs.Search.{ViewOf, KindRankSearched, KindPositionSearched}
 use Rattle.laws.proofs.Acceptance.{accepted}
 use Rattle.jumps.specs.declared.search.Reached.{Reached}
-use Rattle.jumps.specs.declared.search.Step.{Step}
-use Rattle.jumps.specs.declared.search.Step.the-variants.{To, End}
-use Rattle.jumps.specs.Walk.{stepped, OfWidth}
+use Rattle.jumps.specs.Walk.{stepped, walked, OfWidth}
 use Rattle.jumps.proofs.Entries.{right, other-width}
-use Rattle.jumps.proofs.Walk.{Reaches, StepReaches, walk}
-use Rattle.jumps.proofs.Found.{sought, left, inside, position-there, found, passed, below, out, rank-left, refused-rank, refused-position, none-stored}
+use Rattle.jumps.proofs.Walk.{Reaches, walk, walk-on}
+use Rattle.jumps.proofs.Found.{sought, left, inside, position-there, found, passed, below, below-all, out, rank-left, refused-rank, refused-position, none-stored}
 
 -- X holds on an accepted file of kind 4
 abbrev pub OnAccepted : List ℕ → View → Type 0 → Type 0
@@ -48,9 +48,38 @@ module _ (b : List ℕ) (v : View) (small : Below 256 b) where
   pub at-start : {l : ℕ} → l ≡ whole 4 52 b → 0 < v .words → OnAccepted b v (Reaches b v 0 (record { position = l; taken = 1 }))
   at-start e h k o = rw e (sought b v small k o .start h)
 
-  pub at-next : (r : ℕ) (s : Reached) {w second : ℕ} {t : Step} → OfWidth b v w → second ≡ secondPlace v → t ≡ stepped w second b (r + 1) s
-      → r + 1 < v .words → OnAccepted b v (Reaches b v r s) → OnAccepted b v (StepReaches b v (r + 1) t)
-  at-next r s ew es et h g k o = rw (et, ← ew .width k o, es) (walk b v (sought b v small k o .frame) r s h (g k o))
+  module _ {w second : ℕ} (ew : OfWidth b v w) (es : second ≡ secondPlace v) {t : Reached} where
+    pub at-next : (r : ℕ) (s : Reached) → t ≡ stepped w second b (r + 1) s → r + 1 < v .words → OnAccepted b v (Reaches b v r s)
+        → OnAccepted b v (Reaches b v (r + 1) t)
+    at-next r s e h g k o = rw (e, ← ew .width k o, es) (walk b v (sought b v small k o .frame) r s h (g k o) .reached)
+
+    -- from rank 0 to rank n
+    module _ (n : ℕ) (s : Reached) (e : t ≡ walked w second b 0 n s) (h : n < v .words) (g : OnAccepted b v (Reaches b v 0 s)) where
+      pub at-walk : OnAccepted b v (Reaches b v n t)
+      at-walk k o = rw (e, ← ew .width k o, es) (rw (zero-add n) at (walk-on b v (sought b v small k o .frame) 0 s (g k o) n (rw (zero-add n) h)))
+
+      pub rank-walk : {p : ℕ} → (1 ≤ n → t .position < p) → Left b v p 0 → Left b v p n
+      rank-walk {p} m a k o = a k o ∙ go n e h m
+        where
+          go : (n : ℕ) → t ≡ walked w second b 0 n s → n < v .words → (1 ≤ n → t .position < p) → left b p 0 ≡ left b p n
+          go zero e h m = refl
+          go (suc n) e h m =
+              let q = rw (e, ← ew .width k o, es) at (m (omega arith)) in
+              rw (zero-add (suc n)) at (below-all b v (sought b v small k o) p 0 s (g k o) (suc n) (rw (zero-add (suc n)) h) q)
+
+  -- the differences of an accepted file lie in it
+  too-short : {w second : ℕ} → OfWidth b v w → second ≡ secondPlace v → length b < second + w * v .words → OnAccepted b v ⊥
+  too-short {w} ew es h k o =
+      let z = sought b v small k o .frame .size in
+      let e : v .width * v .words ≡ w * v .words = ap (λ (x : ℕ). x * v .words) (ew .width k o) in
+      omega arith
+
+  module _ {w second : ℕ} (ew : OfWidth b v w) (es : second ≡ secondPlace v) (h : length b < second + w * v .words) where
+    pub rank-short : (p : ℕ) → KindRankSearched 4 b v p empty
+    rank-short p = record { right = λ k o. absurd (too-short ew es h k o); free = none }
+
+    pub position-short : (r : ℕ) → KindPositionSearched 4 b v r (refused 8)
+    position-short r = record { right = λ k o. absurd (too-short ew es h k o); free = beyond }
 
   -- ---- beyond
 
@@ -89,16 +118,3 @@ module _ (b : List ℕ) (v : View) (small : Below 256 b) where
 
     pub position-past : v .cells ≤ s .position → KindPositionSearched 4 b v r (refused 8)
     position-past n = record { right = λ k o. absurd (let h = inside b v (sought b v small k o) r s (g k o) in omega arith); free = beyond }
-
--- ---- what a step gives
-
-pub at-step : (b : List ℕ) (v : View) (r : ℕ) {s : Reached} {t : Step} → t ≡ To s → OnAccepted b v (StepReaches b v r t) → OnAccepted b v (Reaches b v r s)
-at-step b v r e g k o = rw e at (g k o)
-
--- where positions rise no more, the file is not accepted
-
-pub rank-end : (b : List ℕ) (v : View) (p r : ℕ) {t : Step} → t ≡ End → OnAccepted b v (StepReaches b v r t) → KindRankSearched 4 b v p empty
-rank-end b v p r e g = record { right = λ k o. absurd (rw e at (g k o)); free = none }
-
-pub position-end : (b : List ℕ) (v : View) (q r : ℕ) {t : Step} → t ≡ End → OnAccepted b v (StepReaches b v r t) → KindPositionSearched 4 b v q (refused 8)
-position-end b v q r e g = record { right = λ k o. absurd (rw e at (g k o)); free = beyond }

@@ -1,5 +1,5 @@
 -- What a search of kind 4 answers on an accepted file. Assumes nothing.
-use Prim.Native.Nat.{ℕ, _+_, _≤_, _<_}
+use Prim.Native.Nat.{ℕ, zero, suc, _+_, _≤_, _<_}
 use mathlib.Core.Path.{_≡_, refl, sym, _∙_}
 use mathlib.Core.Bool.{true}
 use mathlib.Core.List.{List, [], _∷_}
@@ -19,6 +19,7 @@ use Rattle.format.specs.Accepted.{emptyOf, wordsOf, positionsOf}
 use Rattle.format.specs.Lookups.{rankIn, positionIn}
 use Rattle.format.specs.Opened.{viewOf}
 use Rattle.wire.specs.Wire.{whole}
+use Rattle.header.specs.View.{secondPlace}
 use Rattle.header.specs.Body.{partsRight, wordsRight}
 use Rattle.header.specs.Search.{ViewOf, HeaderView}
 use Rattle.header.proofs.Frame.{framed}
@@ -28,12 +29,13 @@ use Rattle.laws.proofs.Acceptance.{accepted, accepted-has-file}
 use Rattle.laws.proofs.Files.{positions-back}
 use Rattle.laws.proofs.Search.{rankAmong, not-among, rank-among}
 use Rattle.jumps.specs.declared.search.Reached.{Reached}
+use Rattle.jumps.specs.Walk.{walked}
 use Rattle.jumps.specs.Pass.{passesAll, jumpsLeft, differencesLeft}
 use Rattle.jumps.proofs.Pass.{Follow, follow}
 use Rattle.jumps.proofs.Entries.{Right, right, entries-below}
 use Rattle.jumps.proofs.Turns.{differences-none}
 use Rattle.jumps.proofs.Parts.{positions-4, parts-pass}
-use Rattle.jumps.proofs.Walk.{Reaches, walk-start}
+use Rattle.jumps.proofs.Walk.{Reaches, walk-start, walk-on, walk-last}
 
 -- what an accepted file of kind 4 tells of its view and its positions
 pub record Sought (b : List ℕ) (v : View) : Type 0 where
@@ -106,6 +108,17 @@ module _ (b : List ℕ) (v : View) (o : Sought b v) (r : ℕ) (s : Reached) (g :
     pub out : s .position < p → v .words ≤ r + 1 → left b p r ≡ empty
     unfolding left later rankAmong jumpedFrom
     out h n = rw (rest, differences-none v b (r + 1) n, ne-eqb (s .position) p (λ q. omega arith))
+
+-- the ranks from r on, where the n-th after it is below p
+pub below-all : (b : List ℕ) (v : View) → Sought b v → (p r : ℕ) (s : Reached) → Reaches b v r s → (n : ℕ) → r + n < v .words
+    → walked (v .width) (secondPlace v) b r n s .position < p → left b p r ≡ left b p (r + n)
+below-all b v o p r s g zero h k = rw (add-zero r)
+below-all b v o p r s g (suc n) h k =
+    let t = walked (v .width) (secondPlace v) b r n s in
+    let q = walk-last b v (o .frame) r s g n h in
+    let m : t .position < p = omega arith in
+    let e : r + n + 1 ≡ r + suc n = omega arith in
+    below-all b v o p r s g n (omega arith) m ∙ below b v o (r + n) t (walk-on b v (o .frame) r s g n (omega arith)) p m ∙ rw e
 
 pub rank-left : (b : List ℕ) (v : View) → Sought b v → (p : ℕ) → p < v .cells → rankIn (emptyOf b) (wordsOf b) p ≡ left b p 0
 unfolding left

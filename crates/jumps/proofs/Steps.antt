@@ -1,23 +1,100 @@
--- A step of a search, by what is loaded. Assumes nothing.
-use Prim.Native.Nat.{ℕ, _+_, _*_, _≤_, _<_}
-use mathlib.Core.Path.{_≡_}
+-- The steps of a search, one by one and by the sum of a group. Assumes nothing.
+use Prim.Native.Nat.{ℕ, zero, suc, _+_, _*_, _^_, _≤_, _<_}
+use mathlib.Core.Path.{_≡_, refl, _∙_}
+use mathlib.Core.Bool.{Bool, true, false, not}
 use mathlib.Core.List.{List}
-use borrow.Author.Tests.{lt-ltb, le-ltb, ne-eqb}
+use native.Mathlib.Nat.{add-zero, zero-add, add-suc, add-assoc, mul-le-mul-left}
+use native.Mathlib.Numerals.{add-one}
+use native.Mathlib.Omega.{arith}
+use lib.ListN.{length}
+use lib.Dec.{eqb}
+use borrow.Author.Tests.{ne-eqb, not-true}
+use Rattle.format.specs.Bytes.{field}
 use Rattle.wire.specs.Wire.{whole}
+use Rattle.laws.proofs.Tools.{both-true}
 use Rattle.jumps.specs.declared.search.Reached.{Reached}
-use Rattle.jumps.specs.declared.search.Step.the-variants.{To, End}
-use Rattle.jumps.specs.Walk.{jumpTo, stepBy, stepped}
+use Rattle.jumps.specs.Walk.{stepBy, stepped, walked, plain, total, Room}
+use Rattle.jumps.proofs.Entries.{entry-inside}
 
-module _ (w second : ℕ) (b : List ℕ) (r : ℕ) (s : Reached) {d : ℕ} (e : d ≡ whole w (second + w * r) b) where
-  pub by-difference : (d ≡ 0 → ⊥) → To (record { position = s .position + d; taken = s .taken }) ≡ stepped w second b r s
-  unfolding stepped stepBy
-  by-difference n = rw (← e, ne-eqb d 0 n)
+module _ (w second : ℕ) (b : List ℕ) where
+  -- an earlier difference lies in the file too
+  pub earlier : {r m : ℕ} → Room w second b m → r ≤ m → Room w second b r
+  earlier {r} {m} z h =
+      let k : w * r ≤ w * m = mul-le-mul-left w h in
+      let i = z .inside in
+      let n = z .rank in
+      record { narrow = z .narrow; wide = z .wide; inside = omega arith; rank = omega arith }
 
-  module _ (z : d ≡ 0) {j : ℕ} (f : j ≡ whole 4 (52 + 4 * s .taken) b) where
-    pub by-none : j ≤ s .position → End ≡ stepped w second b r s
-    unfolding stepped stepBy jumpTo
-    by-none h = rw (← e, ← f, z, le-ltb (s .position) j h)
+  -- ---- to rank r
 
-    pub by-jump : s .position < j → To (record { position = j; taken = s .taken + 1 }) ≡ stepped w second b r s
-    unfolding stepped stepBy jumpTo
-    by-jump h = rw (← e, ← f, z, lt-ltb (s .position) j h)
+  module _ (r : ℕ) (s : Reached) {d : ℕ} (e : d ≡ field w (second + w * r) b) where
+    pub by-difference : (d ≡ 0 → ⊥) → _≡_ {A = Reached} (record { position = s .position + d; taken = s .taken }) (stepped w second b r s)
+    unfolding stepped stepBy
+    by-difference n = rw (← e, ne-eqb d 0 n)
+
+    pub by-jump : d ≡ 0 → {j : ℕ} → j ≡ whole 4 (52 + 4 * s .taken) b
+        → _≡_ {A = Reached} (record { position = j; taken = s .taken + 1 }) (stepped w second b r s)
+    unfolding stepped stepBy
+    by-jump z f = rw (← e, ← f, z)
+
+  -- ---- on from rank r
+
+  module _ (r : ℕ) where
+    pub walked-start : (s : Reached) → s ≡ walked w second b r 0 s
+    unfolding walked
+    walked-start s = refl
+
+    pub walked-next : (k : ℕ) (s : Reached) {t u : Reached} → t ≡ walked w second b r k s → u ≡ stepped w second b (r + (k + 1)) t
+        → u ≡ walked w second b r (k + 1) s
+    unfolding walked
+    walked-next k s e f = rw (f, e, add-one k)
+
+    pub plain-start : true ≡ plain w second b r 0
+    unfolding plain
+    plain-start = refl
+
+    pub total-start : 0 ≡ total w second b r 0
+    unfolding total
+    total-start = refl
+
+    module _ (k : ℕ) {d : ℕ} (f : d ≡ field w (second + w * (r + (k + 1))) b) where
+      pub plain-difference : {g : Bool} → g ≡ plain w second b r k → (d ≡ 0 → ⊥) → g ≡ plain w second b r (k + 1)
+      unfolding plain
+      plain-difference e n = let q = rw (add-one k) at f in rw (add-one k, ← e, ← q, ne-eqb d 0 n)
+
+      pub plain-jump : d ≡ 0 → false ≡ plain w second b r (k + 1)
+      unfolding plain
+      plain-jump z = let q = rw (add-one k) at f in rw (add-one k, ← q, z)
+
+      pub total-next : {x : ℕ} → x ≡ total w second b r k → x + d ≡ total w second b r (k + 1)
+      unfolding total
+      total-next e = let q = rw (add-one k) at f in rw (add-one k, ← e, ← q)
+
+    -- the differences of a group without a jump, one after the other, are their sum
+    plain-walked : (n : ℕ) (s : Reached) → plain w second b r n ≡ true
+        → _≡_ {A = Reached} (record { position = s .position + total w second b r n; taken = s .taken }) (walked w second b r n s)
+    unfolding walked plain total stepped stepBy
+    plain-walked zero s h = rw (add-zero (s .position))
+    plain-walked (suc n) s h =
+        let d = field w (second + w * (r + suc n)) b in
+        let z = both-true (not (eqb d 0)) (plain w second b r n) h in
+        rw (← plain-walked n s (z .1), ← add-assoc, not-true (eqb d 0) (z .0))
+
+    pub group-sum : (n : ℕ) (s : Reached) → plain w second b r n ≡ true → {x : ℕ} → x ≡ total w second b r n
+        → _≡_ {A = Reached} (record { position = s .position + x; taken = s .taken }) (walked w second b r n s)
+    group-sum n s h e = rw e (plain-walked n s h)
+
+  -- a walk from where another stopped
+  walked-on : (r m : ℕ) (s : Reached) → walked w second b r m (walked w second b 0 r s) ≡ walked w second b 0 (r + m) s
+  unfolding walked
+  walked-on r zero s = rw (add-zero r)
+  walked-on r (suc m) s = rw (walked-on r m s, add-suc r m, zero-add)
+
+  pub walked-further : (r m : ℕ) (s : Reached) {t u : Reached} → t ≡ walked w second b 0 r s → u ≡ walked w second b r m t → u ≡ walked w second b 0 (r + m) s
+  walked-further r m s e f = f ∙ rw e (walked-on r m s)
+
+-- ranks whose differences all lie in the file
+pub room : {w second n r : ℕ} (b : List ℕ) → 1 ≤ w → w ≤ 2 → second + w * n ≤ length b → n < 2 ^ 32 → r < n → Room w second b r
+room {w} {second} {n} {r} b narrow wide h m k =
+    let i = entry-inside w n r k in
+    record { narrow = narrow; wide = wide; inside = omega arith; rank = omega arith }

@@ -3,12 +3,12 @@ use Prim.Native.Nat.{ℕ, zero, suc, _+_, _*_, _^_, _≤_, _<_}
 use mathlib.Core.Path.{_≡_, refl, sym, ap, _∙_}
 use mathlib.Core.Bool.{true, false}
 use mathlib.Core.List.{List, [], _∷_}
-use native.Mathlib.Nat.{one-le-pow, zero-lt-suc}
+use native.Mathlib.Nat.{one-le-pow, zero-lt-suc, add-zero, pos-of-ne-zero}
 use native.Mathlib.Omega.{arith}
 use lib.ListN.{length, drop}
 use lib.Seq.{drop-drop}
 use lib.Dec.{leb, ltb, eqb}
-use borrow.Author.Tests.{leb-true, ltb-true, ltb-false, eqb-true, eqb-false, lt-ltb}
+use borrow.Author.Tests.{leb-true, ltb-true, ltb-false, eqb-true, eqb-false}
 use Rattle.format.specs.declared.View.{View}
 use Rattle.format.specs.Tools.{first, others}
 use Rattle.format.specs.Bytes.{field}
@@ -19,11 +19,9 @@ use Rattle.wire.proofs.Laws.{whole-there}
 use Rattle.header.specs.View.{secondPlace}
 use Rattle.laws.proofs.Tools.{cases, both-true}
 use Rattle.jumps.specs.declared.search.Reached.{Reached}
-use Rattle.jumps.specs.declared.search.Step.{Step}
-use Rattle.jumps.specs.declared.search.Step.the-variants.{To, End}
 use Rattle.jumps.specs.Pass.{passes, passesAll, jumpsLeft, differencesLeft}
-use Rattle.jumps.specs.Walk.{jumpTo, stepBy, stepped}
-use Rattle.jumps.proofs.Entries.{Right, entry-inside}
+use Rattle.jumps.specs.Walk.{stepBy, stepped, walked}
+use Rattle.jumps.proofs.Entries.{Right}
 use Rattle.jumps.proofs.Turns.{jumps-none, jumps-cons, differences-cons}
 
 -- ---- on lists: what goes on from a position
@@ -74,21 +72,15 @@ going-start w bound (j ∷ js) (zero ∷ ds) h k =
 abbrev pub Reaches : List ℕ → View → ℕ → Reached → Type 0
 Reaches b v r s = Going (v .width) (v .cells) (s .position) (jumpsLeft v (s .taken) b) (differencesLeft v (r + 1) b) (drop r (positionsOf b))
 
-abbrev pub StepReaches : List ℕ → View → ℕ → Step → Type 0
-StepReaches b v r (To s) = Reaches b v r s
-StepReaches b v r End = ⊥
+-- t is reached at rank r, past s
+pub record Goes (b : List ℕ) (v : View) (r : ℕ) (s t : Reached) : Type 0 where
+  pub reached : Reaches b v r t
+  pub past : s .position < t .position
 
 module _ (b : List ℕ) (v : View) (z : Right b v) where
   -- a jump that is left is loaded whole
   jump-whole : (t : ℕ) → t < v .firsts → whole 4 (52 + 4 * t) b ≡ field 4 (52 + 4 * t) b
   jump-whole t h = let p = z .place in let n = z .size in whole-there 4 (52 + 4 * t) b (omega arith)
-
-  difference-whole : (i : ℕ) → i < v .words
-      → whole (v .width) (secondPlace v + v .width * i) b ≡ field (v .width) (secondPlace v + v .width * i) b
-  difference-whole i h =
-      let n = z .size in
-      let m = entry-inside (v .width) (v .words) i h in
-      whole-there (v .width) (secondPlace v + v .width * i) b (omega arith)
 
   -- where one is left
   some-jump : (t : ℕ) → 0 < length (jumpsLeft v t b) → t < v .firsts
@@ -97,8 +89,7 @@ module _ (b : List ℕ) (v : View) (z : Right b v) where
       (λ e. absurd (let n = ap length (jumps-none v b t (ltb-false t (v .firsts) e)) in omega arith))
 
   walk-jump : (r : ℕ) (s : Reached) (ds : List ℕ) → Going (v .width) (v .cells) (s .position) (jumpsLeft v (s .taken) b) (0 ∷ ds) (drop r (positionsOf b))
-      → ds ≡ differencesLeft v (r + 1 + 1) b → StepReaches b v (r + 1) (jumpTo (whole 4 (52 + 4 * s .taken) b) s)
-  unfolding jumpTo
+      → ds ≡ differencesLeft v (r + 1 + 1) b → Goes b v (r + 1) s (record { position = whole 4 (52 + 4 * s .taken) b; taken = s .taken + 1 })
   walk-jump r s ds g e =
       let k = some-jump (s .taken) (going-jumps (v .width) (v .cells) (s .position) ds (drop r (positionsOf b)) (jumpsLeft v (s .taken) b) g) in
       let j = field 4 (52 + 4 * s .taken) b in
@@ -106,21 +97,37 @@ module _ (b : List ℕ) (v : View) (z : Right b v) where
       let g′ : Going (v .width) (v .cells) (s .position) (j ∷ js) (0 ∷ ds) (drop r (positionsOf b)) = rw (jumps-cons v b (s .taken) k) at g in
       let p = going-past (v .width) (v .cells) (s .position) ds (drop r (positionsOf b)) j js g′ in
       let m = one-le-pow (v .width) 256 (zero-lt-suc 255) in
-      rw (jump-whole (s .taken) k, lt-ltb (s .position) j (omega arith), ← e, ← drop-drop 1 r (positionsOf b))
-      (going-jump (v .width) (v .cells) (s .position) ds (drop r (positionsOf b)) j js g′)
+      let q = going-jump (v .width) (v .cells) (s .position) ds (drop r (positionsOf b)) j js g′ in
+      rw (jump-whole (s .taken) k) (record { reached = rw (← e, ← drop-drop 1 r (positionsOf b)) q; past = omega arith })
 
-  pub walk : (r : ℕ) (s : Reached) → r + 1 < v .words → Reaches b v r s → StepReaches b v (r + 1) (stepped (v .width) (secondPlace v) b (r + 1) s)
+  pub walk : (r : ℕ) (s : Reached) → r + 1 < v .words → Reaches b v r s → Goes b v (r + 1) s (stepped (v .width) (secondPlace v) b (r + 1) s)
   unfolding stepped stepBy
   walk r s h g =
       let d = field (v .width) (secondPlace v + v .width * (r + 1)) b in
       let g′ : Going (v .width) (v .cells) (s .position) (jumpsLeft v (s .taken) b) (d ∷ differencesLeft v (r + 1 + 1) b) (drop r (positionsOf b))
       = rw (differences-cons v b (r + 1) h) at g in
-      rw (difference-whole (r + 1) h)
-      (cases (eqb d 0)
+      cases (eqb d 0)
       (λ e. rw e (walk-jump r s (differencesLeft v (r + 1 + 1) b) (rw (eqb-true d 0 e) at g′) refl))
       (λ e.
       let n = going-difference (v .width) (v .cells) (s .position) _ (drop r (positionsOf b)) (jumpsLeft v (s .taken) b) d (eqb-false d 0 e) g′ in
-      rw e (rw (drop-drop 1 r (positionsOf b)) at n)))
+      let m = pos-of-ne-zero (eqb-false d 0 e) in
+      rw e (record { reached = rw (drop-drop 1 r (positionsOf b)) at n; past = omega arith }))
+
+  -- n ranks on; the last of them is past the one before
+  module _ (r : ℕ) (s : Reached) (g : Reaches b v r s) where
+    pub walk-on : (n : ℕ) → r + n < v .words → Reaches b v (r + n) (walked (v .width) (secondPlace v) b r n s)
+    unfolding walked
+    walk-on zero h = rw (add-zero r) g
+    walk-on (suc n) h =
+        let e : r + suc n ≡ r + n + 1 = omega arith in
+        rw e (walk (r + n) (walked (v .width) (secondPlace v) b r n s) (omega arith) (walk-on n (omega arith)) .reached)
+
+    pub walk-last : (n : ℕ) → r + suc n < v .words
+        → walked (v .width) (secondPlace v) b r n s .position < walked (v .width) (secondPlace v) b r (suc n) s .position
+    unfolding walked
+    walk-last n h =
+        let e : r + suc n ≡ r + n + 1 = omega arith in
+        rw e (walk (r + n) (walked (v .width) (secondPlace v) b r n s) (omega arith) (walk-on n (omega arith)) .past)
 
   pub walk-start : passesAll (v .width) (v .cells) (jumpsLeft v 0 b) (differencesLeft v 0 b) ≡ true → 0 < v .words
       → positionsOf b ≡ jumpedPositions (jumpsLeft v 0 b) (differencesLeft v 0 b) → Reaches b v 0 (record { position = whole 4 52 b; taken = 1 })

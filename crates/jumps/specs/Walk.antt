@@ -1,37 +1,61 @@
 -- A search of kind 4 as it goes from rank to rank, over any bytes. Assumes nothing.
-use Prim.Native.Nat.{ℕ, _+_, _*_, _^_, _≤_, _<_}
+use Prim.Native.Nat.{ℕ, zero, suc, _+_, _*_, _^_, _≤_, _<_}
 use mathlib.Core.Path.{_≡_}
+use mathlib.Core.Bool.{Bool, true, not}
 use mathlib.Core.List.{List}
-use lib.Dec.{ltb, eqb}
+use lib.ListN.{length}
+use lib.Dec.{eqb}
 use Rattle.format.specs.declared.View.{View}
-use Rattle.format.specs.Tools.{pick}
+use Rattle.format.specs.Tools.{pick, both}
+use Rattle.format.specs.Bytes.{field}
 use Rattle.format.specs.File.{headerLength}
 use Rattle.wire.specs.Wire.{whole}
 use Rattle.header.specs.Search.{ViewOf}
 use Rattle.jumps.specs.declared.search.Reached.{Reached}
-use Rattle.jumps.specs.declared.search.Step.{Step}
-use Rattle.jumps.specs.declared.search.Step.the-variants.{To, End}
-
--- to the position l of a jump, which is past the one before
-unfoldable pub jumpTo : ℕ → Reached → Step
-jumpTo l s = pick (ltb (s .position) l) (To (record { position = l; taken = s .taken + 1 })) End
+use Rattle.jumps.specs.declared.search.Place.{Place}
 
 -- by the difference d, l being the next jump
-unfoldable pub stepBy : ℕ → ℕ → Reached → Step
-stepBy d l s = pick (eqb d 0) (jumpTo l s) (To (record { position = s .position + d; taken = s .taken }))
+unfoldable pub stepBy : ℕ → ℕ → Reached → Reached
+stepBy d l s = pick (eqb d 0) (record { position = l; taken = s .taken + 1 }) (record { position = s .position + d; taken = s .taken })
 
 -- to rank r, whose difference has w bytes, in a second part that begins at `second`
-unfoldable pub stepped : ℕ → ℕ → List ℕ → ℕ → Reached → Step
-stepped w second b r s = stepBy (whole w (second + w * r) b) (whole 4 (headerLength + 4 * s .taken) b) s
+unfoldable pub stepped : ℕ → ℕ → List ℕ → ℕ → Reached → Reached
+stepped w second b r s = stepBy (field w (second + w * r) b) (whole 4 (headerLength + 4 * s .taken) b) s
+
+-- from rank r to the n-th rank after it
+unfoldable pub walked : ℕ → ℕ → List ℕ → ℕ → ℕ → Reached → Reached
+walked w second b r zero s = s
+walked w second b r (suc n) s = stepped w second b (r + suc n) (walked w second b r n s)
+
+-- no jump is among the n differences after rank r
+unfoldable pub plain : ℕ → ℕ → List ℕ → ℕ → ℕ → Bool
+plain w second b r zero = true
+plain w second b r (suc n) = both (not (eqb (field w (second + w * (r + suc n)) b) 0)) (plain w second b r n)
+
+-- their sum
+unfoldable pub total : ℕ → ℕ → List ℕ → ℕ → ℕ → ℕ
+total w second b r zero = 0
+total w second b r (suc n) = total w second b r n + field w (second + w * (r + suc n)) b
 
 -- after n ranks: no sum passes 64 bits
 pub record Within (n : ℕ) (s : Reached) : Type 0 where
   pub position : s .position < 2 ^ 32 + 65536 * n
   pub taken : s .taken ≤ n
 
-abbrev pub StepWithin : ℕ → Step → Type 0
-StepWithin n (To s) = Within n s
-StepWithin n End = Unit
+-- the difference of rank r lies in the file
+pub record Room (w second : ℕ) (b : List ℕ) (r : ℕ) : Type 0 where
+  pub narrow : 1 ≤ w
+  pub wide : w ≤ 2
+  pub inside : second + w * r + w ≤ length b
+  pub rank : r < 2 ^ 32
+
+-- a walk from rank 0 on, at most to rank n: past rank 0 only below the target, and to rank n where no position is as far as the target
+pub record Stopped (w second : ℕ) (b : List ℕ) (n target : ℕ) (s : Reached) (t : Place) : Type 0 where
+  pub most : t .rank ≤ n
+  pub there : t .reached ≡ walked w second b 0 (t .rank) s
+  pub within : Within (t .rank + 1) (t .reached)
+  pub below : 1 ≤ t .rank → t .reached .position < target
+  pub all : 2 ^ 50 ≤ target → t .rank ≡ n
 
 -- the width of an accepted file of kind 4
 pub record OfWidth (b : List ℕ) (v : View) (w : ℕ) : Type 0 where

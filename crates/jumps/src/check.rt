@@ -14,7 +14,7 @@ ghost use Rattle.header.specs.Search.{HeaderView};
 ghost use Rattle.jumps.specs.Pass.{passesFrom, starts};
 
 // The difference of rank i, of width 1 or 2.
-fn difference(file: &[u8], second: usize, i: usize, width: u32) -> u32
+pub fn difference(file: &[u8], second: usize, i: usize, width: u32) -> u32
     requires { ⌜ (1 ≤ width) × (width ≤ 2) × (second + width * i + width ≤ length (now file)) ⌝ }
     ensures { λ r. ⌜ (r ≡ field width (second + width * i) (now (file .entry))) × (r < 65536) ⌝ }
 {

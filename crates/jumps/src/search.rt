@@ -1,19 +1,20 @@
-// The searches of kind 4: one pass from rank 0 on, over any bytes and any view.
+// The searches of kind 4: one pass from rank 0 on, over any bytes and any view. Ranks are taken in groups.
+use super::check::difference;
 use format::Position;
 use format::PositionAnswer;
 use format::Rank;
 use format::RankAnswer;
 use format::View;
 use header::places::second_at;
-use wire::load_u8;
-use wire::load_u16;
 use wire::load_u32;
 ghost use mathlib.Core.Path.{_≡_};
-ghost use Prim.Native.Nat.{_+_, _*_, _^_, _≤_, _<_};
+ghost use Prim.Native.Nat.{_+_, _*_, _≤_, _<_};
 ghost use Rattle.format.specs.Answers.{rankSays, positionSays};
 ghost use Rattle.header.specs.Search.{KindRankSearched, KindPositionSearched};
-ghost use Rattle.wire.specs.Wire.{whole};
-ghost use Rattle.jumps.specs.Walk.{stepped, Within, StepWithin, OfWidth};
+ghost use Rattle.jumps.specs.Walk.{stepped, walked, plain, total, Within, Room, Stopped, OfWidth};
+
+// A position that no walk reaches.
+const NO_TARGET: usize = 0xffff_ffff_ffff_ffff;
 
 // How far a search has come: the position of a rank, and the number of jumps that are taken up to it.
 pub struct Reached {
@@ -21,48 +22,121 @@ pub struct Reached {
     pub taken: usize,
 }
 
-// The next rank, or the end where positions rise no more.
-pub enum Step {
-    To(Reached),
-    End,
+// Where a walk stops: a rank, and what is reached there.
+pub struct Place {
+    pub rank: usize,
+    pub reached: Reached,
 }
 
-// The difference of rank i, of width 1 or 2; 0 past the end of the file.
-fn load_difference(file: &[u8], second: usize, i: usize, width: u32) -> u32
-    requires { ⌜ (1 ≤ width) × (width ≤ 2) × (second < 2 ^ 36) × (i < 2 ^ 32) ⌝ }
-    ensures { λ r. ⌜ (r ≡ whole width (second + width * i) (now (file .entry))) × (r < 65536) ⌝ }
-{
-    if width == 1 {
-        return load_u8(file, second + i);
-    }
-    load_u16(file, second + 2 * i)
-}
-
-// To rank r from the rank before. A jump that is not past the position before is refused, so past the end of the file a search soon ends.
-fn advance(file: &[u8], second: usize, width: u32, r: u32, s: Reached) -> Step
-    requires { ⌜ (1 ≤ width) × (width ≤ 2) × (second < 2 ^ 36) × Within r s ⌝ }
-    ensures { λ t. ⌜ (t ≡ stepped width second (now (file .entry)) r s) × StepWithin (r + 1) t ⌝ }
+// To rank r from the rank before. The next jump is read in either case, so that a jump costs no mispredicted branch.
+fn advance(file: &[u8], second: usize, width: u32, r: usize, s: Reached) -> Reached
+    requires { ⌜ Room width second (now file) r × Within r s ⌝ }
+    ensures { λ t. ⌜ (t ≡ stepped width second (now (file .entry)) r s) × Within (r + 1) t ⌝ }
 {
     let position = s.position;
     let taken = s.taken;
-    let d = load_difference(file, second, r as usize, width) as usize;
-    if d != 0 {
-        return Step::To(Reached {
-            position: position + d,
-            taken: taken,
-        });
-    }
+    let d = difference(file, second, r, width) as usize;
     let jump = load_u32(file, 52 + 4 * taken) as usize;
-    if jump <= position {
-        return Step::End;
+    if d != 0 {
+        return Reached {
+            position: position + d,
+            taken,
+        };
     }
-    Step::To(Reached {
+    Reached {
         position: jump,
         taken: taken + 1,
-    })
+    }
 }
 
-// The rank at a position below cells. The width is 1 or 2, so that each has a loop of its own; on an accepted file it is the view's.
+// Whether no jump is among the 32 differences after rank r.
+fn no_jump(file: &[u8], second: usize, width: u32, r: usize) -> bool
+    requires { ⌜ Room width second (now file) (r + 32) ⌝ }
+    ensures { λ g. ⌜ g ≡ plain width second (now (file .entry)) r 32 ⌝ }
+{
+    let mut none = true;
+    let mut k: usize = 0;
+    while k < 32 {
+        k += 1;
+        if difference(file, second, r + k, width) == 0 {
+            none = false;
+        }
+    }
+    none
+}
+
+// The sum of the 32 differences after rank r.
+fn sum(file: &[u8], second: usize, width: u32, r: usize) -> u32
+    requires { ⌜ Room width second (now file) (r + 32) ⌝ }
+    ensures { λ x. ⌜ (x ≡ total width second (now (file .entry)) r 32) × (x ≤ 65536 * 32) ⌝ }
+{
+    let mut x: u32 = 0;
+    let mut k: usize = 0;
+    while k < 32 {
+        k += 1;
+        x += difference(file, second, r + k, width);
+    }
+    x
+}
+
+// From rank r to the n-th rank after it. A group of 32 without a jump is taken by its sum.
+fn walk_group(file: &[u8], second: usize, width: u32, r: usize, n: usize, s: Reached) -> Reached
+    requires { ⌜ Room width second (now file) (r + n) × Within (r + 1) s ⌝ }
+    ensures { λ t. ⌜ (t ≡ walked width second (now (file .entry)) r n s) × Within (r + n + 1) t ⌝ }
+{
+    if n == 32 {
+        if no_jump(file, second, width, r) {
+            return Reached {
+                position: s.position + sum(file, second, width, r) as usize,
+                taken: s.taken,
+            };
+        }
+    }
+    let mut t = s;
+    let mut k: usize = 0;
+    while k < n {
+        k += 1;
+        t = advance(file, second, width, r + k, t);
+    }
+    t
+}
+
+// The ranks to take next where so many are left: a group, or what is left.
+fn next_group(left: usize) -> usize
+    ensures { λ n. ⌜ (n ≤ left) × (1 ≤ left → 1 ≤ n) ⌝ }
+{
+    if left < 32 {
+        return left;
+    }
+    32
+}
+
+// From rank 0 on to rank n, group by group, as long as the position stays below the target.
+fn walk(file: &[u8], second: usize, width: u32, n: usize, target: usize, s: Reached) -> Place
+    requires { ⌜ Room width second (now file) n × Within 1 s ⌝ }
+    ensures { λ t. ⌜ Stopped width second (now (file .entry)) n target s t ⌝ }
+{
+    let mut t = s;
+    let mut r: usize = 0;
+    while r < n {
+        let m = next_group(n - r);
+        let next = walk_group(file, second, width, r, m, t);
+        if target <= next.position {
+            return Place {
+                rank: r,
+                reached: t,
+            };
+        }
+        t = next;
+        r += m;
+    }
+    Place {
+        rank: r,
+        reached: t,
+    }
+}
+
+// The rank at a position below cells. The width is 1 or 2; on an accepted file it is the view's. A file too short for its counts is not accepted.
 fn seek_rank(file: &[u8], v: View, width: u32, p: u32) -> RankAnswer
     requires { ⌜ (1 ≤ width) × (width ≤ 2) × (p < v .cells) × OfWidth (now file) v width ⌝ }
     ensures { λ r. ⌜ KindRankSearched 4 (now (file .entry)) v p (rankSays r) ⌝ }
@@ -71,21 +145,23 @@ fn seek_rank(file: &[u8], v: View, width: u32, p: u32) -> RankAnswer
         return RankAnswer::Empty;
     }
     let second = second_at(v);
+    if file.len() < second + width as usize * v.words as usize {
+        return RankAnswer::Empty;
+    }
     let target = p as usize;
-    let mut s = Reached {
+    let start = Reached {
         position: load_u32(file, 52) as usize,
         taken: 1,
     };
-    let mut r: u32 = 0;
+    let place = walk(file, second, width, v.words as usize - 1, target, start);
+    let mut s = place.reached;
+    let mut r = place.rank as u32;
     while s.position < target {
         r += 1;
         if r == v.words {
             return RankAnswer::Empty;
         }
-        let Step::To(t) = advance(file, second, width, r, s) else {
-            return RankAnswer::Empty;
-        };
-        s = t;
+        s = advance(file, second, width, r as usize, s);
     }
     if s.position == target {
         return RankAnswer::Rank(Rank(r));
@@ -99,18 +175,15 @@ fn seek_position(file: &[u8], v: View, width: u32, rank: u32) -> PositionAnswer
     ensures { λ a. ⌜ KindPositionSearched 4 (now (file .entry)) v rank (positionSays a) ⌝ }
 {
     let second = second_at(v);
-    let mut s = Reached {
+    if file.len() < second + width as usize * v.words as usize {
+        return PositionAnswer::Refused(8);
+    }
+    let start = Reached {
         position: load_u32(file, 52) as usize,
         taken: 1,
     };
-    let mut r: u32 = 0;
-    while r < rank {
-        r += 1;
-        let Step::To(t) = advance(file, second, width, r, s) else {
-            return PositionAnswer::Refused(8);
-        };
-        s = t;
-    }
+    let place = walk(file, second, width, rank as usize, NO_TARGET, start);
+    let s = place.reached;
     let position = s.position;
     if position < v.cells as usize {
         return PositionAnswer::Position(Position(position as u32));

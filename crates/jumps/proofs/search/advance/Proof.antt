@@ -1,25 +1,15 @@
--- A step from rank to rank, over any bytes. Assumes nothing.
+-- A step from rank to rank. Assumes nothing.
 use native.Mathlib.Omega.{arith}
-use Rattle.jumps.proofs.Steps.{by-difference, by-none, by-jump}
+use Rattle.jumps.proofs.Steps.{by-difference, by-jump}
 use borrow.Author.Needs.{needs}
 use Rattle.jumps.proofs.search.advance.Statement.{statement}
 use Rattle.jumps.proofs.search.advance.Tie as tie
 
-load-difference-requires : tie.Need-load-difference-requires
-load-difference-requires c κs = search needs
+difference-requires : tie.Need-difference-requires
+difference-requires c κs = let z = c .before .pre .0 in (z .narrow, z .wide, z .inside)
 
 cast-d : tie.Need-cast-d
 cast-d c = search needs
-
-add-t13 : tie.Need-add-t13
-add-t13 c = search needs
-
-returns : tie.Need-returns
-returns c =
-    let a = c .before .before .before .args in
-    let d = c .before .load-difference .ensures in
-    let d1 = d .1 in
-    (by-difference _ _ (a .file .now) (a .r) (a .s) (d .0) (c .if1 .taken), record { position = omega arith; taken = omega arith })
 
 mul-load-u32 : tie.Need-mul-load-u32
 mul-load-u32 c = search needs
@@ -33,35 +23,41 @@ load-u32-requires c κs = search needs
 cast-jump : tie.Need-cast-jump
 cast-jump c = search needs
 
+add-t14 : tie.Need-add-t14
+add-t14 c = search needs
+
+returns : tie.Need-returns
+returns c =
+    let a = c .before .before .before .before .args in
+    let w = c .before .before .before .before .pre .1 in
+    let d = c .before .before .difference .ensures in
+    let d1 = d .1 in
+    (by-difference _ _ (a .file .now) (a .r) (a .s) (d .0) (c .if1 .taken), record { position = omega arith; taken = omega arith })
+
+add-t11 : tie.Need-add-t11
+add-t11 c = search needs
+
 returns-2 : tie.Need-returns-2
 returns-2 c =
-    let a = c .before .before .before .before .before .args in
-    let d = c .before .before .before .load-difference .ensures .0 in
-    (by-none _ _ (a .file .now) (a .r) (a .s) d (c .before .before .if1 .left) (c .before .load-u32 .ensures .0) (c .if2 .taken), tt)
-
-add-t15 : tie.Need-add-t15
-add-t15 c = search needs
-
-returns-3 : tie.Need-returns-3
-returns-3 c =
-    let a = c .before .before .before .before .before .args in
-    let d = c .before .before .before .load-difference .ensures .0 in
+    let a = c .before .before .before .before .args in
+    let w = c .before .before .before .before .pre .1 in
     let j = c .before .load-u32 .ensures in
-    let j1 = j .1 in
-    (by-jump _ _ (a .file .now) (a .r) (a .s) d (c .before .before .if1 .left) (j .0) (c .if2 .left), record { position = omega arith; taken = omega arith })
+    let j1 = j .1 in (
+      by-jump _ _ (a .file .now) (a .r) (a .s) (c .before .before .difference .ensures .0) (c .if1 .left) (j .0),
+      record { position = omega arith; taken = omega arith },
+    )
 
 pub advance-spec : {M : Type 1} → statement M
 advance-spec =
     tie.close
     (tie.spec
-    load-difference-requires
+    difference-requires
     cast-d
-    add-t13
-    returns
     mul-load-u32
     add-load-u32
     load-u32-requires
     cast-jump
-    returns-2
-    add-t15
-    returns-3)
+    add-t14
+    returns
+    add-t11
+    returns-2)

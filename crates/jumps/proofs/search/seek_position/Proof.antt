@@ -1,125 +1,105 @@
 -- A search for the position of a rank. Assumes nothing.
-use Prim.Native.Nat.{ℕ, _+_, _-_, _≤_}
-use mathlib.Core.Path.{_≡_}
+use Prim.Native.Nat.{ℕ}
 use mathlib.Core.List.{List}
+use native.Mathlib.Nat.{mul-le-mul-right}
 use native.Mathlib.Omega.{arith}
 use Rattle.format.specs.declared.View.{View}
 use Rattle.format.specs.Tools.{Below}
 use Rattle.header.proofs.Body.{below-elements}
-use Rattle.jumps.specs.Walk.{Within}
-use Rattle.jumps.proofs.Walk.{Reaches, StepReaches}
-use Rattle.jumps.proofs.Answered.{OnAccepted, at-start, at-next, at-step, position-found, position-past, position-end}
+use Rattle.jumps.proofs.Steps.{room}
+use Rattle.jumps.proofs.Walk.{Reaches}
+use Rattle.jumps.proofs.Answered.{OnAccepted, at-start, at-walk, position-short, position-found, position-past}
 use borrow.Author.Needs.{needs}
 use Rattle.jumps.proofs.search.seek_position.Statement.{statement}
 use Rattle.jumps.proofs.search.seek_position.Tie as tie
 
--- s is what is reached at rank r
-abbrev Inv-loop : tie.InvT-loop
-Inv-loop file v width rank second s₀ r₀ s r = (r ≤ rank) × Within (r + 1) s × OnAccepted file v (Reaches file v r s)
-
-abbrev μ-loop : tie.MeasureT-loop
-μ-loop file v width rank second s₀ r₀ s r = rank - r
-
 -- the file and the view, from where the file is known to be bytes
-abbrev file : tie.After-shared-slice-known Inv-loop μ-loop → List ℕ
+abbrev file : tie.After-shared-slice-known → List ℕ
 file c = c .before .args .file .now
 
-abbrev view : tie.After-shared-slice-known Inv-loop μ-loop → View
+abbrev view : tie.After-shared-slice-known → View
 view c = c .before .args .v
 
-small : (c : tie.After-shared-slice-known Inv-loop μ-loop) → Below 256 (file c)
+small : (c : tie.After-shared-slice-known) → Below 256 (file c)
 small c = below-elements 256 (file c) (λ i. c .shared-slice-known .given i .fits)
 
--- where a step begins
-abbrev entry : tie.After-advance Inv-loop μ-loop → tie.After-shared-slice-known Inv-loop μ-loop
-entry c = c .before .before .before .before .before
+-- the walk goes to the rank
+reached : (c : tie.After-walk)
+    → let a = c .before .before .before .before .before in OnAccepted (file a) (view a) (Reaches (file a) (view a) (a .before .args .rank) (c .walk .result .reached))
+reached c =
+    let a = c .before .before .before .before .before in
+    let z = c .walk .ensures in
+    let p = a .before .pre in
+    let g = at-start (file a) (view a) (small a) (c .before .load-u32 .ensures .0) (omega arith) in
+    at-walk (file a) (view a) (small a) (p .3) (c .before .before .before .before .second-at .ensures .0) (a .before .args .rank) _ (rw (z .all (omega arith)) at (z .there)) (p .2) g
 
--- the next rank is reached
-next : (c : tie.After-advance Inv-loop μ-loop)
-    → OnAccepted (file (entry c)) (view (entry c)) (StepReaches (file (entry c)) (view (entry c)) (c .before .before .loop .r + 1) (c .advance .result))
-next c =
-    let a = entry c in
-    let l = c .before .before .loop in
-    let e = c .before .before .before .before .second-at .ensures .0 in
-    at-next (file a) (view a) (small a) (l .r) (l .s) (a .before .pre .3) e (c .advance .ensures .0) (omega arith) (l .inv .2)
-
-second-at-requires : tie.Need-second-at-requires Inv-loop μ-loop
+second-at-requires : tie.Need-second-at-requires
 second-at-requires c κs = search needs
 
-load-u32-requires : tie.Need-load-u32-requires Inv-loop μ-loop
-load-u32-requires c κs = search needs
-
-cast-if1 : tie.Need-cast-if1 Inv-loop μ-loop
+cast-if1 : tie.Need-cast-if1
 cast-if1 c = search needs
 
-loop-holds : tie.Need-loop-holds Inv-loop μ-loop
-loop-holds c =
-    let m = c .load-u32 .ensures .1 in
-    let a = c .before .before in
-    (omega arith, record { position = omega arith; taken = omega arith }, at-start (file a) (view a) (small a) (c .load-u32 .ensures .0) (omega arith))
+mul-if1 : tie.Need-mul-if1
+mul-if1 c = let a = c .before .before .before in let m = mul-le-mul-right (a .args .v .words) (a .pre .1) in record { fits = omega arith }
 
-add-r : tie.Need-add-r Inv-loop μ-loop
-add-r c = search needs
+add-if1 : tie.Need-add-if1
+add-if1 c =
+    let a = c .before .before .before in
+    let m = mul-le-mul-right (a .args .v .words) (a .pre .1) in
+    let n = c .before .second-at .ensures .1 in
+    omega arith
 
-advance-requires : tie.Need-advance-requires Inv-loop μ-loop
-advance-requires c κs = search needs
+returns : tie.Need-returns
+returns c =
+    let a = c .before .before .before in
+    position-short (file a) (view a) (small a) (a .before .pre .3) (c .before .before .second-at .ensures .0) (c .if1 .taken) _
 
-enum-known-t : tie.Need-enum-known-t Inv-loop μ-loop
-enum-known-t c = search needs
+load-u32-requires : tie.Need-load-u32-requires
+load-u32-requires c κs = search needs
 
-enum-told : tie.Need-enum-told Inv-loop μ-loop
-enum-told c = search needs
+cast-if2 : tie.Need-cast-if2
+cast-if2 c = search needs
 
-returns : tie.Need-returns Inv-loop μ-loop
-returns c = position-end _ _ _ (c .before .before .before .before .loop .r + 1) (c .enum-told .given .1) (next (c .before .before))
+walk-requires : tie.Need-walk-requires
+walk-requires c κs =
+    let a = c .before .before .before .before .before in
+    let p = a .pre in
+    let m = c .load-u32 .ensures .1 in (
+      room (a .args .file .now) (p .0) (p .1) (c .before .if1 .left) (omega arith) (p .2),
+      record { position = omega arith; taken = omega arith },
+    )
 
-loop-less : tie.Need-loop-less Inv-loop μ-loop
-loop-less c = search needs
+cast-if2-2 : tie.Need-cast-if2-2
+cast-if2-2 c = search needs
 
-loop-again : tie.Need-loop-again Inv-loop μ-loop
-loop-again c =
-    let s = c .before .before .before in
-    let e = c .before .t .given .1 in
-    (omega arith, rw e at (s .advance .ensures .1), at-step _ _ (s .before .before .loop .r + 1) e (next s))
+cast-t17 : tie.Need-cast-t17
+cast-t17 c = search needs
 
-cast-if1-2 : tie.Need-cast-if1-2 Inv-loop μ-loop
-cast-if1-2 c = search needs
-
-cast-t15 : tie.Need-cast-t15 Inv-loop μ-loop
-cast-t15 c = search needs
-
-returns-2 : tie.Need-returns-2 Inv-loop μ-loop
+returns-2 : tie.Need-returns-2
 returns-2 c =
-    let a = c .before .before .before .before .before .before in
-    let l = c .before .before .before .loop in
-    let e : a .before .args .rank ≡ l .r = omega arith in
-    rw e (position-found (file a) (view a) (small a) (l .r) (l .s) (l .inv .2) (omega arith) (c .if1 .taken))
+    let a = c .before .before .before .before .before .before .before .before in
+    let p = a .before .pre in
+    position-found (file a) (view a) (small a) (a .before .args .rank) _ (reached (c .before .before .before)) (p .2) (c .if2 .taken)
 
-returns-3 : tie.Need-returns-3 Inv-loop μ-loop
+returns-3 : tie.Need-returns-3
 returns-3 c =
-    let a = c .before .before .before .before .before .before in
-    let l = c .before .before .before .loop in
-    let e : a .before .args .rank ≡ l .r = omega arith in
-    rw e (position-past (file a) (view a) (small a) (l .r) (l .s) (l .inv .2) (c .if1 .left))
+    let a = c .before .before .before .before .before .before .before .before in
+    let p = a .before .pre in
+    position-past (file a) (view a) (small a) (a .before .args .rank) _ (reached (c .before .before .before)) (c .if2 .left)
 
 pub seek-position-spec : {M : Type 1} → statement M
 seek-position-spec =
     tie.close
     (tie.spec
-    Inv-loop
-    μ-loop
     second-at-requires
-    load-u32-requires
     cast-if1
-    loop-holds
-    add-r
-    advance-requires
-    enum-known-t
-    enum-told
+    mul-if1
+    add-if1
     returns
-    loop-less
-    loop-again
-    cast-if1-2
-    cast-t15
+    load-u32-requires
+    cast-if2
+    walk-requires
+    cast-if2-2
+    cast-t17
     returns-2
     returns-3)

@@ -1,0 +1,68 @@
+-- The sum of a group. Assumes nothing.
+use Prim.Native.Nat.{_+_, _*_, _-_, _≤_}
+use mathlib.Core.Path.{_≡_}
+use native.Mathlib.Omega.{arith}
+use Rattle.jumps.specs.Walk.{total, Room}
+use Rattle.jumps.proofs.Steps.{earlier, total-start, total-next}
+use borrow.Author.Needs.{needs}
+use Rattle.jumps.proofs.search.sum.Statement.{statement}
+use Rattle.jumps.proofs.search.sum.Tie as tie
+
+-- k differences are added
+abbrev Inv-loop : tie.InvT-loop
+Inv-loop file second width r x₀ k₀ x k = (k ≤ 32) × (x ≤ 65536 * k) × (x ≡ total width second file r k)
+
+abbrev μ-loop : tie.MeasureT-loop
+μ-loop file second width r x₀ k₀ x k = 32 - k
+
+-- the next difference lies in the file
+room : (c : tie.In-loop Inv-loop μ-loop)
+    → let a = c .before .before .before .args in Room (a .width) (a .second) (a .file .now) (a .r + (c .before .loop .k + 1))
+room c = earlier _ _ _ (c .before .before .before .pre) (omega arith)
+
+loop-holds : tie.Need-loop-holds Inv-loop μ-loop
+loop-holds c = let a = c .before .args in (omega arith, omega arith, total-start (a .width) (a .second) (a .file .now) (a .r))
+
+add-k : tie.Need-add-k Inv-loop μ-loop
+add-k c = search needs
+
+add-difference : tie.Need-add-difference Inv-loop μ-loop
+add-difference c = let z = room c .rank in omega arith
+
+difference-requires : tie.Need-difference-requires Inv-loop μ-loop
+difference-requires c κs = let z = room c in (z .narrow, z .wide, z .inside)
+
+add-x : tie.Need-add-x Inv-loop μ-loop
+add-x c = search needs
+
+loop-less : tie.Need-loop-less Inv-loop μ-loop
+loop-less c = search needs
+
+loop-again : tie.Need-loop-again Inv-loop μ-loop
+loop-again c =
+    let a = c .before .before .before .before .args in
+    let l = c .before .before .loop in
+    let d = c .difference .ensures in
+    let d1 = d .1 in
+    (omega arith, omega arith, total-next (a .width) (a .second) (a .file .now) (a .r) (l .k) (d .0) (l .inv .2))
+
+returns : tie.Need-returns Inv-loop μ-loop
+returns c =
+    let l = c .before .loop in
+    let e : l .k ≡ 32 = omega arith in
+    (rw e at (l .inv .2), omega arith)
+
+pub sum-spec : {M : Type 1} → statement M
+sum-spec =
+    tie.close
+    (tie.spec
+    Inv-loop
+    μ-loop
+    loop-holds
+    add-k
+    add-difference
+    difference-requires
+    add-x
+    loop-less
+    loop-again
+    returns)

@@ -1,0 +1,114 @@
+-- A walk of n ranks, by the sum of a group or rank by rank. Assumes nothing.
+use Prim.Native.Nat.{_+_, _-_, _≤_}
+use mathlib.Core.Path.{_≡_, sym, _∙_}
+use native.Mathlib.Omega.{arith}
+use Rattle.jumps.specs.Walk.{walked, Room, Within}
+use Rattle.jumps.proofs.Steps.{earlier, walked-start, walked-next, group-sum}
+use borrow.Author.Needs.{needs}
+use Rattle.jumps.proofs.search.walk_group.Statement.{statement}
+use Rattle.jumps.proofs.search.walk_group.Tie as tie
+
+-- k ranks are taken
+abbrev Inv-loop : tie.InvT-loop
+Inv-loop file second width r n t₀ k₀ t k = (k ≤ n) × (t ≡ walked width second file r k t₀) × Within (r + k + 1) t
+
+abbrev μ-loop : tie.MeasureT-loop
+μ-loop file second width r n t₀ k₀ t k = n - k
+
+-- the next difference lies in the file
+room : (c : tie.In-loop Inv-loop μ-loop)
+    → let a = c .before .before .before .before .args in Room (a .width) (a .second) (a .file .now) (a .r + (c .before .loop .k + 1))
+room c = earlier _ _ _ (c .before .before .before .before .pre .0) (omega arith)
+
+no-jump-requires : tie.Need-no-jump-requires Inv-loop μ-loop
+no-jump-requires c κs = rw (c .if1 .taken) at (c .before .before .pre .0)
+
+sum-requires : tie.Need-sum-requires Inv-loop μ-loop
+sum-requires c κs = rw (c .before .before .if1 .taken) at (c .before .before .before .before .pre .0)
+
+cast-t12 : tie.Need-cast-t12 Inv-loop μ-loop
+cast-t12 c = search needs
+
+add-t13 : tie.Need-add-t13 Inv-loop μ-loop
+add-t13 c =
+    let w = c .before .before .before .before .before .before .pre in
+    let z = w .0 .rank in
+    let p = w .1 .position in
+    let g = c .before .sum .ensures .1 in
+    omega arith
+
+returns : tie.Need-returns Inv-loop μ-loop
+returns c =
+    let b = c .before .before .before .before .before .before in
+    let a = b .args in
+    let w = b .pre .1 in
+    let p = w .position in
+    let q = w .taken in
+    let e = c .before .before .before .before .if1 .taken in
+    let x = c .before .sum .ensures in
+    let x1 = x .1 in
+    let g = sym (c .before .before .before .no-jump .ensures) ∙ c .before .before .if2 .taken in (
+      rw e (group-sum (a .width) (a .second) (a .file .now) (a .r) 32 (a .s) g (x .0)),
+      record { position = omega arith; taken = omega arith },
+    )
+
+loop-holds : tie.Need-loop-holds Inv-loop μ-loop
+loop-holds c =
+    let a = c .before .before .args in
+    let w = c .before .before .pre .1 in
+    let p = w .position in
+    let q = w .taken in
+    (omega arith, walked-start (a .width) (a .second) (a .file .now) (a .r) (a .s), record { position = omega arith; taken = omega arith })
+
+add-k : tie.Need-add-k Inv-loop μ-loop
+add-k c = search needs
+
+add-advance : tie.Need-add-advance Inv-loop μ-loop
+add-advance c = let z = room c .rank in omega arith
+
+advance-requires : tie.Need-advance-requires Inv-loop μ-loop
+advance-requires c κs =
+    let w = c .before .loop .inv .2 in
+    let p = w .position in
+    let q = w .taken in
+    (room c, record { position = omega arith; taken = omega arith })
+
+loop-less : tie.Need-loop-less Inv-loop μ-loop
+loop-less c = search needs
+
+loop-again : tie.Need-loop-again Inv-loop μ-loop
+loop-again c =
+    let a = c .before .before .before .before .before .args in
+    let l = c .before .before .loop in
+    let t = c .advance .ensures in
+    let p = t .1 .position in
+    let q = t .1 .taken in (
+      omega arith,
+      walked-next (a .width) (a .second) (a .file .now) (a .r) (l .k) (a .s) (l .inv .1) (t .0),
+      record { position = omega arith; taken = omega arith },
+    )
+
+returns-2 : tie.Need-returns-2 Inv-loop μ-loop
+returns-2 c =
+    let l = c .before .loop in
+    let e : l .k ≡ c .before .before .before .before .args .n = omega arith in
+    (rw e at (l .inv .1), rw e at (l .inv .2))
+
+pub walk-group-spec : {M : Type 1} → statement M
+walk-group-spec =
+    tie.close
+    (tie.spec
+    Inv-loop
+    μ-loop
+    no-jump-requires
+    sum-requires
+    cast-t12
+    add-t13
+    returns
+    loop-holds
+    add-k
+    add-advance
+    advance-requires
+    loop-less
+    loop-again
+    returns-2)
