@@ -18,7 +18,7 @@ fn at_end(c: Cursor) -> u32
     1
 }
 
-// Kind 1. The position of a stored cell is its rank and the empty cells before it. The next pair is loaded at each step, so that no jump
+// Kind 1. The position of a stored cell is its rank and the empty cells before it. The next pair is loaded at each step, so that no branch
 // depends on where a run ends.
 pub fn next_run(file: &[u8], mut c: Cursor) -> Cursor
     ensures { λ r. ⌜ r ≡ runNext (now (file .entry)) c ⌝ }
