@@ -50,8 +50,8 @@ fn based_positions(file: &[u8], v: View, mut c: Cursor, out: &mut [u32]) -> Curs
     c
 }
 
-// Kind 4, of a view's width.
-fn jump_batch(file: &[u8], v: View, mut c: Cursor, out: &mut [u32]) -> Cursor
+// Kind 4.
+fn jump_positions(file: &[u8], v: View, mut c: Cursor, out: &mut [u32]) -> Cursor
     ensures { λ r. ⌜ Batch (jumpNext (now (file .entry)) v) c (length (now (out .entry))) r (now (out .exit)) ⌝ }
 {
     let mut i: usize = 0;
@@ -61,21 +61,6 @@ fn jump_batch(file: &[u8], v: View, mut c: Cursor, out: &mut [u32]) -> Cursor
         i += 1;
     }
     c
-}
-
-// Kind 4. The width is a literal, so that each has a loop of its own.
-fn jump_positions(file: &[u8], mut v: View, c: Cursor, out: &mut [u32]) -> Cursor
-    ensures { λ r. ⌜ Batch (jumpNext (now (file .entry)) v) c (length (now (out .entry))) r (now (out .exit)) ⌝ }
-{
-    if v.width == 1 {
-        v.width = 1;
-        return jump_batch(file, v, c, out);
-    }
-    if v.width == 2 {
-        v.width = 2;
-        return jump_batch(file, v, c, out);
-    }
-    jump_batch(file, v, c, out)
 }
 
 // Kind 5.
