@@ -6,3 +6,4 @@ pub mod RunLaws
 pub mod PageLaws
 pub mod Begin
 pub mod Walks
+pub mod Batches

@@ -1,5 +1,6 @@
 -- The cursor's steps, kind by kind, as the code takes them, and the positions where it stands. Assumes nothing.
 use Prim.Native.Nat.{ℕ, zero, suc, _+_, _-_, _*_, _%_, _^_}
+use mathlib.Core.Path.{_≡_}
 use mathlib.Core.List.{List, [], _∷_}
 use lib.ListN.{length}
 use lib.Dec.{leb, ltb, eqb}
@@ -151,3 +152,23 @@ startOf b v = nextOf b v before
 unfoldable pub walked : List ℕ → View → Cursor → ℕ → List ℕ
 walked b v c zero = []
 walked b v c (suc n) = c .at ∷ walked b v (nextOf b v c) n
+
+-- the cursor after n steps from c
+unfoldable pub steppedBy : List ℕ → View → Cursor → ℕ → Cursor
+steppedBy b v c zero = c
+steppedBy b v c (suc n) = steppedBy b v (nextOf b v c) n
+
+-- ---- the same by any step
+
+unfoldable pub walkedAs : (Cursor → Cursor) → Cursor → ℕ → List ℕ
+walkedAs f c zero = []
+walkedAs f c (suc n) = c .at ∷ walkedAs f (f c) n
+
+unfoldable pub steppedAs : (Cursor → Cursor) → Cursor → ℕ → Cursor
+steppedAs f c zero = c
+steppedAs f c (suc n) = steppedAs f (f c) n
+
+-- n steps f from c lead to r, along the positions out
+pub record Batch (f : Cursor → Cursor) (c : Cursor) (n : ℕ) (r : Cursor) (out : List ℕ) : Type 0 where
+  pub cursor : r ≡ steppedAs f c n
+  pub positions : out ≡ walkedAs f c n

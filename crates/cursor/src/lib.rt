@@ -1,4 +1,5 @@
 // A cursor along the stored positions of a file, in rank order and at constant cost a step, for every kind. Any bytes, view and cursor will do.
+pub mod batch;
 pub mod pairs;
 pub mod ranks;
 pub mod runs;

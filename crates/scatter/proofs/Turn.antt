@@ -1,16 +1,20 @@
--- One turn of the loop that scatters, and its end. Assumes nothing.
+-- The turns of the loops that scatter, and their end. Assumes nothing.
 use Prim.Native.Nat.{ℕ, zero, suc, _+_, _-_, _*_, _≤_, _<_}
 use mathlib.Core.Path.{_≡_, refl, sym, ap, _∙_}
-use mathlib.Core.List.{List, [], _∷_}
+use mathlib.Core.List.{List, [], _∷_, _++_}
 use native.Mathlib.Numerals.{add-one}
 use native.Mathlib.Omega.{arith}
-use lib.ListN.{length, getD, drop, set, drop-of-length-le}
-use lib.Seq.{drop-cons}
+use lib.ListN.{length, getD, take, drop, set, drop-of-length-le, length-drop, take-append-drop}
+use lib.Seq.{drop-cons, drop-drop, length-take-le}
 use Rattle.format.specs.declared.View.{View}
+use Rattle.format.specs.Tools.{Below, first, others}
 use Rattle.format.specs.Bytes.{field}
-use Rattle.format.specs.Accepted.{wordsCount, wordsAt, positionsOf, keptOf}
+use Rattle.format.specs.Picture.{cells}
+use Rattle.format.specs.Accepted.{dimensionsOf, wordsCount, wordsAt, positionsOf, keptOf}
 use Rattle.format.specs.Opened.{viewOf}
 use Rattle.laws.proofs.Numbers.{numbers-at}
+use Rattle.laws.proofs.Bytes.{below-drop}
+use Rattle.laws.proofs.Bounds.{below-rising, below-widen}
 use Rattle.laws.proofs.Check.{length-numbersOf}
 use Rattle.laws.proofs.Acceptance.{accepted}
 use Rattle.header.specs.View.{wordsPlace}
@@ -19,16 +23,39 @@ use Rattle.header.proofs.Frame.{Framed, framed}
 use Rattle.header.proofs.Body.{accepted-parts}
 use Rattle.scatter.specs.Scatter.{scattered}
 
-scatter-turn : (d ls vs : List ℕ) (r : ℕ) → r < length ls → r < length vs
-    → scattered d (drop r ls) (drop r vs) ≡ scattered (set d (getD ls r 0) (getD vs r 0)) (drop (r + 1) ls) (drop (r + 1) vs)
+scatter-turn : (d ls vs : List ℕ) (i j : ℕ) → i < length ls → j < length vs
+    → scattered d (drop i ls) (drop j vs) ≡ scattered (set d (getD ls i 0) (getD vs j 0)) (drop (i + 1) ls) (drop (j + 1) vs)
 unfolding scattered
-scatter-turn d ls vs r h k = rw (drop-cons ls r 0 h, drop-cons vs r 0 k, add-one)
+scatter-turn d ls vs i j h k = rw (drop-cons ls i 0 h, drop-cons vs j 0 k, add-one i, add-one j)
 
-scatter-end : (d ls vs : List ℕ) (r : ℕ) → length ls ≤ r → scattered d (drop r ls) (drop r vs) ≡ d
+pub scatter-end : (d ls vs : List ℕ) (i : ℕ) → length ls ≤ i → scattered d (drop i ls) vs ≡ d
 unfolding scattered
-scatter-end d ls vs r h = rw (drop-of-length-le ls {i = r} h)
+scatter-end d ls vs i h = rw (drop-of-length-le ls {i = i} h)
 
--- of the view v of an accepted file b
+-- some positions, then others
+scatter-add : (d xs ys vs : List ℕ) → scattered d (xs ++ ys) vs ≡ scattered (scattered d xs vs) ys (drop (length xs) vs)
+unfolding scattered
+scatter-add d [] ys vs = refl
+scatter-add d (x ∷ xs) ys vs = scatter-add (set d x (first vs)) xs ys (others vs) ∙ rw (others-drop (length xs) vs)
+  where
+    others-drop : (n : ℕ) (l : List ℕ) → drop n (others l) ≡ drop (suc n) l
+    others-drop zero [] = refl
+    others-drop (suc n) [] = refl
+    others-drop n (x ∷ l) = refl
+
+-- ---- positions below a bound
+
+below-take : (B n : ℕ) (xs : List ℕ) → Below B xs → Below B (take n xs)
+below-take B zero xs h = tt
+below-take B (suc n) [] h = tt
+below-take B (suc n) (x ∷ xs) h = (h .0, below-take B n xs (h .1))
+
+pub below-at : (B : ℕ) (xs : List ℕ) (i : ℕ) → i < length xs → Below B xs → getD xs i 0 < B
+below-at B [] i k h = absurd (omega arith)
+below-at B (x ∷ xs) zero k h = h .0
+below-at B (x ∷ xs) (suc i) k h = below-at B xs i (omega arith) (h .1)
+
+-- ---- of the view v of an accepted file b
 module _ (b : List ℕ) (v : View) (o : ViewOf b v) where
   frame : Framed b
   frame = framed b (accepted b (o .accepted) .header)
@@ -52,12 +79,36 @@ module _ (b : List ℕ) (v : View) (o : ViewOf b v) where
       let w : wordsPlace v ≡ wordsAt b = ap wordsPlace (o .view) ∙ sym (frame .words-at) in
       rw w (sym (numbers-at 4 (wordsCount b) (wordsAt b) r b h))
 
-  pub turned : (d : List ℕ) (r at x : ℕ) → r < wordsCount b → at ≡ getD (positionsOf b) r 0 → x ≡ getD (keptOf b) r 0
-      → scattered (set d at x) (drop (r + 1) (positionsOf b)) (drop (r + 1) (keptOf b)) ≡ scattered d (drop r (positionsOf b)) (drop r (keptOf b))
+  kept-long : length (keptOf b) ≡ wordsCount b
   unfolding keptOf
-  turned d r at x h p q =
-      rw (p, q)
-      (sym (scatter-turn d (positionsOf b) (keptOf b) r (omega (arith, as-long)) (omega (arith, length-numbersOf 4 (wordsCount b) (drop (wordsAt b) b)))))
+  kept-long = length-numbersOf 4 (wordsCount b) (drop (wordsAt b) b)
 
-  pub done : (d : List ℕ) (r : ℕ) → wordsCount b ≤ r → scattered d (drop r (positionsOf b)) (drop r (keptOf b)) ≡ d
-  done d r h = scatter-end d (positionsOf b) (keptOf b) r (omega (arith, as-long))
+  -- the word of rank r + i, in a batch of n from rank r on
+  pub word-there : (r n i : ℕ) → r + n ≤ v .words → i < n → wordsPlace v + 4 * r + 4 * i + 4 ≤ length b
+  word-there r n i h k = omega (arith, words-seen, size-seen)
+
+  pub turned : (d at : List ℕ) (r i x : ℕ) → r + length at ≤ v .words → i < length at → x ≡ field 4 (wordsPlace v + 4 * r + 4 * i) b
+      → scattered (set d (getD at i 0) x) (drop (i + 1) at) (drop (r + (i + 1)) (keptOf b)) ≡ scattered d (drop i at) (drop (r + i) (keptOf b))
+  turned d at r i x h k e =
+      let n : r + i < wordsCount b = omega (arith, words-seen) in
+      let p : wordsPlace v + 4 * r + 4 * i ≡ wordsPlace v + 4 * (r + i) = omega arith in
+      let q : r + (i + 1) ≡ r + i + 1 = omega arith in
+      rw (e, p, q, word-seen (r + i) n) (sym (scatter-turn d at (keptOf b) i (r + i) k (omega (arith, kept-long))))
+
+  -- a batch of n from rank r on
+  pub below-batch : (m r n : ℕ) → v .cells ≤ m → Below m (take n (drop r (positionsOf b)))
+  below-batch m r n h =
+      let k = frame .cells in
+      let z = cells-seen in
+      below-widen (cells (dimensionsOf b)) m (take n (drop r (positionsOf b))) (omega arith)
+      (below-take (cells (dimensionsOf b)) n (drop r (positionsOf b))
+      (below-drop (cells (dimensionsOf b)) r (positionsOf b) (below-rising 0 (cells (dimensionsOf b)) (positionsOf b) (accepted-parts b (o .accepted) .rising))))
+
+  pub batch-turned : (d : List ℕ) (r n : ℕ) → r + n ≤ wordsCount b
+      → scattered (scattered d (take n (drop r (positionsOf b))) (drop r (keptOf b))) (drop (r + n) (positionsOf b)) (drop (r + n) (keptOf b))
+      ≡ scattered d (drop r (positionsOf b)) (drop r (keptOf b))
+  batch-turned d r n h =
+      let ls = drop r (positionsOf b) in
+      let k : length (take n ls) ≡ n = length-take-le n ls (rw (length-drop r (positionsOf b)) (omega (arith, as-long))) in
+      let s = scatter-add d (take n ls) (drop n ls) (drop r (keptOf b)) in
+      rw (← drop-drop n r (positionsOf b), ← drop-drop n r (keptOf b)) (sym (rw (take-append-drop n ls, k) at s))

@@ -1,5 +1,5 @@
 // A file's words into a destination: all empty at first, then each stored word at its position.
-use cursor::next;
+use cursor::batch::positions;
 use cursor::start;
 use format::View;
 use header::places::words_at;
@@ -8,6 +8,7 @@ ghost use mathlib.Core.Path.{_≡_};
 ghost use mathlib.Core.List.{_++_};
 ghost use Prim.Native.Nat.{_+_, _*_, _≤_, _<_, _^_};
 ghost use lib.ListN.{length, drop, replicate};
+ghost use Rattle.format.specs.Tools.{Below};
 ghost use Rattle.format.specs.Accepted.{positionsOf, keptOf};
 ghost use Rattle.header.specs.Search.{ViewOf};
 ghost use Rattle.scatter.specs.Scatter.{scattered};
@@ -24,18 +25,42 @@ pub fn fill(dst: &mut [u32], n: usize, x: u32)
     }
 }
 
+// The ranks of a batch where so many are left.
+fn batch_of(left: u32) -> usize
+    ensures { λ r. ⌜ (r ≤ left) × (r ≤ 512) × (0 < left → 0 < r) ⌝ }
+{
+    if left < 512 {
+        return left as usize;
+    }
+    512
+}
+
+// The stored words from a rank on, each at its position: `at` has the positions.
+fn scatter_batch(file: &[u8], v: View, rank: u32, at: &[u32], dst: &mut [u32])
+    requires { ⌜ ViewOf (now file) v × (rank + length (now at) ≤ v .words) × Below (length (now dst)) (now at) ⌝ }
+    ensures { λ _. ⌜ now (dst .exit) ≡ scattered (now (dst .entry)) (now (at .entry)) (drop rank (keptOf (now (file .entry)))) ⌝ }
+{
+    let words = words_at(v) + 4 * rank as usize;
+    let mut i: usize = 0;
+    while i < at.len() {
+        let to = at[i] as usize;
+        dst[to] = get_u32(file, words + 4 * i);
+        i += 1;
+    }
+}
+
 // Each stored word of an accepted file at its position.
 pub fn scatter(file: &[u8], v: View, dst: &mut [u32])
     requires { ⌜ ViewOf (now file) v × (v .cells ≤ length (now dst)) ⌝ }
     ensures { λ _. ⌜ now (dst .exit) ≡ scattered (now (dst .entry)) (positionsOf (now (file .entry))) (keptOf (now (file .entry))) ⌝ }
 {
-    let words = words_at(v);
     let mut c = start(file, v);
+    let mut batch: [u32; 512] = [0; 512];
     let mut rank: u32 = 0;
     while rank < v.words {
-        let at = c.at as usize;
-        dst[at] = get_u32(file, words + 4 * rank as usize);
-        c = next(file, v, c);
-        rank += 1;
+        let n = batch_of(v.words - rank);
+        c = positions(file, v, c, &mut batch[..n]);
+        scatter_batch(file, v, rank, &batch[..n], dst);
+        rank += n as u32;
     }
 }
