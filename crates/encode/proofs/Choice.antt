@@ -11,8 +11,9 @@ use Rattle.laws.proofs.Settings.{by-kind}
 use Rattle.stores.specs.Put.{put}
 use Rattle.encode.specs.declared.state.Encoder.{Encoder}
 use Rattle.encode.specs.Encoder.{Coder, runPair, runsCoder, positionsCoder, basedCoder, jumpsCoder, pageEntry, pagesCoder, noCoder, coderOf, coder}
-use Rattle.encode.specs.Encoder.{takenBy, taken, endedBy, ended, firstOf, secondOf, endFirst, endSecond}
+use Rattle.encode.specs.Encoder.{takenBy, taken, takenAllBy, takenAll, endedBy, ended, firstOf, secondOf, endFirst, endSecond}
 use Rattle.encode.specs.Ready.{Room, putBy}
+use Rattle.encode.specs.Batch.{addedFirst, addedSecond, putAllBy, RoomAll}
 use Rattle.encode.proofs.Taking.{if-zero, if-more}
 
 -- ---- the kind
@@ -38,6 +39,13 @@ module _ (s : Setting) where
   unfolding coder
   coder-pages h = rw h
 
+  -- with a width that is known
+  pub coder-based-at : (w : ℕ) → s .kind ≡ 3 → s .width ≡ w → coder s ≡ basedCoder w (s .step)
+  coder-based-at w h q = coder-based h ∙ ap (λ (n : ℕ). basedCoder n (s .step)) q
+
+  pub coder-jumps-at : (w : ℕ) → s .kind ≡ 4 → s .width ≡ w → coder s ≡ jumpsCoder w
+  coder-jumps-at w h q = coder-jumps h ∙ ap jumpsCoder q
+
 -- width and step by kind
 pub record Widths (s : Setting) : Type 0 where
   pub kind-least : 1 ≤ s .kind
@@ -56,6 +64,10 @@ widths =
       jumps = λ w w1 w2. omega arith;
       paged = λ b b1 b2. omega arith;
     })
+
+-- a width other than 1
+pub width-wide : (w : ℕ) → 1 ≤ w → w ≤ 2 → (w ≡ 1 → ⊥) → w ≡ 2
+width-wide w a b h = omega arith
 
 -- none of 1 to 4
 pub kind-rest : (s : Setting) → settingAllowed s ≡ true
@@ -77,6 +89,22 @@ module _ (s : Setting) (e : Encoder) (p : ℕ) (k : Coder) (h : coder s ≡ k) w
       → (r ≡ taken s e p) × (o ≡ put (put d (e .first) (firstOf s e p)) (e .second) (secondOf s e p))
   unfolding putBy firstOf secondOf
   written-by d t = (t .0 ∙ taken-by, t .1 ∙ ap (λ (x : Coder). putBy x d e p) (sym h))
+
+-- ---- many positions, by the kind
+
+module _ (s : Setting) (e : Encoder) (ls : List ℕ) (k : Coder) (h : coder s ≡ k) where
+  pub all-by : {r : Encoder} → r ≡ takenAllBy k e ls → r ≡ takenAll s e ls
+  unfolding takenAll
+  all-by t = t ∙ ap (λ (x : Coder). takenAllBy x e ls) (sym h)
+
+  pub room-all-by : (n : ℕ) → e .first + length (addedFirst s e ls) ≤ e .second → e .second + length (addedSecond s e ls) ≤ n → RoomAll k e ls n
+  unfolding addedFirst addedSecond
+  room-all-by n a b = subst (λ (x : Coder). RoomAll x e ls n) h (record { first = a; second = b })
+
+  pub written-all-by : (d : List ℕ) {r : Encoder} {o : List ℕ} → (r ≡ takenAllBy k e ls) × (o ≡ putAllBy k d e ls)
+      → (r ≡ takenAll s e ls) × (o ≡ put (put d (e .first) (addedFirst s e ls)) (e .second) (addedSecond s e ls))
+  unfolding putAllBy addedFirst addedSecond
+  written-all-by d t = (all-by (t .0), t .1 ∙ ap (λ (x : Coder). putAllBy x d e ls) (sym h))
 
 -- ---- the end
 

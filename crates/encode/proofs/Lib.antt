@@ -10,3 +10,5 @@ pub mod Sounds
 pub mod Steps
 pub mod Choice
 pub mod Turn
+pub mod Along
+pub mod Batches

@@ -139,11 +139,46 @@ module _ (e : Encoder) (p : ℕ) (n : Next e p) where
         second-most = omega arith;
       }
 
+-- a kind that keeps the encoder sound
+abbrev pub Keeps : Coder → Type 0
+Keeps k = (e : Encoder) (p : ℕ) → Next e p → Sound (takenBy k e p)
+
+pub keeps-runs : Keeps runsCoder
+keeps-runs e p n = sound-by e p n runsCoder (kept-runs e p n)
+
+pub keeps-positions : Keeps positionsCoder
+keeps-positions e p n = sound-by e p n positionsCoder (kept-positions e p n)
+
+pub keeps-based : (w l : ℕ) → w ≤ 2 → Keeps (basedCoder w l)
+keeps-based w l h e p n = sound-by e p n (basedCoder w l) (kept-based e p n w l h)
+
+pub keeps-jumps : (w : ℕ) → w ≤ 2 → Keeps (jumpsCoder w)
+keeps-jumps w h e p n = sound-by e p n (jumpsCoder w) (kept-jumps e p n w h)
+
+pub keeps-pages : (b : ℕ) → Keeps (pagesCoder b)
+keeps-pages b e p n = sound-by e p n (pagesCoder b) (kept-pages e p n b)
+
+pub keeps : (s : Setting) → settingAllowed s ≡ true → Keeps (coder s)
+unfolding coder
+keeps =
+    by-kind (λ s. Keeps (coder s))
+    (record {
+      runs = keeps-runs;
+      positions = keeps-positions;
+      based = λ w l w1 w2 l1 l2. keeps-based w l w2;
+      jumps = λ w w1 w2. keeps-jumps w w2;
+      paged = λ b b1 b2. keeps-pages b;
+    })
+
 -- ---- at the beginning, and after one more
 
+pub passed-by : (k : Coder) (e : Encoder) (p : ℕ) → passed (takenBy k e p) ≡ p + 1
+unfolding takenBy
+passed-by k e p = omega arith
+
 pub passed-taken : (s : Setting) (e : Encoder) (p : ℕ) → passed (taken s e p) ≡ p + 1
-unfolding taken takenBy
-passed-taken s e p = omega arith
+unfolding taken
+passed-taken s e p = passed-by (coder s) e p
 
 pub sound-begun : (f g : ℕ) → f ≤ 4294967296 → g ≤ 4294967296 → Sound (begun f g)
 unfolding begun
@@ -158,17 +193,8 @@ sound-begun f g h k =
     }
 
 pub sound-taken : (s : Setting) (e : Encoder) (p : ℕ) → Ready s e p → Sound (taken s e p)
-unfolding taken coder
-sound-taken s e p h =
-    by-kind (λ s. Sound (taken s e p))
-    (record {
-      runs = sound-by e p (h .next) runsCoder (kept-runs e p (h .next));
-      positions = sound-by e p (h .next) positionsCoder (kept-positions e p (h .next));
-      based = λ w l w1 w2 l1 l2. sound-by e p (h .next) (basedCoder w l) (kept-based e p (h .next) w l w2);
-      jumps = λ w w1 w2. sound-by e p (h .next) (jumpsCoder w) (kept-jumps e p (h .next) w w2);
-      paged = λ b b1 b2. sound-by e p (h .next) (pagesCoder b) (kept-pages e p (h .next) b);
-    })
-    s (h .allowed)
+unfolding taken
+sound-taken s e p h = keeps s (h .allowed) e p (h .next)
 
 pub ready-begun : (s : Setting) (f g p : ℕ) → settingAllowed s ≡ true → f ≤ 4294967296 → g ≤ 4294967296 → p < 16777216 → Ready s (begun f g) p
 ready-begun s f g p a h k b =

@@ -1,4 +1,5 @@
 // Positions into the two parts of a file, one at a time: to measure, and to write.
+pub mod batch;
 pub mod kinds;
 pub mod measure;
 pub mod state;

@@ -1,0 +1,75 @@
+use Prim.Native.Nat.{_-_}
+use lib.ListN.{length}
+use native.Mathlib.Omega.{arith}
+use Rattle.encode.specs.Encoder.{positionsCoder}
+use Rattle.encode.proofs.Sounds.{keeps-positions}
+use Rattle.encode.proofs.Along.{Writing, write-begin, write-next, write-turn, write-end}
+use borrow.Author.Needs.{needs}
+use Rattle.encode.proofs.batch.positions_put_all.Statement.{statement}
+use Rattle.encode.proofs.batch.positions_put_all.Tie as tie
+
+abbrev Inv-loop : tie.InvT-loop
+Inv-loop dst₀ ps at₀ i₀ dst at i = Writing positionsCoder ps at₀ dst₀ at dst i
+
+abbrev μ-loop : tie.MeasureT-loop
+μ-loop dst₀ ps at₀ i₀ dst at i = length ps - i
+
+loop-holds : tie.Need-loop-holds Inv-loop μ-loop
+loop-holds c =
+    let p = c .before .before in
+    let a = p .args in
+    write-begin positionsCoder (a .ps .now) (a .e) (a .dst .now) (p .pre .0) (p .pre .1)
+
+mul-positions-put : tie.Need-mul-positions-put Inv-loop μ-loop
+mul-positions-put c = search needs
+
+shared-slice-read-positions-put : tie.Need-shared-slice-read-positions-put Inv-loop μ-loop
+shared-slice-read-positions-put c = search needs
+
+positions-put-requires : tie.Need-positions-put-requires Inv-loop μ-loop
+positions-put-requires c κs =
+    let p = c .before .before .before .before .before .before in
+    let a = p .args in
+    let l = c .before .before .before .loop in
+    let n = write-next positionsCoder (a .ps .now) (a .e) (a .dst .now) (l .at) (l .dst) (l .i) (c .before .before .loop-test .taken) (l .inv) in
+    (n .0, n .1)
+
+add-i : tie.Need-add-i Inv-loop μ-loop
+add-i c = search needs
+
+loop-less : tie.Need-loop-less Inv-loop μ-loop
+loop-less c = omega arith
+
+loop-again : tie.Need-loop-again Inv-loop μ-loop
+loop-again c =
+    let p = c .before .before .before .before .before .before .before .before .before in
+    let a = p .args in
+    let l = c .before .before .before .before .before .before .loop in
+    let o = c .before .before .positions-put in
+    write-turn positionsCoder (a .ps .now) (a .e) (a .dst .now) (l .at) (l .dst) (l .i) (c .before .before .before .before .before .loop-test .taken) (l .inv) keeps-positions
+    (o .result) (o .last .0) (o .ensures)
+
+same-length : tie.Need-same-length Inv-loop μ-loop
+same-length c = c .before .loop .inv .same
+
+returns : tie.Need-returns Inv-loop μ-loop
+returns c =
+    let a = c .before .before .before .before .args in
+    let l = c .before .loop in
+    write-end positionsCoder (a .ps .now) (a .e) (a .dst .now) (l .at) (l .dst) (l .i) (omega arith) (l .inv)
+
+pub positions-put-all-spec : {M : Type 1} → statement M
+positions-put-all-spec =
+    tie.close
+    (tie.spec
+    Inv-loop
+    μ-loop
+    loop-holds
+    mul-positions-put
+    shared-slice-read-positions-put
+    positions-put-requires
+    add-i
+    loop-less
+    loop-again
+    same-length
+    returns)

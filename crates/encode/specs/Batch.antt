@@ -1,0 +1,39 @@
+-- Many positions at a time: what they add to each part, without the end. Assumes nothing.
+use Prim.Native.Nat.{ℕ, _+_, _≤_}
+use mathlib.Core.List.{List, [], _∷_, _++_}
+use lib.ListN.{length}
+use Rattle.format.specs.declared.Setting.{Setting}
+use Rattle.laws.proofs.Stored.{Rising}
+use Rattle.stores.specs.Put.{put}
+use Rattle.encode.specs.declared.state.Encoder.{Encoder}
+use Rattle.encode.specs.Encoder.{Coder, coder, takenBy}
+use Rattle.encode.specs.Ready.{passed, Sound}
+
+-- what the positions add to each part
+unfoldable pub addedFirstBy : Coder → Encoder → List ℕ → List ℕ
+addedFirstBy k e [] = []
+addedFirstBy k e (p ∷ ls) = k .first e p ++ addedFirstBy k (takenBy k e p) ls
+
+unfoldable pub addedSecondBy : Coder → Encoder → List ℕ → List ℕ
+addedSecondBy k e [] = []
+addedSecondBy k e (p ∷ ls) = k .second e p ++ addedSecondBy k (takenBy k e p) ls
+
+unfoldable pub addedFirst : Setting → Encoder → List ℕ → List ℕ
+addedFirst s e ls = addedFirstBy (coder s) e ls
+
+unfoldable pub addedSecond : Setting → Encoder → List ℕ → List ℕ
+addedSecond s e ls = addedSecondBy (coder s) e ls
+
+-- d with the bytes that they add
+unfoldable pub putAllBy : Coder → List ℕ → Encoder → List ℕ → List ℕ
+putAllBy k d e ls = put (put d (e .first) (addedFirstBy k e ls)) (e .second) (addedSecondBy k e ls)
+
+-- the positions can be taken next, one after the other
+pub record Along (e : Encoder) (ls : List ℕ) : Type 0 where
+  pub sound : Sound e
+  pub rising : Rising (passed e) 16777216 ls
+
+-- the bytes that they add have room in n elements, those of the first part before those of the second
+pub record RoomAll (k : Coder) (e : Encoder) (ls : List ℕ) (n : ℕ) : Type 0 where
+  pub first : e .first + length (addedFirstBy k e ls) ≤ e .second
+  pub second : e .second + length (addedSecondBy k e ls) ≤ n
