@@ -1,3 +1,4 @@
 pub mod Written
 pub mod Edits
 pub mod Copied
+pub mod Stretch

@@ -1,4 +1,5 @@
 // The positions and words of a checked file with one cell laid over them, into the parts and words of a new file.
+pub mod walk;
 pub mod words;
 
 // Which ranks of a file go into another: those before `before`, then, where `put`, a new one at `position`, then those from `after` on.
