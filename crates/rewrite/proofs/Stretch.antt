@@ -17,11 +17,12 @@ use Rattle.cursor.specs.declared.Cursor.{Cursor}
 use Rattle.cursor.specs.Cursor.{nextOf, walked, steppedBy}
 use Rattle.cursor.proofs.Batches.{walked-add, length-walked}
 use Rattle.encode.specs.declared.state.Encoder.{Encoder}
-use Rattle.encode.specs.Encoder.{Coder, coder, takenBy, takenAllBy, takenAll}
+use Rattle.encode.specs.Encoder.{Coder, coder, takenBy, takenAllBy, firstOf, secondOf, taken, takenAll}
 use Rattle.encode.specs.Ready.{passed, Sound}
 use Rattle.encode.specs.Batch.{addedFirstBy, addedSecondBy, addedFirst, addedSecond, Along, RoomAll, putAllBy}
 use Rattle.encode.proofs.Along.{put-all-end}
 use Rattle.encode.proofs.Batches.{rising-front, all-append, first-added, second-added, along-added}
+use Rattle.encode.proofs.Turn.{all-cons, all-end}
 use Rattle.rewrite.specs.Walk.{along}
 
 -- ---- what two lists of positions add, one after the other
@@ -115,6 +116,27 @@ module _ (s : Setting) (e : Encoder) (ls : List ℕ) where
   unfolding putAllBy addedFirst addedSecond
   put-all-is d = refl
 
+-- ---- one position
+
+module _ (s : Setting) (e : Encoder) (p : ℕ) where
+  pub one-taken : taken s e p ≡ takenAll s e (p ∷ [])
+  one-taken = sym (all-cons s e p [] ∙ all-end s (taken s e p))
+
+  first-one : addedFirstBy (coder s) e (p ∷ []) ≡ firstOf s e p
+  unfolding addedFirstBy firstOf
+  first-one = append-nil (coder s .first e p)
+
+  second-one : addedSecondBy (coder s) e (p ∷ []) ≡ secondOf s e p
+  unfolding addedSecondBy secondOf
+  second-one = append-nil (coder s .second e p)
+
+  pub one-room : (n : ℕ) → RoomAll (coder s) e (p ∷ []) n → (e .first + length (firstOf s e p) ≤ n) × (e .second + length (secondOf s e p) ≤ n)
+  one-room n r = let f = ap length first-one in let g = ap length second-one in (omega arith, omega arith)
+
+  pub one-put : (d : List ℕ) → put (put d (e .first) (firstOf s e p)) (e .second) (secondOf s e p) ≡ putAllBy (coder s) d e (p ∷ [])
+  unfolding putAllBy
+  one-put d = rw (first-one, second-one)
+
 -- ---- k ranks, then the rest
 
 stepped-add : (b : List ℕ) (v : View) (c : Cursor) (m n : ℕ) → steppedBy b v c (m + n) ≡ steppedBy b v (steppedBy b v c m) n
@@ -136,6 +158,7 @@ module _ (b : List ℕ) (v : View) (c : Cursor) (k n : ℕ) (h : k ≤ n) where
 pub record Batch (b : List ℕ) (v : View) (c d : Cursor) (k : ℕ) (buffer out : List ℕ) : Type 0 where
   pub cursor : d ≡ steppedBy b v c k
   pub front : take k (out ++ drop k buffer) ≡ walked b v c k
+  pub count : length (take k (out ++ drop k buffer)) ≡ k
   pub size : length (out ++ drop k buffer) ≡ length buffer
 
 pub batch : (b : List ℕ) (v : View) (c d : Cursor) (k : ℕ) (buffer out : List ℕ) → k ≤ length buffer
@@ -144,9 +167,11 @@ batch b v c d k buffer out h s w =
     let n = length-take-le k buffer h in
     let o : out ≡ walked b v c k = rw n at w in
     let l : length out ≡ k = ap length o ∙ length-walked b v c k in
+    let f : take k (out ++ drop k buffer) ≡ walked b v c k = rw l at (take-append-seam out (drop k buffer)) ∙ o in
     record {
       cursor = rw n at s;
-      front = rw l at (take-append-seam out (drop k buffer)) ∙ o;
+      front = f;
+      count = ap length f ∙ length-walked b v c k;
       size = length-front buffer out k (l ∙ sym n);
     }
 
@@ -183,6 +208,17 @@ module _ (s : Setting) (b : List ℕ) (v : View) (c : Cursor) (e : Encoder) (k n
 
     pub turn-put : (d : List ℕ) → putAllBy (coder s) (putAllBy (coder s) d e now) (takenAll s e now) later ≡ putAllBy (coder s) d e (walked b v c n)
     turn-put d = sym (put-all-append s e now later m split-room d) ∙ ap (putAllBy (coder s) d e) (sym (walked-split b v c k n h))
+
+-- one rank, then the rest
+pub skip-turn : (b : List ℕ) (v : View) (c : Cursor) (n : ℕ) → 0 < n → steppedBy b v (nextOf b v c) (n - 1) ≡ steppedBy b v c n
+unfolding steppedBy
+skip-turn b v c zero h = absurd (omega arith)
+skip-turn b v c (suc n) h = let e : suc n - 1 ≡ n = omega arith in rw e
+
+pub skip-end : (b : List ℕ) (v : View) (c : Cursor) (n : ℕ) → n ≤ 0 → steppedBy b v c n ≡ c
+unfolding steppedBy
+skip-end b v c zero h = refl
+skip-end b v c (suc n) h = absurd (omega arith)
 
 -- no rank is left
 module _ (s : Setting) (b : List ℕ) (v : View) (c : Cursor) (e : Encoder) (n : ℕ) (h : n ≤ 0) where
