@@ -1,6 +1,6 @@
 -- An edit in three stretches: the ranks before it, its own position, the ranks after it; then the end. Assumes nothing.
 use Prim.Native.Nat.{ℕ, _+_, _-_, _≤_}
-use mathlib.Core.Path.{_≡_, refl, sym, ap, ap₂, _∙_}
+use mathlib.Core.Path.{_≡_, refl, sym, ap, ap₂, _∙_, subst}
 use mathlib.Core.Bool.{true}
 use mathlib.Core.List.{List, [], _∷_, _++_, append-nil}
 use native.Mathlib.Nat.{zero-add, le-refl}
@@ -168,3 +168,28 @@ module _ (s : Setting) (e : Encoder) (xs ms ys : List ℕ) where
         → put (put (putAllBy (coder s) (putAllBy (coder s) (putAllBy (coder s) d e xs) e1 ms) e2 ys) (e3 .first) (endFirst s e3)) (e3 .second) (endSecond s e3)
         ≡ put (put d (e .first) (firsts s e (xs ++ ms ++ ys))) (e .second) (seconds s e (xs ++ ms ++ ys))
     three-put d = rw (put-three d) (put-end-all d e3 whole)
+
+-- ---- the stretches of an edit, from the beginning on
+
+module _ (b : List ℕ) (v : View) (o : ViewOf b v) (x : Edit) (i : EditOf b x) (s : Setting) (f g : ℕ) where
+  abbrev front : List ℕ
+  front = walked b v (startOf b v) (x .before)
+
+  abbrev rest : List ℕ
+  rest = walked b v (onward b v o x i) (v .words - x .after)
+
+  pub edit-along : settingAllowed s ≡ true → f ≤ 4294967296 → g ≤ 4294967296 → Three s (begun f g) front (added x) rest
+  unfolding begun
+  edit-along p h k =
+      three s (begun f g) front (added x) rest p
+      (record { sound = sound-begun f g h k; rising = rw (all-edited b v o x i) (i .rising) })
+
+  -- the encoder after them, and after the edited positions
+  pub edit-all : Three s (begun f g) front (added x) rest → e3 s (begun f g) front (added x) rest ≡ takenAll s (begun f g) (edited x (positionsOf b))
+  edit-all t = t .all ∙ ap (takenAll s (begun f g)) (all-edited b v o x i)
+
+  pub edit-sound : Three s (begun f g) front (added x) rest → Sound (takenAll s (begun f g) (edited x (positionsOf b)))
+  edit-sound t = subst Sound (edit-all t) (t .sound)
+
+  pub edit-rooms : (n : ℕ) → Apart s (begun f g) (edited x (positionsOf b)) n → Rooms s (begun f g) front (added x) rest n
+  edit-rooms n a = three-rooms s (begun f g) front (added x) rest n (rw (all-edited b v o x i) a)
