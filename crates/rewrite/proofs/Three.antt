@@ -28,7 +28,7 @@ use Rattle.encode.proofs.Batches.{all-append, along-added, sound-added, room-fi
 use Rattle.rewrite.specs.declared.Edit.{Edit}
 use Rattle.rewrite.specs.Edit.{edited, EditOf}
 use Rattle.rewrite.specs.Walk.{along, added}
-use Rattle.rewrite.proofs.Stretch.{along-front, room-front, room-rest, put-all-append, put-all-is}
+use Rattle.rewrite.proofs.Stretch.{length-put-all, along-front, room-front, room-rest, put-all-append, put-all-is}
 
 -- ---- the stretches are the edited positions
 
@@ -40,14 +40,21 @@ pub along-encoder : (s : Setting) (b : List ℕ) (v : View) (c : Cursor) (e : En
 unfolding along
 along-encoder s b v c e n = refl
 
-module _ (b : List ℕ) (v : View) (o : ViewOf b v) (x : Edit) (i : EditOf b x) where
-  -- where the ranks before the edit end, and where those after it begin
+-- where the ranks before the edit end, and where those after it begin; the positions of both
+module _ (b : List ℕ) (v : View) (x : Edit) where
   abbrev pub halfway : Cursor
   halfway = steppedBy b v (startOf b v) (x .before)
 
   abbrev pub onward : Cursor
   onward = steppedBy b v halfway (x .after - x .before)
 
+  abbrev pub front : List ℕ
+  front = walked b v (startOf b v) (x .before)
+
+  abbrev pub rest : List ℕ
+  rest = walked b v onward (v .words - x .after)
+
+module _ (b : List ℕ) (v : View) (o : ViewOf b v) (x : Edit) (i : EditOf b x) where
   pub words-seen : v .words ≡ wordsCount b
   unfolding viewOf
   words-seen = ap (λ (y : View). y .words) (o .view)
@@ -58,20 +65,20 @@ module _ (b : List ℕ) (v : View) (o : ViewOf b v) (x : Edit) (i : EditOf b x) 
       let q = i .inside in
       batched b v (startOf b v) 0 (x .before) (omega arith) (rw (o .view) (walked-start b (o .accepted)))
 
-  second-batch : Batched b v halfway (x .before) (x .after - x .before)
+  second-batch : Batched b v (halfway b v x) (x .before) (x .after - x .before)
   second-batch =
       let p = i .ordered in
       let q = i .inside in
-      batched b v halfway (x .before) (x .after - x .before) (omega arith) (rw zero-add at (first-batch .rest))
+      batched b v (halfway b v x) (x .before) (x .after - x .before) (omega arith) (rw zero-add at (first-batch .rest))
 
-  pub all-edited : walked b v (startOf b v) (x .before) ++ added x ++ walked b v onward (v .words - x .after) ≡ edited x (positionsOf b)
+  pub all-edited : front b v x ++ added x ++ rest b v x ≡ edited x (positionsOf b)
   unfolding edited
   all-edited =
       let p = i .ordered in
       let n : x .before + (x .after - x .before) ≡ x .after = omega arith in
-      let r : walked b v onward (wordsCount b - x .after) ≡ drop (x .after) (positionsOf b) = rw n at (second-batch .rest) in
-      let w : walked b v onward (v .words - x .after) ≡ drop (x .after) (positionsOf b)
-      = ap (λ (m : ℕ). walked b v onward (m - x .after)) words-seen ∙ r in
+      let r : walked b v (onward b v x) (wordsCount b - x .after) ≡ drop (x .after) (positionsOf b) = rw n at (second-batch .rest) in
+      let w : rest b v x ≡ drop (x .after) (positionsOf b)
+      = ap (λ (m : ℕ). walked b v (onward b v x) (m - x .after)) words-seen ∙ r in
       ap₂ (λ (f l : List ℕ). f ++ added x ++ l) (first-batch .positions) w
 
 -- ---- three lists of positions into an encoder, and the end
@@ -85,6 +92,25 @@ module _ (s : Setting) (e : Encoder) (xs ms ys : List ℕ) where
 
   abbrev pub e3 : Encoder
   e3 = takenAll s e2 ys
+
+  -- the bytes put out so far, from d on
+  abbrev pub d1 : List ℕ → List ℕ
+  d1 d = putAllBy (coder s) d e xs
+
+  abbrev pub d2 : List ℕ → List ℕ
+  d2 d = putAllBy (coder s) (d1 d) e1 ms
+
+  abbrev pub d3 : List ℕ → List ℕ
+  d3 d = putAllBy (coder s) (d2 d) e2 ys
+
+  pub length-d1 : (d : List ℕ) → length (d1 d) ≡ length d
+  length-d1 d = length-put-all (coder s) d e xs
+
+  pub length-d2 : (d : List ℕ) → length (d2 d) ≡ length d
+  length-d2 d = length-put-all (coder s) (d1 d) e1 ms ∙ length-d1 d
+
+  pub length-d3 : (d : List ℕ) → length (d3 d) ≡ length d
+  length-d3 d = length-put-all (coder s) (d2 d) e2 ys ∙ length-d2 d
 
   pub record Three : Type 0 where
     pub front : Along e xs
@@ -149,7 +175,7 @@ module _ (s : Setting) (e : Encoder) (xs ms ys : List ℕ) where
         }
 
     -- the stretches one after the other put out all, and the end adds what is left of the parts
-    put-three : (d : List ℕ) → putAllBy (coder s) (putAllBy (coder s) (putAllBy (coder s) d e xs) e1 ms) e2 ys ≡ putAllBy (coder s) d e (xs ++ ms ++ ys)
+    put-three : (d : List ℕ) → d3 d ≡ putAllBy (coder s) d e (xs ++ ms ++ ys)
     put-three d =
         ap₂ (λ (l : List ℕ) (t : Encoder). putAllBy (coder s) l t ys) (sym (put-all-append s e xs ms n front-room d)) both
         ∙ sym (put-all-append s e (xs ++ ms) ys n (room-all e (xs ++ ms ++ ys) [] end-apart) d)
@@ -165,31 +191,40 @@ module _ (s : Setting) (e : Encoder) (xs ms ys : List ℕ) where
         rw (q, ← put-all-is s e w d, ← firsts-end s u, ← seconds-end s u) (sym z)
 
     pub three-put : (d : List ℕ)
-        → put (put (putAllBy (coder s) (putAllBy (coder s) (putAllBy (coder s) d e xs) e1 ms) e2 ys) (e3 .first) (endFirst s e3)) (e3 .second) (endSecond s e3)
+        → put (put (d3 d) (e3 .first) (endFirst s e3)) (e3 .second) (endSecond s e3)
         ≡ put (put d (e .first) (firsts s e (xs ++ ms ++ ys))) (e .second) (seconds s e (xs ++ ms ++ ys))
     three-put d = rw (put-three d) (put-end-all d e3 whole)
 
 -- ---- the stretches of an edit, from the beginning on
 
 module _ (b : List ℕ) (v : View) (o : ViewOf b v) (x : Edit) (i : EditOf b x) (s : Setting) (f g : ℕ) where
-  abbrev front : List ℕ
-  front = walked b v (startOf b v) (x .before)
-
-  abbrev rest : List ℕ
-  rest = walked b v (onward b v o x i) (v .words - x .after)
-
-  pub edit-along : settingAllowed s ≡ true → f ≤ 4294967296 → g ≤ 4294967296 → Three s (begun f g) front (added x) rest
+  pub edit-along : settingAllowed s ≡ true → f ≤ 4294967296 → g ≤ 4294967296 → Three s (begun f g) (front b v x) (added x) (rest b v x)
   unfolding begun
   edit-along p h k =
-      three s (begun f g) front (added x) rest p
+      three s (begun f g) (front b v x) (added x) (rest b v x) p
       (record { sound = sound-begun f g h k; rising = rw (all-edited b v o x i) (i .rising) })
 
   -- the encoder after them, and after the edited positions
-  pub edit-all : Three s (begun f g) front (added x) rest → e3 s (begun f g) front (added x) rest ≡ takenAll s (begun f g) (edited x (positionsOf b))
+  pub edit-all : Three s (begun f g) (front b v x) (added x) (rest b v x) → e3 s (begun f g) (front b v x) (added x) (rest b v x) ≡ takenAll s (begun f g) (edited x (positionsOf b))
   edit-all t = t .all ∙ ap (takenAll s (begun f g)) (all-edited b v o x i)
 
-  pub edit-sound : Three s (begun f g) front (added x) rest → Sound (takenAll s (begun f g) (edited x (positionsOf b)))
+  pub edit-sound : Three s (begun f g) (front b v x) (added x) (rest b v x) → Sound (takenAll s (begun f g) (edited x (positionsOf b)))
   edit-sound t = subst Sound (edit-all t) (t .sound)
 
-  pub edit-rooms : (n : ℕ) → Apart s (begun f g) (edited x (positionsOf b)) n → Rooms s (begun f g) front (added x) rest n
-  edit-rooms n a = three-rooms s (begun f g) front (added x) rest n (rw (all-edited b v o x i) a)
+  pub edit-rooms : (n : ℕ) → Apart s (begun f g) (edited x (positionsOf b)) n → Rooms s (begun f g) (front b v x) (added x) (rest b v x) n
+  edit-rooms n a = three-rooms s (begun f g) (front b v x) (added x) (rest b v x) n (rw (all-edited b v o x i) a)
+
+  pub edit-put : (n : ℕ) → Apart s (begun f g) (edited x (positionsOf b)) n → (d : List ℕ)
+      → put
+      (put (d3 s (begun f g) (front b v x) (added x) (rest b v x) d)
+      (e3 s (begun f g) (front b v x) (added x) (rest b v x) .first) (endFirst s (e3 s (begun f g) (front b v x) (added x) (rest b v x))))
+      (e3 s (begun f g) (front b v x) (added x) (rest b v x) .second) (endSecond s (e3 s (begun f g) (front b v x) (added x) (rest b v x)))
+      ≡ put (put d f (firsts s (begun f g) (edited x (positionsOf b)))) g (seconds s (begun f g) (edited x (positionsOf b)))
+  edit-put n a d =
+      three-put s (begun f g) (front b v x) (added x) (rest b v x) n (rw (all-edited b v o x i) a) d
+      ∙ ap (λ (l : List ℕ). put (put d (begun f g .first) (firsts s (begun f g) l)) (begun f g .second) (seconds s (begun f g) l)) (all-edited b v o x i)
+      ∙ at-begin
+    where
+      at-begin : put (put d (begun f g .first) (firsts s (begun f g) (edited x (positionsOf b)))) (begun f g .second) (seconds s (begun f g) (edited x (positionsOf b)))
+          ≡ put (put d f (firsts s (begun f g) (edited x (positionsOf b)))) g (seconds s (begun f g) (edited x (positionsOf b)))
+      at-begin = unfold begun in refl

@@ -38,3 +38,16 @@ pub fn measure(file: &[u8], v: View, x: Edit, s: Setting) -> Encoder
     finished(s, all.e)
 }
 
+// The parts of the edited positions: the first at byte 52, the second at `second`. Of kind 5 only the second.
+pub fn put_parts(dst: &mut [u8], file: &[u8], v: View, x: Edit, s: Setting, second: usize)
+    requires { ⌜ ViewOf (now file) v × EditOf (now file) x × (settingAllowed s ≡ true) × Apart s (begun 52 second) (edited x (positionsOf (now file))) (length (now dst)) × (second ≤ 4294967296) ⌝ }
+    ensures { λ _. ⌜ now (dst .exit) ≡ put (put (now (dst .entry)) 52 (firsts s (begun 52 second) (edited x (positionsOf (now (file .entry)))))) second (seconds s (begun 52 second) (edited x (positionsOf (now (file .entry))))) ⌝ }
+{
+    let c = start(file, v);
+    let e = begin(52, second);
+    let front = put_ranks(dst, file, v, s, c, e, x.before);
+    let e = put_added(dst, s, front.e, x);
+    let c = skip(file, v, front.c, x.after - x.before);
+    let all = put_ranks(dst, file, v, s, c, e, v.words - x.after);
+    finish(dst, s, all.e);
+}
