@@ -3,3 +3,4 @@ pub mod Edits
 pub mod Copied
 pub mod Stretch
 pub mod Three
+pub mod Counting

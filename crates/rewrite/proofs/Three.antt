@@ -54,11 +54,11 @@ module _ (b : List ℕ) (v : View) (x : Edit) where
   abbrev pub rest : List ℕ
   rest = walked b v onward (v .words - x .after)
 
-module _ (b : List ℕ) (v : View) (o : ViewOf b v) (x : Edit) (i : EditOf b x) where
-  pub words-seen : v .words ≡ wordsCount b
-  unfolding viewOf
-  words-seen = ap (λ (y : View). y .words) (o .view)
+pub words-seen : (b : List ℕ) (v : View) → ViewOf b v → v .words ≡ wordsCount b
+unfolding viewOf
+words-seen b v o = ap (λ (y : View). y .words) (o .view)
 
+module _ (b : List ℕ) (v : View) (o : ViewOf b v) (x : Edit) (i : EditOf b x) where
   first-batch : Batched b v (startOf b v) 0 (x .before)
   first-batch =
       let p = i .ordered in
@@ -78,7 +78,7 @@ module _ (b : List ℕ) (v : View) (o : ViewOf b v) (x : Edit) (i : EditOf b x) 
       let n : x .before + (x .after - x .before) ≡ x .after = omega arith in
       let r : walked b v (onward b v x) (wordsCount b - x .after) ≡ drop (x .after) (positionsOf b) = rw n at (second-batch .rest) in
       let w : rest b v x ≡ drop (x .after) (positionsOf b)
-      = ap (λ (m : ℕ). walked b v (onward b v x) (m - x .after)) words-seen ∙ r in
+      = ap (λ (m : ℕ). walked b v (onward b v x) (m - x .after)) (words-seen b v o) ∙ r in
       ap₂ (λ (f l : List ℕ). f ++ added x ++ l) (first-batch .positions) w
 
 -- ---- three lists of positions into an encoder, and the end

@@ -35,7 +35,7 @@ kept-append E (x ∷ xs) ys =
 
 -- ---- how many are below
 
-count-append : (p : ℕ) (xs ys : List ℕ) → countBelow p (xs ++ ys) ≡ countBelow p xs + countBelow p ys
+pub count-append : (p : ℕ) (xs ys : List ℕ) → countBelow p (xs ++ ys) ≡ countBelow p xs + countBelow p ys
 unfolding countBelow
 count-append p [] ys = rw zero-add
 count-append p (x ∷ xs) ys = let later = count-append p xs ys in omega arith

@@ -70,7 +70,7 @@ sub-measure-ranks : tie.Need-sub-measure-ranks
 sub-measure-ranks c =
     let a = c .before .before .before .before .before .before .before .before .before .args in
     let p = c .before .before .before .before .before .before .before .before .before .pre in
-    omega (arith, p .1 .inside, words-seen (a .file .now) (a .v) (p .0) (a .x) (p .1))
+    omega (arith, p .1 .inside, words-seen (a .file .now) (a .v) (p .0))
 
 -- src/parts.rt:37:9
 measure-ranks-requires-2 : tie.Need-measure-ranks-requires-2

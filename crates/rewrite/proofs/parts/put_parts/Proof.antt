@@ -87,7 +87,7 @@ sub-put-ranks : tie.Need-sub-put-ranks
 sub-put-ranks c =
     let a = c .before .before .before .before .before .before .before .before .before .before .before .before .before .before .before .before .before .args in
     let p = c .before .before .before .before .before .before .before .before .before .before .before .before .before .before .before .before .before .pre in
-    omega (arith, p .1 .inside, words-seen (a .file .now) (a .v) (p .0) (a .x) (p .1))
+    omega (arith, p .1 .inside, words-seen (a .file .now) (a .v) (p .0))
 
 -- src/parts.rt:51:9
 put-ranks-requires-2 : tie.Need-put-ranks-requires-2
