@@ -1,0 +1,6 @@
+pub mod Written
+pub mod Edits
+pub mod Copied
+pub mod Stretch
+pub mod Three
+pub mod Counting

@@ -1,0 +1,230 @@
+-- An edit in three stretches: the ranks before it, its own position, the ranks after it; then the end. Assumes nothing.
+use Prim.Native.Nat.{ℕ, _+_, _-_, _≤_}
+use mathlib.Core.Path.{_≡_, refl, sym, ap, ap₂, _∙_, subst}
+use mathlib.Core.Bool.{true}
+use mathlib.Core.List.{List, [], _∷_, _++_, append-nil}
+use native.Mathlib.Nat.{zero-add, le-refl}
+use native.Mathlib.Omega.{arith}
+use lib.ListN.{length, take, drop}
+use Rattle.format.specs.declared.Setting.{Setting}
+use Rattle.format.specs.declared.View.{View}
+use Rattle.format.specs.Kinds.{settingAllowed}
+use Rattle.format.specs.Accepted.{wordsCount, positionsOf}
+use Rattle.format.specs.Opened.{viewOf}
+use Rattle.stores.specs.Put.{put}
+use Rattle.stores.proofs.Laws.{put-nil}
+use Rattle.header.specs.Search.{ViewOf}
+use Rattle.cursor.specs.declared.Cursor.{Cursor}
+use Rattle.cursor.specs.Cursor.{startOf, walked, steppedBy}
+use Rattle.cursor.proofs.Walks.{walked-start}
+use Rattle.cursor.proofs.Batches.{Batched, batched}
+use Rattle.encode.specs.declared.state.Encoder.{Encoder}
+use Rattle.encode.specs.Encoder.{coder, begun, endFirst, endSecond, takenAll, firsts, seconds}
+use Rattle.encode.specs.Ready.{passed, Sound, Apart}
+use Rattle.encode.specs.Batch.{addedFirst, addedSecond, Along, RoomAll, putAllBy}
+use Rattle.encode.proofs.Sounds.{sound-begun}
+use Rattle.encode.proofs.Turn.{firsts-end, seconds-end, room-end-first, room-end-second}
+use Rattle.encode.proofs.Batches.{all-append, along-added, sound-added, room-first-all, room-second-all, apart-added, put-turn-all}
+use Rattle.rewrite.specs.declared.Edit.{Edit}
+use Rattle.rewrite.specs.Edit.{edited, EditOf}
+use Rattle.rewrite.specs.Walk.{along, added}
+use Rattle.rewrite.proofs.Stretch.{length-put-all, along-front, room-front, room-rest, put-all-append, put-all-is}
+
+-- ---- the stretches are the edited positions
+
+pub along-cursor : (s : Setting) (b : List ℕ) (v : View) (c : Cursor) (e : Encoder) (n : ℕ) → along s b v c e n .c ≡ steppedBy b v c n
+unfolding along
+along-cursor s b v c e n = refl
+
+pub along-encoder : (s : Setting) (b : List ℕ) (v : View) (c : Cursor) (e : Encoder) (n : ℕ) → along s b v c e n .e ≡ takenAll s e (walked b v c n)
+unfolding along
+along-encoder s b v c e n = refl
+
+-- where the ranks before the edit end, and where those after it begin; the positions of both
+module _ (b : List ℕ) (v : View) (x : Edit) where
+  abbrev pub halfway : Cursor
+  halfway = steppedBy b v (startOf b v) (x .before)
+
+  abbrev pub onward : Cursor
+  onward = steppedBy b v halfway (x .after - x .before)
+
+  abbrev pub front : List ℕ
+  front = walked b v (startOf b v) (x .before)
+
+  abbrev pub rest : List ℕ
+  rest = walked b v onward (v .words - x .after)
+
+pub words-seen : (b : List ℕ) (v : View) → ViewOf b v → v .words ≡ wordsCount b
+unfolding viewOf
+words-seen b v o = ap (λ (y : View). y .words) (o .view)
+
+module _ (b : List ℕ) (v : View) (o : ViewOf b v) (x : Edit) (i : EditOf b x) where
+  first-batch : Batched b v (startOf b v) 0 (x .before)
+  first-batch =
+      let p = i .ordered in
+      let q = i .inside in
+      batched b v (startOf b v) 0 (x .before) (omega arith) (rw (o .view) (walked-start b (o .accepted)))
+
+  second-batch : Batched b v (halfway b v x) (x .before) (x .after - x .before)
+  second-batch =
+      let p = i .ordered in
+      let q = i .inside in
+      batched b v (halfway b v x) (x .before) (x .after - x .before) (omega arith) (rw zero-add at (first-batch .rest))
+
+  pub all-edited : front b v x ++ added x ++ rest b v x ≡ edited x (positionsOf b)
+  unfolding edited
+  all-edited =
+      let p = i .ordered in
+      let n : x .before + (x .after - x .before) ≡ x .after = omega arith in
+      let r : walked b v (onward b v x) (wordsCount b - x .after) ≡ drop (x .after) (positionsOf b) = rw n at (second-batch .rest) in
+      let w : rest b v x ≡ drop (x .after) (positionsOf b)
+      = ap (λ (m : ℕ). walked b v (onward b v x) (m - x .after)) (words-seen b v o) ∙ r in
+      ap₂ (λ (f l : List ℕ). f ++ added x ++ l) (first-batch .positions) w
+
+-- ---- three lists of positions into an encoder, and the end
+
+module _ (s : Setting) (e : Encoder) (xs ms ys : List ℕ) where
+  abbrev pub e1 : Encoder
+  e1 = takenAll s e xs
+
+  abbrev pub e2 : Encoder
+  e2 = takenAll s e1 ms
+
+  abbrev pub e3 : Encoder
+  e3 = takenAll s e2 ys
+
+  -- the bytes put out so far, from d on
+  abbrev pub d1 : List ℕ → List ℕ
+  d1 d = putAllBy (coder s) d e xs
+
+  abbrev pub d2 : List ℕ → List ℕ
+  d2 d = putAllBy (coder s) (d1 d) e1 ms
+
+  abbrev pub d3 : List ℕ → List ℕ
+  d3 d = putAllBy (coder s) (d2 d) e2 ys
+
+  pub length-d1 : (d : List ℕ) → length (d1 d) ≡ length d
+  length-d1 d = length-put-all (coder s) d e xs
+
+  pub length-d2 : (d : List ℕ) → length (d2 d) ≡ length d
+  length-d2 d = length-put-all (coder s) (d1 d) e1 ms ∙ length-d1 d
+
+  pub length-d3 : (d : List ℕ) → length (d3 d) ≡ length d
+  length-d3 d = length-put-all (coder s) (d2 d) e2 ys ∙ length-d2 d
+
+  pub record Three : Type 0 where
+    pub front : Along e xs
+    pub middle : Along e1 ms
+    pub rest : Along e2 ys
+    pub sound : Sound e3
+    pub all : e3 ≡ takenAll s e (xs ++ ms ++ ys)
+
+  both : e2 ≡ takenAll s e (xs ++ ms)
+  both = sym (all-append s e xs ms)
+
+  whole : e3 ≡ takenAll s e (xs ++ ms ++ ys)
+  whole = ap (λ (t : Encoder). takenAll s t ys) both ∙ sym (all-append s e (xs ++ ms) ys)
+
+  pub three : settingAllowed s ≡ true → Along e (xs ++ ms ++ ys) → Three
+  three p a =
+      let f = along-front e (xs ++ ms) ys a in
+      record {
+        front = along-front e xs ms f;
+        middle = along-added s e xs ms p (f .sound) (f .rising);
+        rest = rw both (along-added s e (xs ++ ms) ys p (a .sound) (a .rising));
+        sound = rw whole (sound-added s e (xs ++ ms ++ ys) p (a .sound) (a .rising));
+        all = whole;
+      }
+
+  pub record Rooms (n : ℕ) : Type 0 where
+    pub front : RoomAll (coder s) e xs n
+    pub middle : RoomAll (coder s) e1 ms n
+    pub rest : RoomAll (coder s) e2 ys n
+    pub first : e3 .first + length (endFirst s e3) ≤ n
+    pub second : e3 .second + length (endSecond s e3) ≤ n
+
+  module _ (n : ℕ) (a : Apart s e (xs ++ ms ++ ys) n) where
+    room-all : (e : Encoder) (us ws : List ℕ) → Apart s e (us ++ ws) n → RoomAll (coder s) e us n
+    room-all e us ws p = make (room-first-all s e us ws n p) (room-second-all s e us ws n p n (le-refl n))
+      where
+        make : e .first + length (addedFirst s e us) ≤ e .second → e .second + length (addedSecond s e us) ≤ n → RoomAll (coder s) e us n
+        make f g = record { first = unfold addedFirst in f; second = unfold addedSecond in g }
+
+    end-apart : Apart s e (xs ++ ms ++ ys ++ []) n
+    end-apart = rw (append-nil (xs ++ ms ++ ys)) a
+
+    last-apart : Apart s e3 [] n
+    last-apart = rw whole (apart-added s e (xs ++ ms ++ ys) [] n end-apart)
+
+    rest-room : RoomAll (coder s) e2 ys n
+    rest-room =
+        let t : Apart s e2 ys n = rw both (apart-added s e (xs ++ ms) ys n a) in
+        room-all e2 ys [] (rw (append-nil ys) t)
+
+    front-room : RoomAll (coder s) e (xs ++ ms) n
+    front-room = room-all e (xs ++ ms) ys a
+
+    pub three-rooms : Rooms n
+    three-rooms =
+        record {
+          front = room-front s e xs ms n front-room;
+          middle = room-rest s e xs ms n front-room;
+          rest = rest-room;
+          first = room-end-first s e3 n last-apart n (le-refl n);
+          second = room-end-second s e3 n last-apart n (le-refl n);
+        }
+
+    -- the stretches one after the other put out all, and the end adds what is left of the parts
+    put-three : (d : List ℕ) → d3 d ≡ putAllBy (coder s) d e (xs ++ ms ++ ys)
+    put-three d =
+        ap₂ (λ (l : List ℕ) (t : Encoder). putAllBy (coder s) l t ys) (sym (put-all-append s e xs ms n front-room d)) both
+        ∙ sym (put-all-append s e (xs ++ ms) ys n (room-all e (xs ++ ms ++ ys) [] end-apart) d)
+
+    put-end-all : (d : List ℕ) (t : Encoder) → t ≡ takenAll s e (xs ++ ms ++ ys)
+        → put (put (putAllBy (coder s) d e (xs ++ ms ++ ys)) (t .first) (endFirst s t)) (t .second) (endSecond s t)
+        ≡ put (put d (e .first) (firsts s e (xs ++ ms ++ ys))) (e .second) (seconds s e (xs ++ ms ++ ys))
+    unfolding put
+    put-end-all d t q =
+        let w : List ℕ = xs ++ ms ++ ys in
+        let u : Encoder = takenAll s e w in
+        let z = rw (append-nil w) at (put-turn-all s e w [] n end-apart d [] []) in
+        rw (q, ← put-all-is s e w d, ← firsts-end s u, ← seconds-end s u) (sym z)
+
+    pub three-put : (d : List ℕ)
+        → put (put (d3 d) (e3 .first) (endFirst s e3)) (e3 .second) (endSecond s e3)
+        ≡ put (put d (e .first) (firsts s e (xs ++ ms ++ ys))) (e .second) (seconds s e (xs ++ ms ++ ys))
+    three-put d = rw (put-three d) (put-end-all d e3 whole)
+
+-- ---- the stretches of an edit, from the beginning on
+
+module _ (b : List ℕ) (v : View) (o : ViewOf b v) (x : Edit) (i : EditOf b x) (s : Setting) (f g : ℕ) where
+  pub edit-along : settingAllowed s ≡ true → f ≤ 4294967296 → g ≤ 4294967296 → Three s (begun f g) (front b v x) (added x) (rest b v x)
+  unfolding begun
+  edit-along p h k =
+      three s (begun f g) (front b v x) (added x) (rest b v x) p
+      (record { sound = sound-begun f g h k; rising = rw (all-edited b v o x i) (i .rising) })
+
+  -- the encoder after them, and after the edited positions
+  pub edit-all : Three s (begun f g) (front b v x) (added x) (rest b v x) → e3 s (begun f g) (front b v x) (added x) (rest b v x) ≡ takenAll s (begun f g) (edited x (positionsOf b))
+  edit-all t = t .all ∙ ap (takenAll s (begun f g)) (all-edited b v o x i)
+
+  pub edit-sound : Three s (begun f g) (front b v x) (added x) (rest b v x) → Sound (takenAll s (begun f g) (edited x (positionsOf b)))
+  edit-sound t = subst Sound (edit-all t) (t .sound)
+
+  pub edit-rooms : (n : ℕ) → Apart s (begun f g) (edited x (positionsOf b)) n → Rooms s (begun f g) (front b v x) (added x) (rest b v x) n
+  edit-rooms n a = three-rooms s (begun f g) (front b v x) (added x) (rest b v x) n (rw (all-edited b v o x i) a)
+
+  pub edit-put : (n : ℕ) → Apart s (begun f g) (edited x (positionsOf b)) n → (d : List ℕ)
+      → put
+      (put (d3 s (begun f g) (front b v x) (added x) (rest b v x) d)
+      (e3 s (begun f g) (front b v x) (added x) (rest b v x) .first) (endFirst s (e3 s (begun f g) (front b v x) (added x) (rest b v x))))
+      (e3 s (begun f g) (front b v x) (added x) (rest b v x) .second) (endSecond s (e3 s (begun f g) (front b v x) (added x) (rest b v x)))
+      ≡ put (put d f (firsts s (begun f g) (edited x (positionsOf b)))) g (seconds s (begun f g) (edited x (positionsOf b)))
+  edit-put n a d =
+      three-put s (begun f g) (front b v x) (added x) (rest b v x) n (rw (all-edited b v o x i) a) d
+      ∙ ap (λ (l : List ℕ). put (put d (begun f g .first) (firsts s (begun f g) l)) (begun f g .second) (seconds s (begun f g) l)) (all-edited b v o x i)
+      ∙ at-begin
+    where
+      at-begin : put (put d (begun f g .first) (firsts s (begun f g) (edited x (positionsOf b)))) (begun f g .second) (seconds s (begun f g) (edited x (positionsOf b)))
+          ≡ put (put d f (firsts s (begun f g) (edited x (positionsOf b)))) g (seconds s (begun f g) (edited x (positionsOf b)))
+      at-begin = unfold begun in refl

@@ -1,0 +1,52 @@
+use Prim.Native.Nat.{_≤_}
+use mathlib.Core.Path.{_≡_, refl, sym, _∙_}
+use native.Mathlib.Omega.{arith}
+use Rattle.cursor.specs.Cursor.{steppedBy}
+use Rattle.rewrite.proofs.Stretch.{skip-turn, skip-end}
+use borrow.Author.Needs.{needs}
+use Rattle.rewrite.proofs.walk.skip.Statement.{statement}
+use Rattle.rewrite.proofs.walk.skip.Tie as tie
+use Rattle.rewrite.proofs.walk.skip.Reads as reads
+use Rattle.rewrite.proofs.walk.skip.Lts as lts
+use Rattle.cursor.proofs.next.Reads as next-reads
+
+abbrev Inv-loop : tie.InvT-loop
+Inv-loop file v c₀ n left₀ c left = steppedBy file v c left ≡ steppedBy file v c₀ n
+
+abbrev μ-loop : tie.MeasureT-loop
+μ-loop file v c₀ n left₀ c left = left
+
+-- src/walk.rt:44:5
+loop-holds : tie.Need-loop-holds Inv-loop μ-loop
+loop-holds c = refl
+
+-- src/walk.rt:45:9
+next-requires : tie.Need-next-requires Inv-loop μ-loop
+next-requires c κs = search needs
+
+-- src/walk.rt:46:9
+sub-left : tie.Need-sub-left Inv-loop μ-loop
+sub-left c = search needs
+
+-- src/walk.rt:44:5
+loop-less : tie.Need-loop-less Inv-loop μ-loop
+loop-less c = search needs
+
+-- src/walk.rt:44:5
+loop-again : tie.Need-loop-again Inv-loop μ-loop
+loop-again c =
+    let a = c .before .before .before .before .args in
+    let l = c .before .before .loop in
+    rw (c .next .ensures) (skip-turn (a .file .now) (a .v) (l .c) (l .left) (c .before .loop-test .taken)) ∙ l .inv
+
+-- src/walk.rt:40:1
+returns : tie.Need-returns Inv-loop μ-loop
+returns c =
+    let a = c .before .before .before .args in
+    let l = c .before .loop in
+    sym (skip-end (a .file .now) (a .v) (l .c) (l .left) (c .loop-test .left)) ∙ l .inv
+
+pub skip-spec : {M : Type 1} → statement M
+skip-spec =
+    tie.close
+    (tie.spec Inv-loop μ-loop loop-holds next-requires sub-left loop-less loop-again returns)

@@ -1,0 +1,42 @@
+use Prim.Native.Nat.{ℕ, _+_, _≤_}
+use mathlib.Core.Path.{_≡_, refl, sym, ap, _∙_}
+use native.Mathlib.Nat.{add-zero}
+use native.Mathlib.Omega.{arith}
+use Rattle.rewrite.proofs.Copied.{word-size, none-size, put-one, put-none}
+use borrow.Author.Needs.{needs}
+use Rattle.rewrite.proofs.words.put_word.Statement.{statement}
+use Rattle.rewrite.proofs.words.put_word.Tie as tie
+use Rattle.rewrite.proofs.words.put_word.Reads as reads
+use Rattle.rewrite.proofs.words.put_word.Lts as lts
+use Rattle.stores.proofs.put_u32.Reads as put-u32-reads
+
+-- src/words.rt:35:9
+put-u32-requires : tie.Need-put-u32-requires
+put-u32-requires c κs =
+    let a = c .before .before .before .args in
+    let n = word-size (a .word) in
+    let h = rw (c .before .if1 .taken) at (c .before .before .before .pre) in
+    omega arith
+
+-- src/words.rt:36:16
+add-result : tie.Need-add-result
+add-result c = search needs
+
+-- src/words.rt:36:9
+same-length : tie.Need-same-length
+same-length c = search needs
+
+-- src/words.rt:36:9
+returns : tie.Need-returns
+returns c =
+    let a = c .before .before .before .before .before .before .args in
+    rw (c .before .before .before .before .if1 .taken) (ap (λ (n : ℕ). a .at + n) (sym (word-size (a .word))), c .before .before .put-u32 .ensures ∙ sym (put-one (a .dst .now) (a .at) (a .word)))
+
+-- src/words.rt:30:1
+returns-2 : tie.Need-returns-2
+returns-2 c =
+    let a = c .before .before .args in
+    rw (c .if1 .left) (sym (add-zero (a .at)) ∙ ap (λ (n : ℕ). a .at + n) (sym none-size), sym (put-none (a .dst .now) (a .at)))
+
+pub put-word-spec : {M : Type 1} → statement M
+put-word-spec = tie.close (tie.spec put-u32-requires add-result same-length returns returns-2)

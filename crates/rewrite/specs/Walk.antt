@@ -1,0 +1,21 @@
+-- A walk along the ranks of a file into an encoder. Assumes nothing.
+use Prim.Native.Nat.{ℕ, _-_}
+use mathlib.Core.Bool.{true, false}
+use mathlib.Core.List.{List, [], _∷_}
+use Rattle.format.specs.declared.Setting.{Setting}
+use Rattle.format.specs.declared.View.{View}
+use Rattle.format.specs.Tools.{pick}
+use Rattle.cursor.specs.declared.Cursor.{Cursor}
+use Rattle.cursor.specs.Cursor.{walked, steppedBy}
+use Rattle.encode.specs.declared.state.Encoder.{Encoder}
+use Rattle.encode.specs.Encoder.{takenAll}
+use Rattle.rewrite.specs.declared.Edit.{Edit}
+use Rattle.rewrite.specs.declared.walk.Walk.{Walk}
+
+-- after n ranks from c into e
+unfoldable pub along : Setting → List ℕ → View → Cursor → Encoder → ℕ → Walk
+along s b v c e n = record { c = steppedBy b v c n; e = takenAll s e (walked b v c n) }
+
+-- the position that an edit puts, if any
+abbrev pub added : Edit → List ℕ
+added x = pick (x .put) (x .position ∷ []) []

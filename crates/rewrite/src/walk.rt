@@ -1,0 +1,103 @@
+// A stretch of ranks of a file into an encoder, in batches: to measure, and to write.
+use super::Edit;
+use cursor::Cursor;
+use cursor::batch::positions;
+use cursor::next;
+use encode::advance;
+use encode::batch::advance_all;
+use encode::batch::emit_all;
+use encode::emit;
+use encode::state::Encoder;
+use format::Setting;
+use format::View;
+ghost use mathlib.Core.Path.{_≡_};
+ghost use mathlib.Core.Bool.{true};
+ghost use Prim.Native.Nat.{_≤_, _<_};
+ghost use lib.ListN.{length};
+ghost use Rattle.format.specs.Kinds.{settingAllowed};
+ghost use Rattle.cursor.specs.Cursor.{walked, steppedBy};
+ghost use Rattle.encode.specs.Encoder.{coder, takenAll};
+ghost use Rattle.encode.specs.Batch.{Along, RoomAll, putAllBy};
+ghost use Rattle.rewrite.specs.Walk.{along, added};
+
+// The cursor and the encoder between two stretches.
+pub struct Walk {
+    pub c: Cursor,
+    pub e: Encoder,
+}
+
+// The ranks of a batch where so many are left.
+pub fn batch_of(left: u32) -> usize
+    ensures { λ r. ⌜ (r ≤ left) × (r ≤ 512) × (0 < left → 0 < r) ⌝ }
+{
+    if left < 512 {
+        return left as usize;
+    }
+    512
+}
+
+// The cursor n ranks on.
+pub fn skip(file: &[u8], v: View, mut c: Cursor, n: u32) -> Cursor
+    ensures { λ r. ⌜ r ≡ steppedBy (now (file .entry)) v c n ⌝ }
+{
+    let mut left = n;
+    while 0 < left {
+        c = next(file, v, c);
+        left -= 1;
+    }
+    c
+}
+
+// The next n ranks, with nothing put out.
+pub fn measure_ranks(file: &[u8], v: View, s: Setting, mut c: Cursor, mut e: Encoder, n: u32) -> Walk
+    requires { ⌜ (settingAllowed s ≡ true) × Along e (walked (now file) v c n) ⌝ }
+    ensures { λ r. ⌜ r ≡ along s (now (file .entry)) v c e n ⌝ }
+{
+    let mut batch: [u32; 512] = [0; 512];
+    let mut left = n;
+    while 0 < left {
+        let k = batch_of(left);
+        c = positions(file, v, c, &mut batch[..k]);
+        e = advance_all(s, e, &batch[..k]);
+        left -= k as u32;
+    }
+    Walk { c, e }
+}
+
+// The next n ranks, put out.
+pub fn put_ranks(dst: &mut [u8], file: &[u8], v: View, s: Setting, mut c: Cursor, mut e: Encoder, n: u32) -> Walk
+    requires { ⌜ (settingAllowed s ≡ true) × Along e (walked (now file) v c n) × RoomAll (coder s) e (walked (now file) v c n) (length (now dst)) ⌝ }
+    ensures { λ r. ⌜ (r ≡ along s (now (file .entry)) v c e n) × (now (dst .exit) ≡ putAllBy (coder s) (now (dst .entry)) e (walked (now (file .entry)) v c n)) ⌝ }
+{
+    let mut batch: [u32; 512] = [0; 512];
+    let mut left = n;
+    while 0 < left {
+        let k = batch_of(left);
+        c = positions(file, v, c, &mut batch[..k]);
+        e = emit_all(dst, s, e, &batch[..k]);
+        left -= k as u32;
+    }
+    Walk { c, e }
+}
+
+// The position that the edit puts, if any, with nothing put out.
+pub fn measure_added(s: Setting, e: Encoder, x: Edit) -> Encoder
+    requires { ⌜ (settingAllowed s ≡ true) × Along e (added x) ⌝ }
+    ensures { λ r. ⌜ r ≡ takenAll s e (added x) ⌝ }
+{
+    if x.put {
+        return advance(s, e, x.position);
+    }
+    e
+}
+
+// The position that the edit puts, if any, put out.
+pub fn put_added(dst: &mut [u8], s: Setting, e: Encoder, x: Edit) -> Encoder
+    requires { ⌜ (settingAllowed s ≡ true) × Along e (added x) × RoomAll (coder s) e (added x) (length (now dst)) ⌝ }
+    ensures { λ r. ⌜ (r ≡ takenAll s e (added x)) × (now (dst .exit) ≡ putAllBy (coder s) (now (dst .entry)) e (added x)) ⌝ }
+{
+    if x.put {
+        return emit(dst, s, e, x.position);
+    }
+    e
+}
