@@ -37,19 +37,25 @@ pub fn batch_of(left: u32) -> usize
 }
 
 // The cursor n ranks on.
-pub fn skip(file: &[u8], v: View, mut c: Cursor, n: u32) -> Cursor
+pub fn skip(file: &[u8], v: View, mut c: Cursor, mut n: u32) -> Cursor
     ensures { λ r. ⌜ r ≡ steppedBy (now (file .entry)) v c n ⌝ }
 {
-    let mut left = n;
-    while 0 < left {
+    while 0 < n {
         c = next(file, v, c);
-        left -= 1;
+        n -= 1;
     }
     c
 }
 
 // The next n ranks, with nothing put out.
-pub fn measure_ranks(file: &[u8], v: View, s: Setting, mut c: Cursor, mut e: Encoder, n: u32) -> Walk
+pub fn measure_ranks(
+    file: &[u8],
+    v: View,
+    s: Setting,
+    mut c: Cursor,
+    mut e: Encoder,
+    n: u32,
+) -> Walk
     requires { ⌜ (settingAllowed s ≡ true) × Along e (walked (now file) v c n) ⌝ }
     ensures { λ r. ⌜ r ≡ along s (now (file .entry)) v c e n ⌝ }
 {
@@ -65,7 +71,15 @@ pub fn measure_ranks(file: &[u8], v: View, s: Setting, mut c: Cursor, mut e: Enc
 }
 
 // The next n ranks, put out.
-pub fn put_ranks(dst: &mut [u8], file: &[u8], v: View, s: Setting, mut c: Cursor, mut e: Encoder, n: u32) -> Walk
+pub fn put_ranks(
+    dst: &mut [u8],
+    file: &[u8],
+    v: View,
+    s: Setting,
+    mut c: Cursor,
+    mut e: Encoder,
+    n: u32,
+) -> Walk
     requires { ⌜ (settingAllowed s ≡ true) × Along e (walked (now file) v c n) × RoomAll (coder s) e (walked (now file) v c n) (length (now dst)) ⌝ }
     ensures { λ r. ⌜ (r ≡ along s (now (file .entry)) v c e n) × (now (dst .exit) ≡ putAllBy (coder s) (now (dst .entry)) e (walked (now (file .entry)) v c n)) ⌝ }
 {

@@ -11,10 +11,10 @@ use Rattle.rewrite.proofs.walk.skip.Lts as lts
 use Rattle.cursor.proofs.next.Reads as next-reads
 
 abbrev Inv-loop : tie.InvT-loop
-Inv-loop file v c₀ n left₀ c left = steppedBy file v c left ≡ steppedBy file v c₀ n
+Inv-loop file v c₀ n₀ c n = steppedBy file v c n ≡ steppedBy file v c₀ n₀
 
 abbrev μ-loop : tie.MeasureT-loop
-μ-loop file v c₀ n left₀ c left = left
+μ-loop file v c₀ n₀ c n = n
 
 -- src/walk.rt:44:5
 loop-holds : tie.Need-loop-holds Inv-loop μ-loop
@@ -25,8 +25,8 @@ next-requires : tie.Need-next-requires Inv-loop μ-loop
 next-requires c κs = search needs
 
 -- src/walk.rt:46:9
-sub-left : tie.Need-sub-left Inv-loop μ-loop
-sub-left c = search needs
+sub-n : tie.Need-sub-n Inv-loop μ-loop
+sub-n c = search needs
 
 -- src/walk.rt:44:5
 loop-less : tie.Need-loop-less Inv-loop μ-loop
@@ -37,16 +37,16 @@ loop-again : tie.Need-loop-again Inv-loop μ-loop
 loop-again c =
     let a = c .before .before .before .before .args in
     let l = c .before .before .loop in
-    rw (c .next .ensures) (skip-turn (a .file .now) (a .v) (l .c) (l .left) (c .before .loop-test .taken)) ∙ l .inv
+    rw (c .next .ensures) (skip-turn (a .file .now) (a .v) (l .c) (l .n) (c .before .loop-test .taken)) ∙ l .inv
 
 -- src/walk.rt:40:1
 returns : tie.Need-returns Inv-loop μ-loop
 returns c =
     let a = c .before .before .before .args in
     let l = c .before .loop in
-    sym (skip-end (a .file .now) (a .v) (l .c) (l .left) (c .loop-test .left)) ∙ l .inv
+    sym (skip-end (a .file .now) (a .v) (l .c) (l .n) (c .loop-test .left)) ∙ l .inv
 
 pub skip-spec : {M : Type 1} → statement M
 skip-spec =
     tie.close
-    (tie.spec Inv-loop μ-loop loop-holds next-requires sub-left loop-less loop-again returns)
+    (tie.spec Inv-loop μ-loop loop-holds next-requires sub-n loop-less loop-again returns)
