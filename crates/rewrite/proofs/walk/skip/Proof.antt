@@ -37,14 +37,14 @@ loop-again : tie.Need-loop-again Inv-loop μ-loop
 loop-again c =
     let a = c .before .before .before .before .args in
     let l = c .before .before .loop in
-    rw (c .next .ensures) (skip-turn (a .file .now) (a .v) (l .c) (l .n) (c .before .loop-test .taken)) ∙ l .inv
+    rw (c .next .ensures) (skip-turn (a .file .now) (a .v) (l .c) (l .n) (let h = c .before .loop-test .taken in omega arith)) ∙ l .inv
 
 -- src/walk.rt:40:1
 returns : tie.Need-returns Inv-loop μ-loop
 returns c =
     let a = c .before .before .before .args in
     let l = c .before .loop in
-    sym (skip-end (a .file .now) (a .v) (l .c) (l .n) (c .loop-test .left)) ∙ l .inv
+    sym (skip-end (a .file .now) (a .v) (l .c) (l .n) (let h = c .loop-test .left in omega arith)) ∙ l .inv
 
 pub skip-spec : {M : Type 1} → statement M
 skip-spec =
