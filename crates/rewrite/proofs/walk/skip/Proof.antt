@@ -1,4 +1,3 @@
-use Prim.Native.Nat.{_≤_}
 use mathlib.Core.Path.{_≡_, refl, sym, _∙_}
 use native.Mathlib.Omega.{arith}
 use Rattle.cursor.specs.Cursor.{steppedBy}
@@ -6,9 +5,6 @@ use Rattle.rewrite.proofs.Stretch.{skip-turn, skip-end}
 use borrow.Author.Needs.{needs}
 use Rattle.rewrite.proofs.walk.skip.Statement.{statement}
 use Rattle.rewrite.proofs.walk.skip.Tie as tie
-use Rattle.rewrite.proofs.walk.skip.Reads as reads
-use Rattle.rewrite.proofs.walk.skip.Lts as lts
-use Rattle.cursor.proofs.next.Reads as next-reads
 
 abbrev Inv-loop : tie.InvT-loop
 Inv-loop file v c₀ n₀ c n = steppedBy file v c n ≡ steppedBy file v c₀ n₀
