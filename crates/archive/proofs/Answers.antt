@@ -4,7 +4,7 @@ use mathlib.Core.Path.{_≡_, refl, sym, ap, ap₂, _∙_}
 use mathlib.Core.Bool.{Bool, true, false, not}
 use mathlib.Core.List.{List, [], _∷_, _++_}
 use native.Mathlib.Omega.{arith}
-use lib.ListN.{length, getD, drop, replicate}
+use lib.ListN.{length, getD, drop}
 use lib.Dec.{eqb, ltb}
 use borrow.Author.Tests.{lt-ltb, le-ltb}
 use Rattle.format.specs.declared.View.{View}
@@ -26,9 +26,7 @@ use Rattle.header.specs.Body.{partsRight, wordsRight}
 use Rattle.header.specs.View.{wordsPlace}
 use Rattle.header.specs.Search.{ViewOf, CellSearched, RankSearched, PositionSearched}
 use Rattle.header.proofs.Frame.{Framed, framed}
-use Rattle.header.proofs.Body.{body-split, below-elements, accepted-parts}
-use Rattle.scatter.specs.Scatter.{scattered}
-use Rattle.scatter.proofs.Scattered.{scatter-placed}
+use Rattle.header.proofs.Body.{body-split, below-elements}
 use Rattle.archive.specs.Known.{HeaderKnown}
 
 -- ---- check
@@ -136,24 +134,11 @@ module _ (b : List ℕ) (v : View) (o : ViewOf b v) (before : List ℕ) where
       let k : length before < length (wordsOf b) = omega (arith, cells-seen) in
       record { number = rw (o .accepted, lt-ltb (length before) (length (wordsOf b)) k); left = refl }
 
-  words-there : scattered (replicate (v .cells) (v .empty) ++ drop (v .cells) before) (positionsOf b) (keptOf b) ≡ wordsOf b ++ drop (length (wordsOf b)) before
-  unfolding viewOf
-  words-there =
-      let c : v .cells ≡ cells (dimensionsOf b) = ap (λ (x : View). x .cells) (o .view) ∙ framed b (accepted b (o .accepted) .header) .cells in
-      let m : v .empty ≡ emptyOf b = ap (λ (x : View). x .empty) (o .view) in
-      rw (length-words b, c, m)
-      (scatter-placed (emptyOf b) (cells (dimensionsOf b)) (drop (cells (dimensionsOf b)) before) (positionsOf b) (keptOf b) (accepted-parts b (o .accepted) .rising)
-      ∙ ap (λ (ws : List ℕ). ws ++ drop (cells (dimensionsOf b)) before) words-again)
-    where
-      words-again : placed (emptyOf b) (cells (dimensionsOf b)) (positionsOf b) (keptOf b) ≡ wordsOf b
-      words-again = unfold wordsOf in refl
-
-  pub expand-fills : (filled after : List ℕ) → v .cells ≤ length before → filled ≡ replicate (v .cells) (v .empty) ++ drop (v .cells) before
-      → after ≡ scattered filled (positionsOf b) (keptOf b) → Expanded b before 0 after
+  pub expand-fills : (after : List ℕ) → v .cells ≤ length before → after ≡ wordsOf b ++ drop (v .cells) before → Expanded b before 0 after
   unfolding expandNumber
-  expand-fills filled after h e f =
+  expand-fills after h e =
       let k : length (wordsOf b) ≤ length before = omega (arith, cells-seen) in
       record {
         number = rw (o .accepted, le-ltb (length before) (length (wordsOf b)) k);
-        left = f ∙ ap (λ (d : List ℕ). scattered d (positionsOf b) (keptOf b)) e ∙ words-there;
+        left = e ∙ ap (λ (n : ℕ). wordsOf b ++ drop n before) cells-seen;
       }

@@ -1,8 +1,7 @@
 // The words of a file, all cells in row order.
 use super::check::check;
 use header::view::read_view;
-use scatter::fill;
-use scatter::scatter;
+use scatter::expanded;
 ghost use Rattle.format.specs.Calls.{Expanded};
 
 // 0 with the words in the destination's first elements; 1 to 6, then 10.
@@ -14,11 +13,9 @@ pub fn expand(file: &[u8], dst: &mut [u32]) -> u32
         return number;
     }
     let v = read_view(file);
-    let cells = v.cells as usize;
-    if dst.len() < cells {
+    if dst.len() < v.cells as usize {
         return 10;
     }
-    fill(dst, cells, v.empty);
-    scatter(file, v, dst);
+    expanded(file, v, dst);
     0
 }

@@ -6,7 +6,7 @@ use native.Mathlib.Nat.{sub-zero, sub-eq-zero-of-le, zero-add}
 use native.Mathlib.Numerals.{add-one}
 use native.Mathlib.Omega.{arith}
 use lib.ListN.{length, take, drop, set}
-use lib.Seq.{take-all, take-suc-set, append-snoc, take-append-seam, drop-append-seam, drop-drop}
+use lib.Seq.{length-take-le, length-front, take-all, take-suc-set, append-snoc, take-append-seam, drop-append-seam, drop-drop}
 use Rattle.format.specs.declared.View.{View}
 use Rattle.format.specs.Accepted.{wordsCount, positionsOf}
 use Rattle.cursor.specs.declared.Cursor.{Cursor}
@@ -93,3 +93,26 @@ module _ (b : List ℕ) (v : View) (c : Cursor) (r n : ℕ) (fits : r + n ≤ wo
         positions = sym (rw s (rw k at (take-append-seam (walked b v c n) left)));
         rest = sym (rw k at (drop-append-seam (walked b v c n) left)) ∙ ap (drop n) (sym s) ∙ drop-drop n r (positionsOf b);
       }
+
+-- the same in a buffer, whose first n elements have become out, with the cursor d
+pub record Taken (b : List ℕ) (v : View) (d : Cursor) (r n : ℕ) (buffer out : List ℕ) : Type 0 where
+  pub front : take n (out ++ drop n buffer) ≡ take n (drop r (positionsOf b))
+  pub size : length (out ++ drop n buffer) ≡ length buffer
+  pub count : length (take n (out ++ drop n buffer)) ≡ n
+  pub rest : walked b v d (wordsCount b - (r + n)) ≡ drop (r + n) (positionsOf b)
+
+pub taken : (b : List ℕ) (v : View) (c d : Cursor) (r n : ℕ) (buffer out : List ℕ) → n ≤ length buffer → r + n ≤ wordsCount b
+    → walked b v c (wordsCount b - r) ≡ drop r (positionsOf b) → d ≡ steppedBy b v c (length (take n buffer)) → out ≡ walked b v c (length (take n buffer))
+    → Taken b v d r n buffer out
+taken b v c d r n buffer out small fits e s w =
+    let k = length-take-le n buffer small in
+    let t = batched b v c r n fits e in
+    let o : out ≡ walked b v c n = rw k at w in
+    let l : length out ≡ n = ap length o ∙ length-walked b v c n in
+    let q : take n (out ++ drop n buffer) ≡ out = rw l at (take-append-seam out (drop n buffer)) in
+    record {
+      front = q ∙ o ∙ t .positions;
+      size = length-front buffer out n (l ∙ sym k);
+      count = ap length q ∙ l;
+      rest = rw (rw k at s) (t .rest);
+    }

@@ -1,2 +1,3 @@
 pub mod Scattered
+pub mod Blank
 pub mod Turn

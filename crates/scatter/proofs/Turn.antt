@@ -1,20 +1,20 @@
 -- The turns of the loops that scatter, and their end. Assumes nothing.
 use Prim.Native.Nat.{ℕ, zero, suc, _+_, _-_, _*_, _≤_, _<_}
-use mathlib.Core.Path.{_≡_, refl, sym, ap, _∙_}
+use mathlib.Core.Path.{_≡_, refl, sym, ap, _∙_, subst}
 use mathlib.Core.List.{List, [], _∷_, _++_}
+use native.Mathlib.Nat.{sub-zero}
 use native.Mathlib.Numerals.{add-one}
 use native.Mathlib.Omega.{arith}
 use lib.ListN.{length, getD, take, drop, set, drop-of-length-le, length-drop, take-append-drop}
-use lib.Seq.{drop-cons, drop-drop, length-take-le}
+use lib.Seq.{drop-cons, drop-drop, length-take-le, getD-take}
 use Rattle.format.specs.declared.View.{View}
 use Rattle.format.specs.Tools.{Below, first, others}
 use Rattle.format.specs.Bytes.{field}
 use Rattle.format.specs.Picture.{cells}
-use Rattle.format.specs.Accepted.{dimensionsOf, wordsCount, wordsAt, positionsOf, keptOf}
+use Rattle.format.specs.Accepted.{dimensionsOf, emptyOf, wordsCount, wordsAt, positionsOf, keptOf, wordsOf}
 use Rattle.format.specs.Opened.{viewOf}
 use Rattle.laws.proofs.Numbers.{numbers-at}
-use Rattle.laws.proofs.Bytes.{below-drop}
-use Rattle.laws.proofs.Bounds.{below-rising, below-widen}
+use Rattle.laws.proofs.Stored.{Rising}
 use Rattle.laws.proofs.Check.{length-numbersOf}
 use Rattle.laws.proofs.Acceptance.{accepted}
 use Rattle.header.specs.View.{wordsPlace}
@@ -22,6 +22,8 @@ use Rattle.header.specs.Search.{ViewOf}
 use Rattle.header.proofs.Frame.{Framed, framed}
 use Rattle.header.proofs.Body.{accepted-parts}
 use Rattle.scatter.specs.Scatter.{scattered}
+use Rattle.scatter.proofs.Scattered.{scatter-placed}
+use Rattle.scatter.proofs.Blank.{blank, blank-scattered, Cut, cut}
 
 scatter-turn : (d ls vs : List ℕ) (i j : ℕ) → i < length ls → j < length vs
     → scattered d (drop i ls) (drop j vs) ≡ scattered (set d (getD ls i 0) (getD vs j 0)) (drop (i + 1) ls) (drop (j + 1) vs)
@@ -43,13 +45,7 @@ scatter-add d (x ∷ xs) ys vs = scatter-add (set d x (first vs)) xs ys (others 
     others-drop (suc n) [] = refl
     others-drop n (x ∷ l) = refl
 
--- ---- positions below a bound
-
-below-take : (B n : ℕ) (xs : List ℕ) → Below B xs → Below B (take n xs)
-below-take B zero xs h = tt
-below-take B (suc n) [] h = tt
-below-take B (suc n) (x ∷ xs) h = (h .0, below-take B n xs (h .1))
-
+-- positions below a bound
 pub below-at : (B : ℕ) (xs : List ℕ) (i : ℕ) → i < length xs → Below B xs → getD xs i 0 < B
 below-at B [] i k h = absurd (omega arith)
 below-at B (x ∷ xs) zero k h = h .0
@@ -96,15 +92,7 @@ module _ (b : List ℕ) (v : View) (o : ViewOf b v) where
       rw (e, p, q, word-seen (r + i) n) (sym (scatter-turn d at (keptOf b) i (r + i) k (omega (arith, kept-long))))
 
   -- a batch of n from rank r on
-  pub below-batch : (m r n : ℕ) → v .cells ≤ m → Below m (take n (drop r (positionsOf b)))
-  below-batch m r n h =
-      let k = frame .cells in
-      let z = cells-seen in
-      below-widen (cells (dimensionsOf b)) m (take n (drop r (positionsOf b))) (omega arith)
-      (below-take (cells (dimensionsOf b)) n (drop r (positionsOf b))
-      (below-drop (cells (dimensionsOf b)) r (positionsOf b) (below-rising 0 (cells (dimensionsOf b)) (positionsOf b) (accepted-parts b (o .accepted) .rising))))
-
-  pub batch-turned : (d : List ℕ) (r n : ℕ) → r + n ≤ wordsCount b
+  batch-turned : (d : List ℕ) (r n : ℕ) → r + n ≤ wordsCount b
       → scattered (scattered d (take n (drop r (positionsOf b))) (drop r (keptOf b))) (drop (r + n) (positionsOf b)) (drop (r + n) (keptOf b))
       ≡ scattered d (drop r (positionsOf b)) (drop r (keptOf b))
   batch-turned d r n h =
@@ -112,3 +100,48 @@ module _ (b : List ℕ) (v : View) (o : ViewOf b v) where
       let k : length (take n ls) ≡ n = length-take-le n ls (rw (length-drop r (positionsOf b)) (omega (arith, as-long))) in
       let s = scatter-add d (take n ls) (drop n ls) (drop r (keptOf b)) in
       rw (← drop-drop n r (positionsOf b), ← drop-drop n r (keptOf b)) (sym (rw (take-append-drop n ls, k) at s))
+
+  -- at the end
+  pub past : (r : ℕ) → v .words ≤ r → length (positionsOf b) ≤ r
+  past r h = omega (arith, words-seen, as-long)
+
+  -- the same where positions rise from f on: the last of the batch, in a buffer that begins with it
+  pub batch-cut : (f r n : ℕ) (buffer : List ℕ) → 0 < n → r + n ≤ wordsCount b → take n buffer ≡ take n (drop r (positionsOf b))
+      → Rising f (v .cells) (drop r (positionsOf b))
+      → Cut f (v .cells) (getD buffer (n - 1) 0) (take n (drop r (positionsOf b))) (drop (r + n) (positionsOf b))
+  batch-cut f r n buffer some h front rises =
+      let ls = drop r (positionsOf b) in
+      let k : length (take n ls) ≡ n = length-take-le n ls (rw (length-drop r (positionsOf b)) (omega (arith, as-long))) in
+      let s : ls ≡ take n ls ++ drop (r + n) (positionsOf b) = sym (take-append-drop n ls) ∙ rw (drop-drop n r (positionsOf b)) in
+      let g : getD (take n ls) (n - 1) 0 ≡ getD buffer (n - 1) 0
+      = ap (λ (l : List ℕ). getD l (n - 1) 0) (sym front) ∙ getD-take n buffer (n - 1) 0 (omega arith) in
+      subst (λ (x : ℕ). Cut f (v .cells) x (take n ls) (drop (r + n) (positionsOf b))) g
+      (cut f (v .cells) (n - 1) (take n ls) (drop (r + n) (positionsOf b)) (omega arith) (subst (Rising f (v .cells)) s rises))
+
+  -- a destination d that is filled up to f becomes e, filled up to m, and then g by the words of the batch
+  pub expand-turned : (d e g : List ℕ) (f m r n : ℕ) → r + n ≤ wordsCount b → v .cells ≤ length e → m ≤ v .cells
+      → Below m (take n (drop r (positionsOf b))) → blank (v .empty) (v .cells) m e ≡ blank (v .empty) (v .cells) f d
+      → g ≡ scattered e (take n (drop r (positionsOf b))) (drop r (keptOf b))
+      → scattered (blank (v .empty) (v .cells) m g) (drop (r + n) (positionsOf b)) (drop (r + n) (keptOf b))
+      ≡ scattered (blank (v .empty) (v .cells) f d) (drop r (positionsOf b)) (drop r (keptOf b))
+  expand-turned d e g f m r n h k low below same q =
+      let xs = take n (drop r (positionsOf b)) in
+      let vs = drop r (keptOf b) in
+      ap (λ (l : List ℕ). scattered l (drop (r + n) (positionsOf b)) (drop (r + n) (keptOf b)))
+      (ap (blank (v .empty) (v .cells) m) q ∙ blank-scattered (v .empty) (v .cells) m e xs vs below low k
+      ∙ ap (λ (l : List ℕ). scattered l xs vs) same)
+      ∙ batch-turned (blank (v .empty) (v .cells) f d) r n h
+
+  pub few : v .words ≤ 16777216
+  few = omega (arith, words-seen, frame .words-most, frame .cells-most)
+
+  pub begin-rising : Rising 0 (v .cells) (positionsOf b)
+  begin-rising = rw (cells-seen, frame .cells) (accepted-parts b (o .accepted) .rising)
+
+  -- all scattered over empty cells
+  pub all-scattered : (d : List ℕ) → scattered (blank (v .empty) (v .cells) 0 d) (positionsOf b) (keptOf b) ≡ wordsOf b ++ drop (v .cells) d
+  unfolding blank wordsOf viewOf
+  all-scattered d =
+      let c : v .cells ≡ cells (dimensionsOf b) = cells-seen ∙ frame .cells in
+      let m : v .empty ≡ emptyOf b = ap (λ (x : View). x .empty) (o .view) in
+      rw (m, c, sub-zero) (scatter-placed (emptyOf b) (cells (dimensionsOf b)) (drop (cells (dimensionsOf b)) d) (positionsOf b) (keptOf b) (accepted-parts b (o .accepted) .rising))

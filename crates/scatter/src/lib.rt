@@ -1,4 +1,4 @@
-// A file's words into a destination: all empty at first, then each stored word at its position.
+// A file's words into a destination, batch by batch: the cells up to a batch's last position become empty, then each stored word comes to its position.
 use cursor::batch::positions;
 use cursor::start;
 use format::View;
@@ -6,10 +6,10 @@ use header::places::words_at;
 use wire::get_u32;
 ghost use mathlib.Core.Path.{_≡_};
 ghost use mathlib.Core.List.{_++_};
-ghost use Prim.Native.Nat.{_+_, _*_, _≤_, _<_, _^_};
-ghost use lib.ListN.{length, drop, replicate};
+ghost use Prim.Native.Nat.{_+_, _-_, _*_, _≤_, _<_, _^_};
+ghost use lib.ListN.{length, take, drop, replicate};
 ghost use Rattle.format.specs.Tools.{Below};
-ghost use Rattle.format.specs.Accepted.{positionsOf, keptOf};
+ghost use Rattle.format.specs.Accepted.{keptOf, wordsOf};
 ghost use Rattle.header.specs.Search.{ViewOf};
 ghost use Rattle.scatter.specs.Scatter.{scattered};
 
@@ -23,6 +23,14 @@ pub fn fill(dst: &mut [u32], n: usize, x: u32)
         dst[i] = x;
         i += 1;
     }
+}
+
+// The elements of a range become x.
+fn fill_range(dst: &mut [u32], from: usize, to: usize, x: u32)
+    requires { ⌜ (from ≤ to) × (to ≤ length (now dst)) ⌝ }
+    ensures { λ _. ⌜ now (dst .exit) ≡ take from (now (dst .entry)) ++ (replicate (to - from) x ++ drop to (now (dst .entry))) ⌝ }
+{
+    fill(&mut dst[from..to], to - from, x);
 }
 
 // The ranks of a batch where so many are left.
@@ -49,18 +57,23 @@ fn scatter_batch(file: &[u8], v: View, rank: u32, at: &[u32], dst: &mut [u32])
     }
 }
 
-// Each stored word of an accepted file at its position.
-pub fn scatter(file: &[u8], v: View, dst: &mut [u32])
+// The words of an accepted file, all cells in row order. A batch's cells are filled just before its words come, while they are near.
+pub fn expanded(file: &[u8], v: View, dst: &mut [u32])
     requires { ⌜ ViewOf (now file) v × (v .cells ≤ length (now dst)) ⌝ }
-    ensures { λ _. ⌜ now (dst .exit) ≡ scattered (now (dst .entry)) (positionsOf (now (file .entry))) (keptOf (now (file .entry))) ⌝ }
+    ensures { λ _. ⌜ now (dst .exit) ≡ wordsOf (now (file .entry)) ++ drop (v .cells) (now (dst .entry)) ⌝ }
 {
     let mut c = start(file, v);
     let mut batch: [u32; 512] = [0; 512];
     let mut rank: u32 = 0;
+    let mut filled: usize = 0;
     while rank < v.words {
         let n = batch_of(v.words - rank);
         c = positions(file, v, c, &mut batch[..n]);
+        let end = batch[n - 1] as usize + 1;
+        fill_range(dst, filled, end, v.empty);
         scatter_batch(file, v, rank, &batch[..n], dst);
+        filled = end;
         rank += n as u32;
     }
+    fill_range(dst, filled, v.cells as usize, v.empty);
 }
