@@ -1,4 +1,4 @@
--- The encoder's laws: of any kind; what each kind's encoder puts out; all kinds together; what keeps numbers from wrapping; and, for the code, by tests.
+-- The encoder's laws: of any kind; what each kind's encoder puts out; all kinds together; what keeps numbers from wrapping; for the code, by tests; and for loops and batches.
 pub mod Taking
 pub mod Positions
 pub mod Jumps

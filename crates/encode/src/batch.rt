@@ -182,9 +182,9 @@ pub fn pages_put_all(dst: &mut [u8], step: u32, e: Encoder, ps: &[u32]) -> Encod
 // The bytes that the positions add; the encoder after them.
 pub fn emit_all(dst: &mut [u8], s: Setting, e: Encoder, ps: &[u32]) -> Encoder
     requires { ⌜ (settingAllowed s ≡ true) × Sound e × Rising (passed e) 16777216 (now ps)
-               × (e .first + length (addedFirst s e (now ps)) ≤ e .second) × (e .second + length (addedSecond s e (now ps)) ≤ length (now dst)) ⌝ }
+        × (e .first + length (addedFirst s e (now ps)) ≤ e .second) × (e .second + length (addedSecond s e (now ps)) ≤ length (now dst)) ⌝ }
     ensures { λ r. ⌜ (r ≡ takenAll s e (now (ps .entry)))
-                   × (now (dst .exit) ≡ put (put (now (dst .entry)) (e .first) (addedFirst s e (now (ps .entry)))) (e .second) (addedSecond s e (now (ps .entry)))) ⌝ }
+        × (now (dst .exit) ≡ put (put (now (dst .entry)) (e .first) (addedFirst s e (now (ps .entry)))) (e .second) (addedSecond s e (now (ps .entry)))) ⌝ }
 {
     let kind = s.kind;
     match kind {

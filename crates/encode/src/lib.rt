@@ -1,4 +1,4 @@
-// Positions into the two parts of a file, one at a time: to measure, and to write.
+// Positions into the two parts of a file, one or many at a time: to measure, and to write.
 pub mod batch;
 pub mod kinds;
 pub mod measure;

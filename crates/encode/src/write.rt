@@ -4,9 +4,9 @@ use super::kinds::offset;
 use super::kinds::run_ends;
 use super::measure::based_taken;
 use super::measure::jumps_taken;
+use super::measure::move_on;
 use super::measure::pages_taken;
 use super::measure::positions_taken;
-use super::measure::runs_taken;
 use super::state::Encoder;
 use stores::put_u8;
 use stores::put_u16;
@@ -44,10 +44,11 @@ pub fn runs_put(dst: &mut [u8], e: Encoder, p: u32) -> Encoder
     requires { ⌜ Next e p × Room runsCoder e p (length (now dst)) ⌝ }
     ensures { λ r. ⌜ (r ≡ takenBy runsCoder e p) × (now (dst .exit) ≡ putBy runsCoder (now (dst .entry)) e p) ⌝ }
 {
-    if run_ends(e, p) {
-        put_pair(dst, e.first, e.last, e.last + 1 - e.rank);
+    if !run_ends(e, p) {
+        return move_on(e, p, e.first, e.second);
     }
-    runs_taken(e, p)
+    put_pair(dst, e.first, e.last, e.last + 1 - e.rank);
+    move_on(e, p, e.first + 8, e.second)
 }
 
 pub fn positions_put(dst: &mut [u8], e: Encoder, p: u32) -> Encoder
