@@ -1,8 +1,8 @@
 -- How many of the ranks that are left stand below a position. Assumes nothing.
 use Prim.Native.Nat.{ℕ, zero, suc, _+_, _-_, _≤_, _<_}
-use mathlib.Core.Path.{_≡_, refl, sym, ap, _∙_}
+use mathlib.Core.Path.{_≡_, refl, ap, _∙_}
 use mathlib.Core.Bool.{Bool, true, false}
-use mathlib.Core.List.{List, [], _∷_, _++_}
+use mathlib.Core.List.{List, [], _∷_}
 use native.Mathlib.Nat.{le-refl}
 use native.Mathlib.Numerals.{add-one}
 use native.Mathlib.Omega.{arith}
@@ -12,7 +12,7 @@ use lib.Dec.{ltb}
 use mir.Val.{boolByte}
 use Rattle.format.specs.Tools.{pick}
 use Rattle.format.specs.declared.View.{View}
-use Rattle.format.specs.Accepted.{wordsCount, positionsOf}
+use Rattle.format.specs.Accepted.{positionsOf}
 use Rattle.laws.proofs.Acceptance.{accepted}
 use Rattle.header.specs.Search.{ViewOf}
 use Rattle.header.proofs.Frame.{framed}

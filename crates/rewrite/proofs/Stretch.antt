@@ -10,7 +10,6 @@ use lib.Seq.{length-take-le, length-front, take-append-seam}
 use Rattle.format.specs.declared.Setting.{Setting}
 use Rattle.format.specs.declared.View.{View}
 use Rattle.format.specs.Kinds.{settingAllowed}
-use Rattle.laws.proofs.Stored.{Rising}
 use Rattle.stores.specs.Put.{put}
 use Rattle.stores.proofs.Laws.{length-put, put3-step}
 use Rattle.cursor.specs.declared.Cursor.{Cursor}
@@ -18,7 +17,7 @@ use Rattle.cursor.specs.Cursor.{nextOf, walked, steppedBy}
 use Rattle.cursor.proofs.Batches.{walked-add, length-walked}
 use Rattle.encode.specs.declared.state.Encoder.{Encoder}
 use Rattle.encode.specs.Encoder.{Coder, coder, takenBy, takenAllBy, firstOf, secondOf, taken, takenAll}
-use Rattle.encode.specs.Ready.{passed, Sound}
+use Rattle.encode.specs.Ready.{passed}
 use Rattle.encode.specs.Batch.{addedFirstBy, addedSecondBy, addedFirst, addedSecond, Along, RoomAll, putAllBy}
 use Rattle.encode.proofs.Along.{put-all-end}
 use Rattle.encode.proofs.Batches.{rising-front, all-append, first-added, second-added, along-added}

@@ -2,17 +2,16 @@
 use Prim.Native.Nat.{ℕ, _+_, _-_, _≤_}
 use mathlib.Core.Path.{_≡_, refl, sym, ap, ap₂, _∙_, subst}
 use mathlib.Core.Bool.{true}
-use mathlib.Core.List.{List, [], _∷_, _++_, append-nil}
+use mathlib.Core.List.{List, [], _++_, append-nil}
 use native.Mathlib.Nat.{zero-add, le-refl}
 use native.Mathlib.Omega.{arith}
-use lib.ListN.{length, take, drop}
+use lib.ListN.{length, drop}
 use Rattle.format.specs.declared.Setting.{Setting}
 use Rattle.format.specs.declared.View.{View}
 use Rattle.format.specs.Kinds.{settingAllowed}
 use Rattle.format.specs.Accepted.{wordsCount, positionsOf}
 use Rattle.format.specs.Opened.{viewOf}
 use Rattle.stores.specs.Put.{put}
-use Rattle.stores.proofs.Laws.{put-nil}
 use Rattle.header.specs.Search.{ViewOf}
 use Rattle.cursor.specs.declared.Cursor.{Cursor}
 use Rattle.cursor.specs.Cursor.{startOf, walked, steppedBy}
@@ -20,7 +19,7 @@ use Rattle.cursor.proofs.Walks.{walked-start}
 use Rattle.cursor.proofs.Batches.{Batched, batched}
 use Rattle.encode.specs.declared.state.Encoder.{Encoder}
 use Rattle.encode.specs.Encoder.{coder, begun, endFirst, endSecond, takenAll, firsts, seconds}
-use Rattle.encode.specs.Ready.{passed, Sound, Apart}
+use Rattle.encode.specs.Ready.{Sound, Apart}
 use Rattle.encode.specs.Batch.{addedFirst, addedSecond, Along, RoomAll, putAllBy}
 use Rattle.encode.proofs.Sounds.{sound-begun}
 use Rattle.encode.proofs.Turn.{firsts-end, seconds-end, room-end-first, room-end-second}

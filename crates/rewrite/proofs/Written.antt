@@ -1,16 +1,13 @@
 -- The stored positions and words of a picture with one word written: a rank more, a rank less, or another word at a rank. Assumes nothing.
-use Prim.Native.Nat.{ℕ, zero, suc, _+_, _≤_, _<_}
+use Prim.Native.Nat.{ℕ, suc, _+_, _≤_, _<_}
 use mathlib.Core.Path.{_≡_, refl, sym, ap, _∙_}
-use mathlib.Core.Bool.{true, false}
 use mathlib.Core.List.{List, [], _∷_, _++_}
-use native.Mathlib.Nat.{le-refl, add-zero, zero-add, add-suc, suc-add}
-use native.Mathlib.Numerals.{add-one}
+use native.Mathlib.Nat.{le-refl, add-zero, zero-add}
 use native.Mathlib.Omega.{arith}
-use lib.ListN.{length, getD, set, take, drop, length-append, length-take}
+use lib.ListN.{length, getD, set, take, drop, length-append}
 use lib.Seq.{length-take-le, split-at, set-split, take-at, drop-at, getD-at, set-at, drop-append-add}
-use lib.Dec.{eqb, ltb}
+use lib.Dec.{eqb}
 use borrow.Author.Tests.{eq-eqb, ne-eqb, lt-ltb, le-ltb}
-use Rattle.format.specs.Tools.{pick, unless}
 use Rattle.format.specs.Stored.{storedFrom, stored, kept, rankAt}
 use Rattle.laws.proofs.Tools.{cases}
 use Rattle.laws.proofs.Stored.{Rising, rising-stored, length-stored}

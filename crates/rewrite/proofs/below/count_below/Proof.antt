@@ -1,5 +1,5 @@
-use Prim.Native.Nat.{ℕ, _+_, _-_, _≤_, _<_}
-use mathlib.Core.Path.{_≡_, refl, sym, ap, _∙_}
+use Prim.Native.Nat.{_+_, _-_, _≤_}
+use mathlib.Core.Path.{_≡_}
 use native.Mathlib.Nat.{zero-add}
 use native.Mathlib.Omega.{arith}
 use lib.ListN.{length, getD, drop}
@@ -9,8 +9,6 @@ use Rattle.rewrite.proofs.Counting.{as-number, pick-most, count-turn, c
 use borrow.Author.Needs.{needs}
 use Rattle.rewrite.proofs.below.count_below.Statement.{statement}
 use Rattle.rewrite.proofs.below.count_below.Tie as tie
-use Rattle.rewrite.proofs.below.count_below.Reads as reads
-use Rattle.rewrite.proofs.below.count_below.Lts as lts
 
 abbrev Inv-loop : tie.InvT-loop
 Inv-loop ps p n₀ i₀ n i = (i ≤ length ps) × (n ≤ i) × (n + countBelow p (drop i ps) ≡ countBelow p ps)

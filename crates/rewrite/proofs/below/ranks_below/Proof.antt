@@ -1,8 +1,8 @@
-use Prim.Native.Nat.{ℕ, _+_, _-_, _≤_, _<_}
+use Prim.Native.Nat.{_+_, _-_}
 use mathlib.Core.Path.{_≡_, refl, sym, ap, _∙_}
 use native.Mathlib.Nat.{zero-add}
 use native.Mathlib.Omega.{arith}
-use lib.ListN.{length, take, drop}
+use lib.ListN.{length}
 use lib.Seq.{length-take-le}
 use Rattle.format.specs.Accepted.{positionsOf}
 use Rattle.cursor.specs.Cursor.{walked}
@@ -12,12 +12,6 @@ use Rattle.rewrite.proofs.Counting.{count-batch, count-last, count-star
 use borrow.Author.Needs.{needs}
 use Rattle.rewrite.proofs.below.ranks_below.Statement.{statement}
 use Rattle.rewrite.proofs.below.ranks_below.Tie as tie
-use Rattle.rewrite.proofs.below.ranks_below.Reads as reads
-use Rattle.rewrite.proofs.below.ranks_below.Lts as lts
-use Rattle.cursor.proofs.batch.positions.Reads as positions-reads
-use Rattle.cursor.proofs.start.Reads as start-reads
-use Rattle.rewrite.proofs.below.count_below.Reads as count-below-reads
-use Rattle.rewrite.proofs.walk.batch_of.Reads as batch-of-reads
 
 abbrev Inv-loop : tie.InvT-loop
 Inv-loop file v p c₀ batch₀ n₀ left₀ c batch n left = (length batch ≡ 512) × (n + countBelow p (walked file v c left) ≡ countBelow p (positionsOf file))

@@ -1,27 +1,15 @@
-use Prim.Native.Nat.{ℕ, _+_, _-_, _≤_}
-use mathlib.Core.Path.{_≡_, refl, sym, ap, _∙_}
+use Prim.Native.Nat.{_-_}
+use mathlib.Core.Path.{_≡_, ap, _∙_}
 use native.Mathlib.Omega.{arith}
-use lib.ListN.{length}
 use Rattle.format.specs.Accepted.{positionsOf}
-use Rattle.cursor.specs.declared.Cursor.{Cursor}
 use Rattle.cursor.specs.Cursor.{startOf, walked, steppedBy}
-use Rattle.encode.specs.declared.state.Encoder.{Encoder}
 use Rattle.encode.specs.Encoder.{begun, ended, takenAll}
 use Rattle.rewrite.specs.declared.walk.Walk.{Walk}
 use Rattle.rewrite.specs.Edit.{edited}
-use Rattle.rewrite.specs.Walk.{added}
-use Rattle.rewrite.proofs.Three.{Three, along-cursor, along-encoder, words-seen, edit-along, edit-all, edit-sound}
+use Rattle.rewrite.proofs.Three.{along-cursor, along-encoder, words-seen, edit-along, edit-all, edit-sound}
 use borrow.Author.Needs.{needs}
 use Rattle.rewrite.proofs.parts.measure.Statement.{statement}
 use Rattle.rewrite.proofs.parts.measure.Tie as tie
-use Rattle.rewrite.proofs.parts.measure.Reads as reads
-use Rattle.rewrite.proofs.parts.measure.Lts as lts
-use Rattle.cursor.proofs.start.Reads as start-reads
-use Rattle.encode.proofs.begin.Reads as begin-reads
-use Rattle.encode.proofs.finished.Reads as finished-reads
-use Rattle.rewrite.proofs.walk.measure_added.Reads as measure-added-reads
-use Rattle.rewrite.proofs.walk.measure_ranks.Reads as measure-ranks-reads
-use Rattle.rewrite.proofs.walk.skip.Reads as skip-reads
 
 -- the encoder and the cursor after the ranks before the edit
 front-encoder : (c : tie.After-measure-ranks)

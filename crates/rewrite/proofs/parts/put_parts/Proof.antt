@@ -1,23 +1,15 @@
-use Prim.Native.Nat.{ℕ, _+_, _-_, _≤_}
-use mathlib.Core.Path.{_≡_, refl, sym, ap, _∙_}
+use Prim.Native.Nat.{_-_}
+use mathlib.Core.Path.{_≡_, ap, _∙_}
 use native.Mathlib.Omega.{arith}
 use lib.ListN.{length}
 use Rattle.stores.proofs.Laws.{length-put}
-use Rattle.encode.specs.Encoder.{coder, begun}
+use Rattle.encode.specs.Encoder.{begun}
 use Rattle.rewrite.specs.declared.walk.Walk.{Walk}
 use Rattle.rewrite.specs.Walk.{added}
 use Rattle.rewrite.proofs.Three.{along-cursor, along-encoder, halfway, front, rest, words-seen, e1, e2, e3, d1, d2, d3, length-d1, length-d2, length-d3, edit-along, edit-rooms, edit-put}
 use borrow.Author.Needs.{needs}
 use Rattle.rewrite.proofs.parts.put_parts.Statement.{statement}
 use Rattle.rewrite.proofs.parts.put_parts.Tie as tie
-use Rattle.rewrite.proofs.parts.put_parts.Reads as reads
-use Rattle.rewrite.proofs.parts.put_parts.Lts as lts
-use Rattle.cursor.proofs.start.Reads as start-reads
-use Rattle.encode.proofs.begin.Reads as begin-reads
-use Rattle.encode.proofs.finish.Reads as finish-reads
-use Rattle.rewrite.proofs.walk.put_added.Reads as put-added-reads
-use Rattle.rewrite.proofs.walk.put_ranks.Reads as put-ranks-reads
-use Rattle.rewrite.proofs.walk.skip.Reads as skip-reads
 
 -- after the ranks before the edit
 front-encoder : (c : tie.After-put-ranks) → let a = c .before .before .before .before .before .before .args in c .put-ranks .result .e ≡ e1 (a .s) (begun 52 (a .second)) (front (a .file .now) (a .v) (a .x)) (added (a .x)) (rest (a .file .now) (a .v) (a .x))

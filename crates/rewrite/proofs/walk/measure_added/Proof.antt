@@ -1,14 +1,9 @@
-use mathlib.Core.Path.{_≡_, refl, sym, _∙_}
-use Rattle.encode.specs.Batch.{Along}
+use mathlib.Core.Path.{sym, _∙_}
 use Rattle.encode.proofs.Along.{along-head}
-use Rattle.encode.proofs.Turn.{all-cons, all-end}
+use Rattle.encode.proofs.Turn.{all-end}
 use Rattle.rewrite.proofs.Stretch.{one-taken}
-use borrow.Author.Needs.{needs}
 use Rattle.rewrite.proofs.walk.measure_added.Statement.{statement}
 use Rattle.rewrite.proofs.walk.measure_added.Tie as tie
-use Rattle.rewrite.proofs.walk.measure_added.Reads as reads
-use Rattle.rewrite.proofs.walk.measure_added.Lts as lts
-use Rattle.encode.proofs.advance.Reads as advance-reads
 
 -- src/walk.rt:89:9
 advance-requires : tie.Need-advance-requires

@@ -1,6 +1,4 @@
-use Prim.Native.Nat.{_+_, _≤_}
-use mathlib.Core.Path.{_≡_, refl, sym, _∙_}
-use native.Mathlib.Omega.{arith}
+use mathlib.Core.Path.{sym, _∙_}
 use lib.ListN.{length}
 use Rattle.encode.specs.Encoder.{coder}
 use Rattle.encode.proofs.Along.{along-head, put-all-end}
@@ -9,9 +7,6 @@ use Rattle.rewrite.proofs.Stretch.{one-taken, one-room, one-put}
 use borrow.Author.Needs.{needs}
 use Rattle.rewrite.proofs.walk.put_added.Statement.{statement}
 use Rattle.rewrite.proofs.walk.put_added.Tie as tie
-use Rattle.rewrite.proofs.walk.put_added.Reads as reads
-use Rattle.rewrite.proofs.walk.put_added.Lts as lts
-use Rattle.encode.proofs.emit.Reads as emit-reads
 
 -- src/walk.rt:100:9
 emit-requires : tie.Need-emit-requires

@@ -1,7 +1,7 @@
-use Prim.Native.Nat.{ℕ, _-_, _≤_, _<_}
+use Prim.Native.Nat.{_-_, _≤_}
 use mathlib.Core.Path.{_≡_, refl, sym, ap, _∙_}
 use native.Mathlib.Omega.{arith}
-use lib.ListN.{length, take, drop}
+use lib.ListN.{length}
 use lib.Seq.{length-take-le}
 use Rattle.cursor.specs.Cursor.{walked}
 use Rattle.encode.specs.Batch.{Along, RoomAll, putAllBy}
@@ -11,11 +11,6 @@ use Rattle.rewrite.proofs.Stretch.{Batch, batch, turn-whole, turn-now, 
 use borrow.Author.Needs.{needs}
 use Rattle.rewrite.proofs.walk.put_ranks.Statement.{statement}
 use Rattle.rewrite.proofs.walk.put_ranks.Tie as tie
-use Rattle.rewrite.proofs.walk.put_ranks.Reads as reads
-use Rattle.rewrite.proofs.walk.put_ranks.Lts as lts
-use Rattle.cursor.proofs.batch.positions.Reads as positions-reads
-use Rattle.encode.proofs.batch.emit_all.Reads as emit-all-reads
-use Rattle.rewrite.proofs.walk.batch_of.Reads as batch-of-reads
 
 abbrev Inv-loop : tie.InvT-loop
 Inv-loop dst₀ file v s c₀ e₀ n batch₀ left₀ dst c e batch left =

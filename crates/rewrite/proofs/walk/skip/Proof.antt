@@ -1,4 +1,3 @@
-use Prim.Native.Nat.{_≤_}
 use mathlib.Core.Path.{_≡_, refl, sym, _∙_}
 use native.Mathlib.Omega.{arith}
 use Rattle.cursor.specs.Cursor.{steppedBy}
@@ -6,9 +5,6 @@ use Rattle.rewrite.proofs.Stretch.{skip-turn, skip-end}
 use borrow.Author.Needs.{needs}
 use Rattle.rewrite.proofs.walk.skip.Statement.{statement}
 use Rattle.rewrite.proofs.walk.skip.Tie as tie
-use Rattle.rewrite.proofs.walk.skip.Reads as reads
-use Rattle.rewrite.proofs.walk.skip.Lts as lts
-use Rattle.cursor.proofs.next.Reads as next-reads
 
 abbrev Inv-loop : tie.InvT-loop
 Inv-loop file v c₀ n₀ c n = steppedBy file v c n ≡ steppedBy file v c₀ n₀
@@ -37,14 +33,14 @@ loop-again : tie.Need-loop-again Inv-loop μ-loop
 loop-again c =
     let a = c .before .before .before .before .args in
     let l = c .before .before .loop in
-    rw (c .next .ensures) (skip-turn (a .file .now) (a .v) (l .c) (l .n) (c .before .loop-test .taken)) ∙ l .inv
+    rw (c .next .ensures) (skip-turn (a .file .now) (a .v) (l .c) (l .n) (let h = c .before .loop-test .taken in omega arith)) ∙ l .inv
 
 -- src/walk.rt:40:1
 returns : tie.Need-returns Inv-loop μ-loop
 returns c =
     let a = c .before .before .before .args in
     let l = c .before .loop in
-    sym (skip-end (a .file .now) (a .v) (l .c) (l .n) (c .loop-test .left)) ∙ l .inv
+    sym (skip-end (a .file .now) (a .v) (l .c) (l .n) (let h = c .loop-test .left in omega arith)) ∙ l .inv
 
 pub skip-spec : {M : Type 1} → statement M
 skip-spec =

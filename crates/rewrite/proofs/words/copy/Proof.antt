@@ -1,5 +1,5 @@
-use Prim.Native.Nat.{ℕ, _+_, _-_, _≤_, _<_}
-use mathlib.Core.Path.{_≡_, refl, sym, ap, _∙_}
+use Prim.Native.Nat.{_+_, _-_, _≤_}
+use mathlib.Core.Path.{_≡_, refl, sym, _∙_}
 use native.Mathlib.Omega.{arith}
 use lib.ListN.{length, getD, take, drop, length-set}
 use Rattle.stores.specs.Put.{put}
@@ -7,8 +7,6 @@ use Rattle.rewrite.proofs.Copied.{Left, copy-start, copy-turn, copy-end
 use borrow.Author.Needs.{needs}
 use Rattle.rewrite.proofs.words.copy.Statement.{statement}
 use Rattle.rewrite.proofs.words.copy.Tie as tie
-use Rattle.rewrite.proofs.words.copy.Reads as reads
-use Rattle.rewrite.proofs.words.copy.Lts as lts
 
 abbrev Inv-loop : tie.InvT-loop
 Inv-loop dst₀ at src from n i₀ dst i = (i ≤ n) × (length dst ≡ length dst₀) × (Left dst at src from n i ≡ put dst₀ at (take n (drop from src)))

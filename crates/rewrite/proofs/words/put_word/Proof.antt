@@ -1,14 +1,11 @@
-use Prim.Native.Nat.{ℕ, _+_, _≤_}
-use mathlib.Core.Path.{_≡_, refl, sym, ap, _∙_}
+use Prim.Native.Nat.{ℕ, _+_}
+use mathlib.Core.Path.{sym, ap, _∙_}
 use native.Mathlib.Nat.{add-zero}
 use native.Mathlib.Omega.{arith}
 use Rattle.rewrite.proofs.Copied.{word-size, none-size, put-one, put-none}
 use borrow.Author.Needs.{needs}
 use Rattle.rewrite.proofs.words.put_word.Statement.{statement}
 use Rattle.rewrite.proofs.words.put_word.Tie as tie
-use Rattle.rewrite.proofs.words.put_word.Reads as reads
-use Rattle.rewrite.proofs.words.put_word.Lts as lts
-use Rattle.stores.proofs.put_u32.Reads as put-u32-reads
 
 -- src/words.rt:35:9
 put-u32-requires : tie.Need-put-u32-requires

@@ -1,5 +1,5 @@
-use Prim.Native.Nat.{ℕ, _+_, _-_, _*_, _≤_}
-use mathlib.Core.Path.{_≡_, refl, sym, ap, _∙_}
+use Prim.Native.Nat.{_-_}
+use mathlib.Core.Path.{ap, _∙_}
 use native.Mathlib.Omega.{arith}
 use lib.ListN.{length}
 use Rattle.stores.proofs.Laws.{length-put}
@@ -7,11 +7,6 @@ use Rattle.rewrite.proofs.Copied.{front-there, rest-there, all-size, al
 use borrow.Author.Needs.{needs}
 use Rattle.rewrite.proofs.words.put_words.Statement.{statement}
 use Rattle.rewrite.proofs.words.put_words.Tie as tie
-use Rattle.rewrite.proofs.words.put_words.Reads as reads
-use Rattle.rewrite.proofs.words.put_words.Lts as lts
-use Rattle.header.proofs.places.words_at.Reads as words-at-reads
-use Rattle.rewrite.proofs.words.copy.Reads as copy-reads
-use Rattle.rewrite.proofs.words.put_word.Reads as put-word-reads
 
 -- src/words.rt:46:9
 words-at-requires : tie.Need-words-at-requires
