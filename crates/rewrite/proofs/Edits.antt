@@ -16,38 +16,32 @@ use Rattle.laws.proofs.Acceptance.{accepted-has-file}
 use Rattle.laws.proofs.Files.{positions-back, kept-back}
 use Rattle.header.proofs.Body.{accepted-parts}
 use Rattle.rewrite.specs.declared.Edit.{Edit}
-use Rattle.rewrite.specs.Edit.{edited, overlaid, EditOf, countBelow}
+use Rattle.rewrite.specs.Edit.{edited, overlaid, EditOf, Writes, countBelow}
 use Rattle.rewrite.proofs.Written.{put-positions, put-words, removed-positions, removed-words, other-positions, other-words, rank-most, rank-there, rank-position, rank-counts}
 
--- ---- for a rank k: a new one before it, none in its place, another in its place; and for n ranks: all
+-- ---- for a rank k: a new one before it, none in its place, another in its place, or all as they are
 
 abbrev pub adding : ℕ → ℕ → Edit
 adding k p = record { before = k; put = true; position = p; after = k }
 
-abbrev pub removing : ℕ → Edit
-removing k = record { before = k; put = false; position = 0; after = k + 1 }
+abbrev pub removing : ℕ → ℕ → Edit
+removing k p = record { before = k; put = false; position = p; after = k + 1 }
 
 abbrev pub replacing : ℕ → ℕ → Edit
 replacing k p = record { before = k; put = true; position = p; after = k + 1 }
 
-abbrev pub keeping : ℕ → Edit
-keeping n = record { before = n; put = false; position = 0; after = n }
+abbrev pub keeping : ℕ → ℕ → Edit
+keeping k p = record { before = k; put = false; position = p; after = k }
 
-pub keeping-positions : (n : ℕ) (ls : List ℕ) → edited (keeping n) ls ≡ ls
+pub keeping-positions : (n p : ℕ) (ls : List ℕ) → edited (keeping n p) ls ≡ ls
 unfolding edited
-keeping-positions n ls = rw (append-nil (take n ls)) (take-append-drop n ls)
+keeping-positions n p ls = rw (append-nil (take n ls)) (take-append-drop n ls)
 
-pub keeping-words : (n w : ℕ) (vs : List ℕ) → overlaid (keeping n) w vs ≡ vs
+pub keeping-words : (n p w : ℕ) (vs : List ℕ) → overlaid (keeping n p) w vs ≡ vs
 unfolding overlaid
-keeping-words n w vs = rw (append-nil (take n vs)) (take-append-drop n vs)
+keeping-words n p w vs = rw (append-nil (take n vs)) (take-append-drop n vs)
 
 -- ---- on an accepted file
-
--- the edit x with the word w gives the picture in which w is written at p
-pub record Writes (b : List ℕ) (p w : ℕ) (x : Edit) : Type 0 where
-  pub edit : EditOf b x
-  pub positions : edited x (positionsOf b) ≡ stored (emptyOf b) (set (wordsOf b) p w)
-  pub words : overlaid x w (keptOf b) ≡ kept (emptyOf b) (set (wordsOf b) p w)
 
 module _ (b : List ℕ) (h : checkNumber b ≡ 0) where
   abbrev E : ℕ
@@ -80,13 +74,9 @@ module _ (b : List ℕ) (h : checkNumber b ≡ 0) where
       rising-stored E 0 16777216 us (omega arith)
 
   -- nothing is changed
-  pub keeps : EditOf b (keeping (wordsCount b))
-  keeps =
-      record {
-        ordered = omega arith;
-        inside = omega arith;
-        rising = rw (keeping-positions (wordsCount b) (positionsOf b), ls-back) (rising ws refl);
-      }
+  pub keeps : (n p : ℕ) → n ≤ wordsCount b → EditOf b (keeping n p)
+  keeps n p h =
+      record { ordered = omega arith; inside = h; rising = rw (keeping-positions n p (positionsOf b), ls-back) (rising ws refl) }
 
   module _ (p w : ℕ) (n : p < length ws) where
     abbrev pub k : ℕ
@@ -116,11 +106,11 @@ module _ (b : List ℕ) (h : checkNumber b ≡ 0) where
         (append-snoc (take k (kept E ws)) w (drop k (kept E ws)) ∙ sym (put-words E p w ws n a c))
 
     -- a stored cell becomes empty
-    pub removes : (getD ws p 0 ≡ E → ⊥) → w ≡ E → Writes b p w (removing k)
+    pub removes : (getD ws p 0 ≡ E → ⊥) → w ≡ E → Writes b p w (removing k p)
     unfolding edited overlaid
     removes a c =
         let m = rank-there E p w ws n a in
-        writes (removing k) (omega arith) (omega (arith, size))
+        writes (removing k p) (omega arith) (omega (arith, size))
         (rw (append-nil (take k (stored E ws))) (sym (removed-positions E p w ws n a c)))
         (rw (append-nil (take k (kept E ws))) (sym (removed-words E p w ws n a c)))
 
@@ -138,11 +128,12 @@ module _ (b : List ℕ) (h : checkNumber b ≡ 0) where
         (append-snoc (take k (kept E ws)) w (drop (k + 1) (kept E ws)) ∙ sym s ∙ sym (other-words E p w ws n a c))
 
     -- the word is there already
-    pub same-word : getD ws p 0 ≡ w → Writes b p w (keeping (wordsCount b))
+    pub same-word : getD ws p 0 ≡ w → Writes b p w (keeping k p)
     same-word a =
         let s : set ws p w ≡ ws = rw (← a) (set-getD ws p 0) in
+        let m = rank-most E p w ws n in
         record {
-          edit = keeps;
-          positions = rw s (keeping-positions (wordsCount b) (positionsOf b) ∙ ls-back);
-          words = rw s (keeping-words (wordsCount b) w (keptOf b) ∙ vs-back);
+          edit = keeps k p (omega (arith, size));
+          positions = rw s (keeping-positions k p (positionsOf b) ∙ ls-back);
+          words = rw s (keeping-words k p w (keptOf b) ∙ vs-back);
         }
