@@ -1,0 +1,5 @@
+use borrow.Author.Needs.{needs}
+use Rattle.opened.proofs.open.Statement.{statement}
+
+pub open-spec : {M : Type 1} → statement M
+open-spec 𝓤 H 𝓜 𝓖 𝓡 = search needs
