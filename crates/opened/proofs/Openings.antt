@@ -50,10 +50,12 @@ opened x r v e k = record { view = e; bytes = cases (eqb (checkNumber (now x)) 0
   where
     other : checkNumber (now x) ≡ 0 → v .kind ≡ 0 → ⊥
     other z h = kind-opened (now x) z (sym (ap (λ (y : View). y .kind) e) ∙ h)
+
     held : eqb (checkNumber (now x)) 0 ≡ true → now r ≡ opening (now x) .bytes
     held t =
         let z = eqb-true (checkNumber (now x)) 0 t in
         k .bytes ∙ ap (λ (q : Bool). pick q [] (now x)) (ne-eqb (v .kind) 0 (other z)) ∙ sym (ap (λ (y : Opened). y .bytes) (opening-accepted (now x) z))
+
     none : eqb (checkNumber (now x)) 0 ≡ false → now r ≡ opening (now x) .bytes
     none t =
         let o = opening-refused (now x) (eqb-false (checkNumber (now x)) 0 t) in
@@ -98,6 +100,7 @@ module _ (x : List ℕ) (v : View) (p : ℕ) (a : Answer) (h : v .kind ≡ 0 →
             same = s;
             view = record { accepted = ap checkNumber s ∙ z; view = ap (λ (y : Opened). y .view) e ∙ ap viewOf (sym s) };
           }
+
       none : eqb (checkNumber b) 0 ≡ false → Seen x v b
       none t = absurd (h (ap (λ (y : Opened). y .view .kind) (o ∙ opening-refused b (eqb-false (checkNumber b) 0 t))))
 

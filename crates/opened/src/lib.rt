@@ -54,10 +54,7 @@ pub fn open<'a>(file: &'a [u8]) -> Opened<'a>
 {
     let view = opened_view(file);
     let bytes = opened_bytes(file, view);
-    Opened {
-        bytes,
-        view,
-    }
+    Opened { bytes, view }
 }
 
 // The word at a position; 8 where the opening was refused.
