@@ -1,7 +1,7 @@
 -- `opened::open` meets its contract: a walk of its MIR, by hand. `opened_view` and `opened_bytes` do the work, and the struct is made of what they return.
 -- A slice and a view are Copy: what each owns is had twice where a call takes it and it is wanted again.
 -- Assumes nothing.
-use mathlib.Core.Path.{_≡_, refl, ap, _∙_, subst}
+use mathlib.Core.Path.{_≡_, refl, ap, subst}
 use Prim.Native.Nat.{ℕ}
 use mathlib.Core.List.{List, [], _∷_}
 use lib.ListN.{length}
