@@ -45,6 +45,7 @@ view-accepted b n v c z e = e ∙ sym (ap (λ (x : Opened). x .view) (opening-ac
 pub view-refused : (b : List ℕ) (n : ℕ) → Checked b n → (n ≡ 0 → ⊥) → noView ≡ opening b .view
 view-refused b n c h = sym (ap (λ (x : Opened). x .view) (opening-refused b (λ e. h (c .number ∙ e))))
 
+-- the contract of open, by what it keeps
 pub opened : (x r : RefT (List ℕ)) (v : View) → v ≡ opening (now x) .view → Kept x v r → OpeningOf x r v
 opened x r v e k = record { view = e; bytes = cases (eqb (checkNumber (now x)) 0) held none; own = λ z. k .own (other z) }
   where
