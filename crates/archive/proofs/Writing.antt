@@ -1,0 +1,203 @@
+-- What write and change answer and leave. Assumes nothing.
+use Prim.Native.Nat.{ℕ, zero, suc, _+_, _≤_, _<_}
+use mathlib.Core.Path.{_≡_, refl, sym, ap, subst, _∙_}
+use mathlib.Core.Logic.{_⊎_, ⊎-elim}
+use mathlib.Core.Bool.{Bool, true, false, not}
+use mathlib.Core.List.{List, [], _∷_}
+use native.Mathlib.Omega.{arith}
+use lib.ListN.{length, getD, set, length-set}
+use lib.Dec.{eqb, ltb}
+use types.Run.{OneOf}
+use denote.Enum.Declared.{tagOf}
+use borrow.Author.Tests.{lt-ltb, le-ltb, eqb-true, eqb-false}
+use Rattle.format.proofs.RankAnswer.{the-type}
+use Rattle.format.specs.declared.RankAnswer.{RankAnswer}
+use Rattle.format.specs.declared.RankAnswer.the-variants as ra
+use Rattle.format.specs.declared.Setting.{Setting}
+use Rattle.format.specs.declared.View.{View}
+use Rattle.format.specs.Tools.{pick}
+use Rattle.format.specs.Signals.{BEYOND, refuse, orElse}
+use Rattle.format.specs.Answers.{Answer, refused, empty, given, rankSays, leaves}
+use Rattle.format.specs.Picture.{cells}
+use Rattle.format.specs.Stored.{stored, kept, rankAt}
+use Rattle.format.specs.Kinds.{settingAllowed}
+use Rattle.format.specs.File.{HasFile, layout}
+use Rattle.format.specs.Accepted.{settingOf, dimensionsOf, emptyOf, wordsCount, positionsOf, keptOf, wordsOf, checkNumber, Checked}
+use Rattle.format.specs.Calls.{outNumber, settingNumber, writeSignal, changeSignal, writeNumber, changeNumber, writtenFile, changedFile, Wrote, Changed}
+use Rattle.format.specs.Lookups.{rankIn}
+use Rattle.format.specs.Opened.{viewOf}
+use Rattle.laws.proofs.Tools.{cases}
+use Rattle.laws.proofs.Acceptance.{accepted, header-right, accepted-has-file}
+use Rattle.laws.proofs.Files.{positions-back, kept-back}
+use Rattle.laws.proofs.Calls.{setting-zero}
+use Rattle.header.specs.Search.{ViewOf, RankSearched}
+use Rattle.rewrite.specs.declared.Edit.{Edit}
+use Rattle.rewrite.specs.Edit.{edited, overlaid, EditOf, Writes, countBelow}
+use Rattle.rewrite.proofs.Edits.{keeping, keeping-positions, keeping-words, keeps, rank-below, adds, removes, replaces, same-word}
+use Rattle.archive.specs.Recoded.{wordsAfter, Recodes, Recoded}
+use Rattle.archive.proofs.Making.{setting-later}
+use Rattle.archive.proofs.Recoding.{after-is, recodes}
+
+-- ---- the edit of a write
+
+-- the case of an answer, and its value
+abbrev sort : Answer → ℕ
+sort (refused n) = 0
+sort empty = 1
+sort (given x) = 2
+
+abbrev value : Answer → ℕ
+value (refused n) = 0
+value empty = 0
+value (given x) = x
+
+module _ (b : List ℕ) (v : View) (o : ViewOf b v) (p w : ℕ) where
+  abbrev E : ℕ
+  E = emptyOf b
+
+  abbrev ws : List ℕ
+  ws = wordsOf b
+
+  empty-seen : v .empty ≡ E
+  unfolding viewOf
+  empty-seen = ap (λ (t : View). t .empty) (o .view)
+
+  module _ (i : p < v .cells) where
+    inside : p < length ws
+    unfolding viewOf
+    inside =
+        let f = accepted-has-file b (o .accepted) in
+        let c : v .cells ≡ cells (dimensionsOf b) = ap (λ (t : View). t .cells) (o .view) ∙ rw (f .dims) in
+        omega (arith, f .size)
+
+    says : (a : Answer) → RankSearched b v p a → a ≡ pick (eqb (getD ws p 0) E) empty (given (rankAt E ws p))
+    unfolding rankIn
+    says a s = s .right o ∙ rw (lt-ltb p (length ws) inside)
+
+    -- the else arm knows the tag alone
+    pub empty-there : (a : RankAnswer) → OneOf (1 ∷ (2 ∷ [])) (tagOf the-type a) → RankSearched b v p (rankSays a) → getD ws p 0 ≡ E
+    empty-there (ra.Rank r) h s = absurd (⊎-elim (λ z. omega arith) (λ z. omega arith) h)
+    empty-there ra.Empty h s =
+        cases (eqb (getD ws p 0) E) (λ t. eqb-true (getD ws p 0) E t) (λ t. absurd (let e : 1 ≡ 2 = ap sort (says empty s ∙ rw t) in omega arith))
+    empty-there (ra.Refused n) h s =
+        cases (eqb (getD ws p 0) E) (λ t. eqb-true (getD ws p 0) E t) (λ t. absurd (let e : 0 ≡ 2 = ap sort (says (refused n) s ∙ rw t) in omega arith))
+
+    pub stored-there : (r : ℕ) → RankSearched b v p (given r) → (getD ws p 0 ≡ E → ⊥) × (r ≡ rankAt E ws p)
+    stored-there r s =
+        cases (eqb (getD ws p 0) E) (λ t. absurd (let e : 2 ≡ 1 = ap sort (says (given r) s ∙ rw t) in omega arith))
+        (λ t. (eqb-false (getD ws p 0) E t, ap value (says (given r) s ∙ rw t)))
+
+    -- an empty cell: a new rank, or nothing new
+    pub edit-empty : getD ws p 0 ≡ E → (k : ℕ) → k ≡ countBelow p (positionsOf b) → (t : Bool) → t ≡ not (eqb w (v .empty))
+        → Writes b p w (record { before = k; put = t; position = p; after = k })
+    edit-empty a k c t f =
+        let h = o .accepted in
+        let n : k ≡ rankAt E ws p = c ∙ sym (rank-below b h p w inside) in
+        subst (λ (m : ℕ). Writes b p w (record { before = m; put = t; position = p; after = m })) (sym n)
+        (cases (eqb w E)
+        (λ e. rw (f, empty-seen, e) (same-word b h p w inside (a ∙ sym (eqb-true w E e))))
+        (λ e. rw (f, empty-seen, e) (adds b h p w inside a (eqb-false w E e))))
+
+    -- a stored cell: none in its place, or another word
+    pub edit-stored : (r : ℕ) → (getD ws p 0 ≡ E → ⊥) × (r ≡ rankAt E ws p) → (t : Bool) → t ≡ not (eqb w (v .empty))
+        → Writes b p w (record { before = r; put = t; position = p; after = r + 1 })
+    edit-stored r a t f =
+        let h = o .accepted in
+        subst (λ (m : ℕ). Writes b p w (record { before = m; put = t; position = p; after = m + 1 })) (sym (a .1))
+        (cases (eqb w E)
+        (λ e. rw (f, empty-seen, e) (removes b h p w inside (a .0) (eqb-true w E e)))
+        (λ e. rw (f, empty-seen, e) (replaces b h p w inside (a .0) (eqb-false w E e))))
+
+-- ---- write
+
+module _ (b : List ℕ) (p w : ℕ) (before : List ℕ) where
+  pub write-refused : (n : ℕ) → Checked b n → (n ≡ 0 → ⊥) → Wrote b p w before n before
+  unfolding writeNumber
+  write-refused zero c h = absurd (h refl)
+  write-refused (suc n) c h = record { number = let e = c .number in rw (← e); left = refl }
+
+  module _ (h : checkNumber b ≡ 0) where
+    write-signal : writeNumber b p w (length before) ≡ writeSignal (settingOf b) (dimensionsOf b) (emptyOf b) (wordsOf b) p w (length before)
+    unfolding writeNumber
+    write-signal = rw h
+
+    pub write-beyond : cells (dimensionsOf b) ≤ p → Wrote b p w before BEYOND before
+    unfolding writeSignal
+    write-beyond l = record { number = sym (write-signal ∙ rw (le-ltb p (cells (dimensionsOf b)) l)); left = refl }
+
+    module _ (x : Edit) (m : Writes b p w x) where
+      written : wordsAfter b x w ≡ set (wordsOf b) p w
+      written = after-is b h x w (set (wordsOf b) p w) (length-set (wordsOf b) p w) (m .positions) (m .words)
+
+      pub write-recodes : Recodes b x w
+      write-recodes = recodes b h x w (set (wordsOf b) p w) (length-set (wordsOf b) p w) (m .positions) (m .words) (m .edit)
+
+      pub write-done : (n : ℕ) (after : List ℕ) → p < cells (dimensionsOf b) → Recoded b x w (settingOf b) before n after → Wrote b p w before n after
+      unfolding writeSignal writtenFile
+      write-done n after l r =
+          record {
+            number = r .number ∙ rw written (sym (write-signal ∙ rw (lt-ltb p (cells (dimensionsOf b)) l)));
+            left = r .left ∙ ap (λ (us : List ℕ). leaves n (layout (settingOf b) (dimensionsOf b) (emptyOf b) us) before) written;
+          }
+
+-- ---- change
+
+module _ (b : List ℕ) (s : Setting) (before : List ℕ) where
+  pub change-refused : (n : ℕ) → Checked b n → (n ≡ 0 → ⊥) → Changed b s before n before
+  unfolding changeNumber
+  change-refused zero c h = absurd (h refl)
+  change-refused (suc n) c h = record { number = let e = c .number in rw (← e); left = refl }
+
+  module _ (h : checkNumber b ≡ 0) where
+    abbrev out : ℕ
+    out = outNumber s (dimensionsOf b) (emptyOf b) (wordsOf b) (length before)
+
+    change-signal : changeNumber b s (length before) ≡ orElse (settingNumber s 0) out
+    unfolding changeNumber changeSignal
+    change-signal = rw h (setting-later s 0 out)
+
+    pub change-setting : (n : ℕ) → n ≡ settingNumber s 0 → (n ≡ 0 → ⊥) → Changed b s before n before
+    change-setting zero e z = absurd (z refl)
+    change-setting (suc n) e z = record { number = sym (change-signal ∙ ap (λ (k : ℕ). orElse k out) (sym e)); left = refl }
+
+    module _ (k : ℕ) (few : k ≤ wordsCount b) where
+      same-positions : edited (keeping k 0) (positionsOf b) ≡ stored (emptyOf b) (wordsOf b)
+      same-positions =
+          keeping-positions k 0 (positionsOf b) ∙ positions-back (settingOf b) (dimensionsOf b) (emptyOf b) (wordsOf b) b (accepted-has-file b h)
+
+      same-words : overlaid (keeping k 0) 0 (keptOf b) ≡ kept (emptyOf b) (wordsOf b)
+      same-words = keeping-words k 0 0 (keptOf b) ∙ kept-back (settingOf b) (dimensionsOf b) (emptyOf b) (wordsOf b) b (accepted-has-file b h)
+
+      unchanged : wordsAfter b (keeping k 0) 0 ≡ wordsOf b
+      unchanged = after-is b h (keeping k 0) 0 (wordsOf b) refl same-positions same-words
+
+      pub change-recodes : Recodes b (keeping k 0) 0
+      change-recodes = recodes b h (keeping k 0) 0 (wordsOf b) refl same-positions same-words (keeps b h k 0 few)
+
+      pub change-done : (n : ℕ) (after : List ℕ) → settingNumber s 0 ≡ 0 → Recoded b (keeping k 0) 0 s before n after → Changed b s before n after
+      unfolding changedFile
+      change-done n after t r =
+          record {
+            number = r .number ∙ rw unchanged (sym (change-signal ∙ ap (λ (j : ℕ). orElse j out) t));
+            left = r .left ∙ ap (λ (us : List ℕ). leaves n (layout s (dimensionsOf b) (emptyOf b) us) before) unchanged;
+          }
+
+-- ---- what the code knows of a checked file
+
+module _ (b : List ℕ) (n : ℕ) (c : Checked b n) (z : n ≡ 0) where
+  pub checked-zero : checkNumber b ≡ 0
+  checked-zero = sym (c .number) ∙ z
+
+  pub view-of : (v : View) → v ≡ viewOf b → ViewOf b v
+  view-of v e = record { accepted = checked-zero; view = e }
+
+  pub cells-of : (v : View) → v ≡ viewOf b → v .cells ≡ cells (dimensionsOf b)
+  unfolding viewOf
+  cells-of v e = ap (λ (t : View). t .cells) e ∙ rw (accepted-has-file b checked-zero .dims)
+
+  pub words-of : (v : View) → v ≡ viewOf b → v .words ≡ wordsCount b
+  unfolding viewOf
+  words-of v e = ap (λ (t : View). t .words) e
+
+  pub setting-of : settingAllowed (settingOf b) ≡ true
+  setting-of = accepted-has-file b checked-zero .setting
