@@ -19,7 +19,7 @@ use Rattle.format.specs.Calls.{outNumber}
 use Rattle.format.specs.Opened.{viewOf}
 use Rattle.laws.proofs.Limits.{small-dims}
 use Rattle.laws.proofs.Stored.{placed-stored, length-placed}
-use Rattle.laws.proofs.Acceptance.{accepted-has-file}
+use Rattle.laws.proofs.Acceptance.{accepted, header-right, accepted-has-file}
 use Rattle.header.specs.Search.{ViewOf}
 use Rattle.stores.specs.Put.{put}
 use Rattle.stores.proofs.Laws.{length-put}
@@ -36,6 +36,10 @@ use Rattle.rewrite.specs.declared.Edit.{Edit}
 use Rattle.rewrite.specs.Edit.{edited, overlaid, EditOf}
 use Rattle.archive.specs.Recoded.{wordsAfter, Recodes, Recoded}
 use Rattle.archive.proofs.Making.{laid-by, same-room, levels-there, file-there}
+
+-- an accepted file has a header
+pub file-long : (b : List ℕ) (v : View) → ViewOf b v → 52 ≤ length b
+file-long b v o = header-right b (accepted b (o .accepted) .header) .long
 
 -- ---- the words after an edit
 

@@ -25,7 +25,7 @@ use Rattle.format.specs.File.{HasFile, layout}
 use Rattle.format.specs.Accepted.{settingOf, dimensionsOf, emptyOf, wordsCount, positionsOf, keptOf, wordsOf, checkNumber, Checked}
 use Rattle.format.specs.Calls.{outNumber, settingNumber, writeSignal, changeSignal, writeNumber, changeNumber, writtenFile, changedFile, Wrote, Changed}
 use Rattle.format.specs.Lookups.{rankIn}
-use Rattle.format.specs.Opened.{viewOf}
+use Rattle.format.specs.Opened.{viewOf, Free, number}
 use Rattle.laws.proofs.Tools.{cases}
 use Rattle.laws.proofs.Acceptance.{accepted, header-right, accepted-has-file}
 use Rattle.laws.proofs.Files.{positions-back, kept-back}
@@ -78,14 +78,14 @@ module _ (b : List ℕ) (v : View) (o : ViewOf b v) (p w : ℕ) where
     pub empty-there : (a : RankAnswer) → OneOf (1 ∷ (2 ∷ [])) (tagOf the-type a) → RankSearched b v p (rankSays a) → getD ws p 0 ≡ E
     empty-there (ra.Rank r) h s = absurd (⊎-elim (λ z. omega arith) (λ z. omega arith) h)
     empty-there ra.Empty h s =
-        cases (eqb (getD ws p 0) E) (λ t. eqb-true (getD ws p 0) E t) (λ t. absurd (let e : 1 ≡ 2 = ap sort (says empty s ∙ rw t) in omega arith))
+        cases (eqb (getD ws p 0) E) (λ t. eqb-true (getD ws p 0) E t) (λ t. absurd (let q : empty ≡ given (rankAt E ws p) = says empty s ∙ rw t in let e : 1 ≡ 2 = ap sort q in omega arith))
     empty-there (ra.Refused n) h s =
-        cases (eqb (getD ws p 0) E) (λ t. eqb-true (getD ws p 0) E t) (λ t. absurd (let e : 0 ≡ 2 = ap sort (says (refused n) s ∙ rw t) in omega arith))
+        cases (eqb (getD ws p 0) E) (λ t. eqb-true (getD ws p 0) E t) (λ t. absurd (let q : refused n ≡ given (rankAt E ws p) = says (refused n) s ∙ rw t in let e : 0 ≡ 2 = ap sort q in omega arith))
 
     pub stored-there : (r : ℕ) → RankSearched b v p (given r) → (getD ws p 0 ≡ E → ⊥) × (r ≡ rankAt E ws p)
     stored-there r s =
-        cases (eqb (getD ws p 0) E) (λ t. absurd (let e : 2 ≡ 1 = ap sort (says (given r) s ∙ rw t) in omega arith))
-        (λ t. (eqb-false (getD ws p 0) E t, ap value (says (given r) s ∙ rw t)))
+        cases (eqb (getD ws p 0) E) (λ t. absurd (let q : given r ≡ empty = says (given r) s ∙ rw t in let e : 2 ≡ 1 = ap sort q in omega arith))
+        (λ t. let q : given r ≡ given (rankAt E ws p) = says (given r) s ∙ rw t in (eqb-false (getD ws p 0) E t, ap value q))
 
     -- an empty cell: a new rank, or nothing new
     pub edit-empty : getD ws p 0 ≡ E → (k : ℕ) → k ≡ countBelow p (positionsOf b) → (t : Bool) → t ≡ not (eqb w (v .empty))
@@ -107,6 +107,13 @@ module _ (b : List ℕ) (v : View) (o : ViewOf b v) (p w : ℕ) where
         (cases (eqb w E)
         (λ e. rw (f, empty-seen, e) (removes b h p w inside (a .0) (eqb-true w E e)))
         (λ e. rw (f, empty-seen, e) (replaces b h p w inside (a .0) (eqb-false w E e))))
+
+-- a rank that was found is below the words
+free-below : (bound r : ℕ) → Free bound (given r) → r < bound
+free-below bound r (number n h) = h
+
+pub rank-small : (b : List ℕ) (v : View) (p r : ℕ) → RankSearched b v p (given r) → r < v .words
+rank-small b v p r s = free-below (v .words) r (s .free)
 
 -- ---- write
 

@@ -1,5 +1,8 @@
 // The calls of document 01 on lent buffers.
+pub mod change;
 pub mod check;
 pub mod expand;
 pub mod lookup;
 pub mod make;
+pub mod recode;
+pub mod write;

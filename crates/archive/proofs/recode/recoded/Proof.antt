@@ -1,0 +1,60 @@
+use mathlib.Core.Path.{sym, _∙_}
+use Rattle.archive.proofs.Recoding.{recode-known, recode-number, recode-goes, recode-refused}
+use borrow.Author.Needs.{needs}
+use Rattle.archive.proofs.recode.recoded.Statement.{statement}
+use Rattle.archive.proofs.recode.recoded.Tie as tie
+use Rattle.archive.proofs.recode.recoded.Reads as reads
+use Rattle.archive.proofs.recode.recoded.Lts as lts
+use Rattle.archive.proofs.recode.put_recoded.Reads as put-recoded-reads
+use Rattle.assemble.proofs.out_number.Reads as out-number-reads
+use Rattle.rewrite.proofs.parts.measure.Reads as measure-reads
+
+-- src/recode.rt:45:9
+measure-requires : tie.Need-measure-requires
+measure-requires c κs = search needs
+
+-- src/recode.rt:46:9
+out-number-requires : tie.Need-out-number-requires
+out-number-requires c κs =
+    let g = c .before .before .before .args in
+    let w = c .before .before .before .pre in
+    recode-known (g .file .now) (g .v) (w .0) (g .x) (g .word) (w .1) (g .s) (w .2) _ (c .measure .ensures)
+
+-- src/recode.rt:48:9
+returns : tie.Need-returns
+returns c =
+    let g = c .before .before .before .before .before .args in
+    let w = c .before .before .before .before .before .pre in
+    recode-refused (g .file .now) (g .x) (g .word) (g .s) (g .dst .now) _ (recode-number (g .file .now) (g .v) (w .0) (g .x) (g .word) (w .1) (g .s) (w .2) _ (c .before .before .measure .ensures) _ _ (c .before .out-number .ensures)) (c .if1 .taken)
+
+-- src/recode.rt:50:5
+put-recoded-requires : tie.Need-put-recoded-requires
+put-recoded-requires c κs =
+    let g = c .before .before .before .before .before .before .args in
+    let w = c .before .before .before .before .before .before .pre in
+    (w .0, w .1, recode-goes (g .file .now) (g .v) (w .0) (g .x) (g .word) (w .1) (g .s) (w .2) _ (c .before .before .before .measure .ensures) _ (sym (c .before .before .out-number .ensures) ∙ c .before .if1 .left))
+
+-- src/recode.rt:41:1
+same-length : tie.Need-same-length
+same-length c = search needs
+
+-- src/recode.rt:41:1
+returns-2 : tie.Need-returns-2
+returns-2 c =
+    let g = c .before .before .before .before .before .before .before .before .before .args in
+    let w = c .before .before .before .before .before .before .before .before .before .pre in
+    record {
+      number = sym (c .before .before .before .before .if1 .left) ∙ recode-number (g .file .now) (g .v) (w .0) (g .x) (g .word) (w .1) (g .s) (w .2) _ (c .before .before .before .before .before .before .measure .ensures) _ _ (c .before .before .before .before .before .out-number .ensures);
+      left = c .before .before .put-recoded .ensures;
+    }
+
+pub recoded-spec : {M : Type 1} → statement M
+recoded-spec =
+    tie.close
+    (tie.spec
+    measure-requires
+    out-number-requires
+    returns
+    put-recoded-requires
+    same-length
+    returns-2)

@@ -1,0 +1,54 @@
+// One cell of a file written.
+use super::check::check;
+use super::recode::recoded;
+use format::Position;
+use format::RankAnswer;
+use format::View;
+use header::view::read_setting;
+use header::view::read_view;
+use rewrite::Edit;
+use rewrite::below::ranks_below;
+use search::rank_in;
+ghost use Prim.Native.Nat.{_<_};
+ghost use Rattle.format.specs.Calls.{Wrote};
+ghost use Rattle.header.specs.Search.{ViewOf};
+ghost use Rattle.rewrite.specs.Edit.{Writes};
+
+// Which ranks go into the new file, and whether the cell is a new one among them.
+fn edit_of(file: &[u8], v: View, p: Position, word: u32) -> Edit
+    requires { ⌜ ViewOf (now file) v × (p .0 < v .cells) ⌝ }
+    ensures { λ r. ⌜ Writes (now (file .entry)) (p .0) word r ⌝ }
+{
+    let answer = rank_in(file, v, p);
+    let RankAnswer::Rank(rank) = answer else {
+        let below = ranks_below(file, v, p.0);
+        return Edit {
+            before: below,
+            put: word != v.empty,
+            position: p.0,
+            after: below,
+        };
+    };
+    Edit {
+        before: rank.0,
+        put: word != v.empty,
+        position: p.0,
+        after: rank.0 + 1,
+    }
+}
+
+// 0 with the file of the words after the write in the destination's first bytes; 1 to 6, then 8, 9, 10. Writing E empties a cell.
+pub fn write(file: &[u8], p: Position, word: u32, dst: &mut [u8]) -> u32
+    ensures { λ r. ⌜ Wrote (now (file .entry)) (p .0) word (now (dst .entry)) r (now (dst .exit)) ⌝ }
+{
+    let number = check(file);
+    if number != 0 {
+        return number;
+    }
+    let v = read_view(file);
+    if v.cells <= p.0 {
+        return 8;
+    }
+    let x = edit_of(file, v, p, word);
+    recoded(file, v, x, word, read_setting(file), dst)
+}
