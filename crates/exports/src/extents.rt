@@ -1,0 +1,11 @@
+// Four numbers of a slice as an array.
+ghost use mathlib.Core.Path.{_≡_};
+ghost use lib.ListN.{length};
+
+// The four numbers.
+pub fn four(numbers: &[u32]) -> [u32; 4]
+    requires { ⌜ length (now numbers) ≡ 4 ⌝ }
+    ensures { λ r. ⌜ r ≡ now (numbers .entry) ⌝ }
+{
+    [numbers[0], numbers[1], numbers[2], numbers[3]]
+}
