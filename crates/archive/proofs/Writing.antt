@@ -1,40 +1,44 @@
 -- What write and change answer and leave. Assumes nothing.
 use Prim.Native.Nat.{ℕ, zero, suc, _+_, _≤_, _<_}
-use mathlib.Core.Path.{_≡_, refl, sym, ap, subst, _∙_}
+use mathlib.Core.Path.{_≡_, refl, sym, ap, ap₂, subst, _∙_}
 use mathlib.Core.Logic.{_⊎_, ⊎-elim}
 use mathlib.Core.Bool.{Bool, true, false, not}
 use mathlib.Core.List.{List, [], _∷_}
 use native.Mathlib.Omega.{arith}
-use lib.ListN.{length, getD, set, length-set}
+use lib.ListN.{length, getD, set, take, drop, length-set}
+use lib.Seq.{take-length}
 use lib.Dec.{eqb, ltb}
 use types.Run.{OneOf}
 use denote.Enum.Declared.{tagOf}
-use borrow.Author.Tests.{lt-ltb, le-ltb, eqb-true, eqb-false}
+use borrow.Author.Tests.{lt-ltb, le-ltb, eq-eqb, ne-eqb, eqb-true, eqb-false}
 use Rattle.format.proofs.RankAnswer.{the-type}
 use Rattle.format.specs.declared.RankAnswer.{RankAnswer}
 use Rattle.format.specs.declared.RankAnswer.the-variants as ra
 use Rattle.format.specs.declared.Setting.{Setting}
 use Rattle.format.specs.declared.View.{View}
-use Rattle.format.specs.Tools.{pick}
-use Rattle.format.specs.Signals.{BEYOND, refuse, orElse}
+use Rattle.format.specs.Tools.{pick, both}
+use Rattle.format.specs.Signals.{BEYOND, SMALL, refuse, orElse}
 use Rattle.format.specs.Answers.{Answer, refused, empty, given, rankSays, leaves}
 use Rattle.format.specs.Picture.{cells}
 use Rattle.format.specs.Stored.{stored, kept, rankAt}
-use Rattle.format.specs.Kinds.{settingAllowed}
+use Rattle.format.specs.Kinds.{codec, settingAllowed}
 use Rattle.format.specs.File.{HasFile, layout}
 use Rattle.format.specs.Accepted.{settingOf, dimensionsOf, emptyOf, wordsCount, positionsOf, keptOf, wordsOf, checkNumber, Checked}
 use Rattle.format.specs.Calls.{outNumber, settingNumber, writeSignal, changeSignal, writeNumber, changeNumber, writtenFile, changedFile, Wrote, Changed}
 use Rattle.format.specs.Lookups.{rankIn}
 use Rattle.format.specs.Opened.{viewOf, Free, number}
-use Rattle.laws.proofs.Tools.{cases}
+use Rattle.laws.proofs.Tools.{cases, both-true}
+use Rattle.laws.proofs.Settings.{setting}
 use Rattle.laws.proofs.Acceptance.{accepted, header-right, accepted-has-file}
 use Rattle.laws.proofs.Files.{positions-back, kept-back}
 use Rattle.laws.proofs.Calls.{setting-zero}
 use Rattle.header.specs.Search.{ViewOf, RankSearched}
+use Rattle.stores.specs.Put.{put}
+use Rattle.stores.proofs.Laws.{put-front}
 use Rattle.rewrite.specs.declared.Edit.{Edit}
 use Rattle.rewrite.specs.Edit.{edited, overlaid, EditOf, Writes, countBelow}
 use Rattle.rewrite.proofs.Edits.{keeping, keeping-positions, keeping-words, keeps, rank-below, adds, removes, replaces, same-word}
-use Rattle.archive.specs.Recoded.{wordsAfter, Recodes, Recoded}
+use Rattle.archive.specs.Recoded.{wordsAfter, Recodes, Recoded, Copied, sameSetting}
 use Rattle.archive.proofs.Making.{setting-later}
 use Rattle.archive.proofs.Recoding.{after-is, recodes}
 
@@ -149,6 +153,16 @@ module _ (b : List ℕ) (p w : ℕ) (before : List ℕ) where
 
 -- ---- change
 
+same-setting : (b : List ℕ) (s : Setting) (v : View) → v ≡ viewOf b → sameSetting s v ≡ true → s ≡ settingOf b
+unfolding sameSetting viewOf
+same-setting b s v e t =
+    let t1 = both-true (eqb (s .kind) (v .kind)) (both (eqb (s .width) (v .width)) (eqb (s .step) (v .step))) t in
+    let t2 = both-true (eqb (s .width) (v .width)) (eqb (s .step) (v .step)) (t1 .1) in
+    let k : s .kind ≡ settingOf b .kind = eqb-true (s .kind) (v .kind) (t1 .0) ∙ ap (λ (x : View). x .kind) e in
+    let w : s .width ≡ settingOf b .width = eqb-true (s .width) (v .width) (t2 .0) ∙ ap (λ (x : View). x .width) e in
+    let l : s .step ≡ settingOf b .step = eqb-true (s .step) (v .step) (t2 .1) ∙ ap (λ (x : View). x .step) e in
+    ap₂ (λ (x y : ℕ). setting x y (s .step)) k w ∙ ap (setting (settingOf b .kind) (settingOf b .width)) l
+
 module _ (b : List ℕ) (s : Setting) (before : List ℕ) where
   pub change-refused : (n : ℕ) → Checked b n → (n ≡ 0 → ⊥) → Changed b s before n before
   unfolding changeNumber
@@ -188,6 +202,47 @@ module _ (b : List ℕ) (s : Setting) (before : List ℕ) where
             number = r .number ∙ rw unchanged (sym (change-signal ∙ ap (λ (j : ℕ). orElse j out) t));
             left = r .left ∙ ap (λ (us : List ℕ). leaves n (layout s (dimensionsOf b) (emptyOf b) us) before) unchanged;
           }
+
+    -- the file's own setting
+    pub change-own : (v : View) → v ≡ viewOf b → sameSetting s v ≡ true → settingNumber s 0 ≡ 0 → (n : ℕ) (after : List ℕ) → Copied b before n after
+        → Changed b s before n after
+    unfolding changedFile outNumber
+    change-own v e t z n after r =
+        let f = accepted-has-file b h in
+        let own : s ≡ settingOf b = same-setting b s v e t in
+        let l : layout s (dimensionsOf b) (emptyOf b) (wordsOf b) ≡ b = ap (λ (x : Setting). layout x (dimensionsOf b) (emptyOf b) (wordsOf b)) own ∙ f .file in
+        let u : codec s .unfit (stored (emptyOf b) (wordsOf b)) ≡ false = ap (λ (x : Setting). codec x .unfit (stored (emptyOf b) (wordsOf b))) own ∙ f .fits in
+        record {
+          number =
+              r .number
+              ∙ sym (change-signal ∙ ap (λ (j : ℕ). orElse j out) z ∙ rw (u, l));
+          left = r .left ∙ ap (λ (us : List ℕ). leaves n us before) (sym l);
+        }
+
+-- the tests of the setting, as the code makes them
+module _ (s : Setting) (v : View) where
+  pub other-kind : (s .kind ≡ v .kind → ⊥) → false ≡ sameSetting s v
+  unfolding sameSetting
+  other-kind h = rw (ne-eqb (s .kind) (v .kind) h)
+
+  pub other-width : s .kind ≡ v .kind → (s .width ≡ v .width → ⊥) → false ≡ sameSetting s v
+  unfolding sameSetting
+  other-width k h = rw (eq-eqb (s .kind) (v .kind) k, ne-eqb (s .width) (v .width) h)
+
+  pub step-tells : s .kind ≡ v .kind → s .width ≡ v .width → eqb (s .step) (v .step) ≡ sameSetting s v
+  unfolding sameSetting
+  step-tells k w = rw (eq-eqb (s .kind) (v .kind) k, eq-eqb (s .width) (v .width) w)
+
+-- a copy
+pub copy-small : (b before : List ℕ) → length before < length b → Copied b before SMALL before
+copy-small b before h = record { number = rw (lt-ltb (length before) (length b) h); left = refl }
+
+pub copy-done : (b before after : List ℕ) → length b ≤ length before → after ≡ put before 0 (take (length b) (drop 0 b)) → Copied b before 0 after
+copy-done b before after h e =
+    record {
+      number = rw (le-ltb (length before) (length b) h);
+      left = e ∙ ap (put before 0) (take-length b) ∙ put-front before b h;
+    }
 
 -- ---- what the code knows of a checked file
 

@@ -1,9 +1,14 @@
 -- A checked file with one cell laid over it, put out in a setting: what write and change share. Assumes nothing.
 use Prim.Native.Nat.{ℕ}
 use mathlib.Core.Path.{_≡_}
+use mathlib.Core.Bool.{Bool}
 use mathlib.Core.List.{List}
 use lib.ListN.{length}
+use lib.Dec.{eqb, ltb}
 use Rattle.format.specs.declared.Setting.{Setting}
+use Rattle.format.specs.declared.View.{View}
+use Rattle.format.specs.Tools.{both}
+use Rattle.format.specs.Signals.{SMALL, refuse}
 use Rattle.format.specs.Answers.{leaves}
 use Rattle.format.specs.Picture.{cells}
 use Rattle.format.specs.Stored.{stored, kept, placed}
@@ -27,3 +32,12 @@ pub record Recodes (b : List ℕ) (x : Edit) (w : ℕ) : Type 0 where
 pub record Recoded (b : List ℕ) (x : Edit) (w : ℕ) (s : Setting) (before : List ℕ) (answer : ℕ) (after : List ℕ) : Type 0 where
   pub number : answer ≡ outNumber s (dimensionsOf b) (emptyOf b) (wordsAfter b x w) (length before)
   pub left : after ≡ leaves answer (layout s (dimensionsOf b) (emptyOf b) (wordsAfter b x w)) before
+
+-- a file's bytes as they are
+pub record Copied (b before : List ℕ) (answer : ℕ) (after : List ℕ) : Type 0 where
+  pub number : answer ≡ refuse SMALL (ltb (length before) (length b)) 0
+  pub left : after ≡ leaves answer b before
+
+-- the setting is the view's
+unfoldable pub sameSetting : Setting → View → Bool
+sameSetting s v = both (eqb (s .kind) (v .kind)) (both (eqb (s .width) (v .width)) (eqb (s .step) (v .step)))

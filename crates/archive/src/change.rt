@@ -2,10 +2,38 @@
 use super::check::check;
 use super::recode::recoded;
 use format::Setting;
+use format::View;
 use header::setting::setting_number;
 use header::view::read_view;
 use rewrite::Edit;
+use rewrite::words::copy;
+ghost use mathlib.Core.Path.{_≡_};
 ghost use Rattle.format.specs.Calls.{Changed};
+ghost use Rattle.archive.specs.Recoded.{Copied, sameSetting};
+
+// The setting is the view's.
+fn own_setting(s: Setting, v: View) -> bool
+    ensures { λ r. ⌜ r ≡ sameSetting s v ⌝ }
+{
+    if s.kind != v.kind {
+        return false;
+    }
+    if s.width != v.width {
+        return false;
+    }
+    s.step == v.step
+}
+
+// The file as it is: 10, or 0 with its bytes in the destination's first.
+fn copy_file(file: &[u8], dst: &mut [u8]) -> u32
+    ensures { λ r. ⌜ Copied (now (file .entry)) (now (dst .entry)) r (now (dst .exit)) ⌝ }
+{
+    if dst.len() < file.len() {
+        return 10;
+    }
+    copy(dst, 0, file, 0, file.len());
+    0
+}
 
 // 0 with the file of the same words in the setting s in the destination's first bytes; 1 to 6, then 2 and 3 of the new setting, then 9, 10.
 pub fn change(file: &[u8], s: Setting, dst: &mut [u8]) -> u32
@@ -20,6 +48,9 @@ pub fn change(file: &[u8], s: Setting, dst: &mut [u8]) -> u32
         return number;
     }
     let v = read_view(file);
+    if own_setting(s, v) {
+        return copy_file(file, dst);
+    }
     let all = Edit {
         before: v.words,
         put: false,
