@@ -1,1 +1,3 @@
 pub mod Common
+pub mod Turns
+pub mod Range

@@ -1,79 +1,80 @@
+use Prim.Native.Nat.{_+_, _*_, _≤_}
+use mathlib.Core.Path.{_≡_, refl, sym, ap, _∙_}
+use native.Mathlib.Omega.{arith}
+use lib.ListN.{length}
+use Rattle.format.specs.Opened.{viewOf}
+use Rattle.header.specs.View.{wordsPlace}
+use Rattle.handed.proofs.Range.{header-there, Ranged, ranged, no-part, part-given}
 use borrow.Author.Needs.{needs}
 use Rattle.handed.proofs.ranks.ranks.Statement.{statement}
 use Rattle.handed.proofs.ranks.ranks.Tie as tie
-use Rattle.handed.proofs.ranks.ranks.Reads as reads
-use Rattle.handed.proofs.ranks.ranks.Lts as lts
-use Rattle.handed.proofs.ranks.ranks_number.Reads as ranks-number-reads
-use Rattle.header.proofs.places.words_at.Reads as words-at-reads
-use Rattle.header.proofs.view.read_view.Reads as read-view-reads
 
--- src/ranks.rt:31:8
 ranks-number-requires : tie.Need-ranks-number-requires
 ranks-number-requires c κs = search needs
 
--- src/ranks.rt:32:16
 sub-result : tie.Need-sub-result
 sub-result c = search needs
 
--- src/ranks.rt:32:16
 part-result-start : tie.Need-part-result-start
 part-result-start c = search needs
 
--- src/ranks.rt:32:16
 part-result-end : tie.Need-part-result-end
 part-result-end c = search needs
 
--- src/ranks.rt:32:9
 returns : tie.Need-returns
-returns c = search needs
+returns c =
+    let a = c .before .before .before .before .args in
+    no-part (a .file) (a .a .0) (a .c .0) (c .before .before .ranks-number .result) _ (c .before .before .ranks-number .ensures) (c .before .if1 .taken) refl
 
--- src/ranks.rt:34:26
+-- the range lies in the file
+inside : (c : tie.After-ranks-number) → c .ranks-number .result ≡ 0 → Ranged (c .before .before .args .file .now) (c .before .before .args .a .0) (c .before .before .args .c .0)
+inside c z = let a = c .before .before .args in ranged (a .file .now) (a .a .0) (a .c .0) (sym (c .ranks-number .ensures) ∙ z)
+
 read-view-requires : tie.Need-read-view-requires
-read-view-requires c κs = search needs
+read-view-requires c κs = header-there (c .before .before .before .args .file .now) (inside (c .before) (c .if1 .left) .accepted)
 
--- src/ranks.rt:34:9
 words-at-requires : tie.Need-words-at-requires
 words-at-requires c κs = search needs
 
--- src/ranks.rt:35:28
+place : (c : tie.After-words-at) → c .words-at .result ≡ wordsPlace (viewOf (c .before .before .before .before .before .args .file .now))
+place c = c .words-at .ensures .0 ∙ ap wordsPlace (c .before .read-view .ensures)
+
+-- the words of the range are there
+ends : (c : tie.After-words-at)
+    → (c .before .before .before .before .before .args .a .0 ≤ c .before .before .before .before .before .args .c .0) × (c .words-at .result + 4 * c .before .before .before .before .before .args .c .0 ≤ length (c .before .before .before .before .before .args .file .now))
+ends c = let o = inside (c .before .before .before) (c .before .before .if1 .left) in (o .order, rw (place c) (o .inside))
+
 cast-from : tie.Need-cast-from
 cast-from c = search needs
 
--- src/ranks.rt:35:24
 mul-from : tie.Need-mul-from
 mul-from c = search needs
 
--- src/ranks.rt:35:16
 add-from : tie.Need-add-from
 add-from c = search needs
 
--- src/ranks.rt:36:26
 cast-to : tie.Need-cast-to
 cast-to c = search needs
 
--- src/ranks.rt:36:22
 mul-to : tie.Need-mul-to
 mul-to c = search needs
 
--- src/ranks.rt:36:14
 add-to : tie.Need-add-to
 add-to c = search needs
 
--- src/ranks.rt:37:5
 sub-result-2 : tie.Need-sub-result-2
-sub-result-2 c = search needs
+sub-result-2 c = let t = ends (c .before .before) in omega arith
 
--- src/ranks.rt:37:5
 part-result-start-2 : tie.Need-part-result-start-2
-part-result-start-2 c = search needs
+part-result-start-2 c = let t = ends (c .before .before) in omega arith
 
--- src/ranks.rt:37:5
 part-result-end-2 : tie.Need-part-result-end-2
-part-result-end-2 c = search needs
+part-result-end-2 c = let t = ends (c .before .before) in omega arith
 
--- src/ranks.rt:28:1
 returns-2 : tie.Need-returns-2
-returns-2 c = search needs
+returns-2 c =
+    let a = c .before .before .before .before .before .before .before .before .args in
+    part-given (a .file) (a .a .0) (a .c .0) (c .before .before .before .before .before .before .ranks-number .result) _ (c .before .before .before .before .before .before .ranks-number .ensures) (c .before .before .before .words-at .result) (c .before .before .before .before .before .if1 .left) (place (c .before .before .before)) refl refl
 
 pub ranks-spec : {M : Type 1} → statement M
 ranks-spec =

@@ -1,34 +1,40 @@
+use mathlib.Core.Path.{_≡_, sym, _∙_}
+use Rattle.format.specs.Accepted.{checkNumber}
+use Rattle.format.specs.RankRange.{ranksNumber}
+use Rattle.header.specs.Search.{ViewOf}
+use Rattle.handed.proofs.Range.{first-refused, header-there, range-crossed, range-beyond, range-inside}
 use borrow.Author.Needs.{needs}
 use Rattle.handed.proofs.ranks.ranks_number.Statement.{statement}
 use Rattle.handed.proofs.ranks.ranks_number.Tie as tie
-use Rattle.handed.proofs.ranks.ranks_number.Reads as reads
-use Rattle.handed.proofs.ranks.ranks_number.Lts as lts
-use Rattle.archive.proofs.check.check.Reads as check-reads
-use Rattle.header.proofs.view.read_view.Reads as read-view-reads
 
--- src/ranks.rt:13:9
 check-requires : tie.Need-check-requires
 check-requires c κs = search needs
 
--- src/ranks.rt:15:9
 returns : tie.Need-returns
-returns c = search needs
+unfolding ranksNumber
+returns c = first-refused (c .before .check .result) (checkNumber (c .before .before .before .args .file .now)) _ (c .before .check .ensures .number) (c .if1 .taken)
 
--- src/ranks.rt:17:9
 read-view-requires : tie.Need-read-view-requires
-read-view-requires c κs = search needs
+read-view-requires c κs = header-there (c .before .before .before .args .file .now) (sym (c .before .check .ensures .number) ∙ c .if1 .left)
 
--- src/ranks.rt:19:9
+-- the view is that of an accepted file
+view : (c : tie.After-read-view) → ViewOf (c .before .before .before .before .args .file .now) (c .read-view .result)
+view c = record { accepted = sym (c .before .before .check .ensures .number) ∙ c .before .if1 .left; view = c .read-view .ensures }
+
 returns-2 : tie.Need-returns-2
-returns-2 c = search needs
+returns-2 c =
+    let a = c .before .before .before .before .before .before .before .args in
+    range-crossed (a .file .now) _ (view (c .before .before .before)) (a .a .0) (a .c .0) (c .if2 .taken)
 
--- src/ranks.rt:22:9
 returns-3 : tie.Need-returns-3
-returns-3 c = search needs
+returns-3 c =
+    let a = c .before .before .before .before .before .before .before .before .before .before .args in
+    range-beyond (a .file .now) _ (view (c .before .before .before .before .before .before)) (a .a .0) (a .c .0) (c .before .before .before .if2 .left) (c .if3 .taken)
 
--- src/ranks.rt:10:1
 returns-4 : tie.Need-returns-4
-returns-4 c = search needs
+returns-4 c =
+    let a = c .before .before .before .before .before .before .before .before .before .before .args in
+    range-inside (a .file .now) _ (view (c .before .before .before .before .before .before)) (a .a .0) (a .c .0) (c .before .before .before .if2 .left) (c .if3 .left)
 
 pub ranks-number-spec : {M : Type 1} → statement M
 ranks-number-spec =

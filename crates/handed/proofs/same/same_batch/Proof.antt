@@ -1,54 +1,58 @@
+use Prim.Native.Nat.{_-_, _≤_}
+use mathlib.Core.Path.{_≡_, refl, _∙_}
+use native.Mathlib.Omega.{arith}
+use lib.ListN.{length, drop}
+use Rattle.format.specs.Tools.{same}
+use Rattle.handed.proofs.Turns.{elements-differ, elements-agree, elements-over}
 use borrow.Author.Needs.{needs}
 use Rattle.handed.proofs.same.same_batch.Statement.{statement}
 use Rattle.handed.proofs.same.same_batch.Tie as tie
-use Rattle.handed.proofs.same.same_batch.Reads as reads
-use Rattle.handed.proofs.same.same_batch.Lts as lts
 
 abbrev Inv-loop : tie.InvT-loop
-Inv-loop first second i₀ i = ?
+Inv-loop first second i₀ i = (i ≤ length first) × (same (drop i first) (drop i second) ≡ same first second)
 
 abbrev μ-loop : tie.MeasureT-loop
-μ-loop first second i₀ i = ?
+μ-loop first second i₀ i = length first - i
 
--- src/same.rt:62:5
 loop-holds : tie.Need-loop-holds Inv-loop μ-loop
-loop-holds c = search needs
+loop-holds c = (omega arith, refl)
 
--- src/same.rt:63:12
 mul-if1 : tie.Need-mul-if1 Inv-loop μ-loop
 mul-if1 c = search needs
 
--- src/same.rt:63:12
 shared-slice-read-if1 : tie.Need-shared-slice-read-if1 Inv-loop μ-loop
 shared-slice-read-if1 c = search needs
 
--- src/same.rt:63:24
 mul-if1-2 : tie.Need-mul-if1-2 Inv-loop μ-loop
 mul-if1-2 c = search needs
 
--- src/same.rt:63:24
 shared-slice-read-if1-2 : tie.Need-shared-slice-read-if1-2 Inv-loop μ-loop
-shared-slice-read-if1-2 c = search needs
+shared-slice-read-if1-2 c = let h = c .before .before .before .before .pre in let k = c .before .before .loop-test .taken in omega arith
 
--- src/same.rt:64:13
 returns : tie.Need-returns Inv-loop μ-loop
-returns c = search needs
+returns c =
+    let s = c .before .before .before .before .before in
+    let l = c .before .before .before .before .loop in
+    elements-differ (s .args .first .now) (s .args .second .now) (l .i) (s .pre) (c .before .before .before .loop-test .taken) (c .if1 .taken) ∙ l .inv .1
 
--- src/same.rt:66:9
 add-i : tie.Need-add-i Inv-loop μ-loop
 add-i c = search needs
 
--- src/same.rt:62:5
 loop-less : tie.Need-loop-less Inv-loop μ-loop
 loop-less c = search needs
 
--- src/same.rt:62:5
 loop-again : tie.Need-loop-again Inv-loop μ-loop
-loop-again c = search needs
+loop-again c =
+    let s = c .before .before .before .before .before in
+    let l = c .before .before .before .before .loop in
+    let h = c .before .before .before .loop-test .taken in
+    (omega arith, elements-agree (s .args .first .now) (s .args .second .now) (l .i) (s .pre) h (c .if1 .left) ∙ l .inv .1)
 
--- src/same.rt:57:1
 returns-2 : tie.Need-returns-2 Inv-loop μ-loop
-returns-2 c = search needs
+returns-2 c =
+    let s = c .before .before in
+    let l = c .before .loop in
+    elements-over (s .args .first .now) (s .args .second .now) (l .i) (s .pre) (c .loop-test .left) ∙ l .inv .1
 
 pub same-batch-spec : {M : Type 1} → statement M
 same-batch-spec =
