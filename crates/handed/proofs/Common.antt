@@ -7,7 +7,7 @@ use native.Mathlib.Omega.{arith}
 use lib.ListN.{length, getD, take, drop}
 use lib.Seq.{drop-drop}
 use lib.Dec.{eqb}
-use borrow.Author.Tests.{eqb-true, eq-eqb}
+use borrow.Author.Tests.{eqb-true, eq-eqb, ne-eqb}
 use Rattle.format.specs.declared.Dimensions.{Dimensions}
 use Rattle.format.specs.Tools.{both, same}
 use Rattle.format.specs.Bytes.{field, numbersOf}
@@ -63,6 +63,14 @@ module _ (b₁ b₂ : List ℕ) where
         count = sym (numbers-at 4 6 4 5 b₁ (omega arith)) ∙ ap (λ (l : List ℕ). getD l 5 0) e ∙ numbers-at 4 6 4 5 b₂ (omega arith);
       }
 
+  pub count-differs : (field 1 1 b₁ ≡ field 1 1 b₂ → ⊥) → false ≡ sameHeader b₁ b₂
+  unfolding sameHeader
+  count-differs h = rw (ne-eqb (field 1 1 b₁) (field 1 1 b₂) h)
+
+  pub count-agrees : (q : Bool) → field 1 1 b₁ ≡ field 1 1 b₂ → q ≡ same (numbered b₁) (numbered b₂) → q ≡ sameHeader b₁ b₂
+  unfolding sameHeader
+  count-agrees q h e = rw (eq-eqb (field 1 1 b₁) (field 1 1 b₂) h) e
+
   alike-numbers : Alike b₁ b₂ → numbered b₁ ≡ numbered b₂
   alike-numbers a =
       header-numbers b₁
@@ -108,3 +116,13 @@ module _ (b₁ b₂ : List ℕ) where
 
     pub one-picture : compared ≡ samePicture b₁ b₂
     one-picture = by-both compared (samePicture b₁ b₂) compared-picture picture-compared
+
+    -- what each comparison says
+    pub other-header : sameHeader b₁ b₂ ≡ false → false ≡ samePicture b₁ b₂
+    other-header h = rw h at one-picture
+
+    pub other-words : sameHeader b₁ b₂ ≡ true → same (keptOf b₁) (keptOf b₂) ≡ false → false ≡ samePicture b₁ b₂
+    other-words h k = rw (h, k) at one-picture
+
+    pub by-positions : sameHeader b₁ b₂ ≡ true → same (keptOf b₁) (keptOf b₂) ≡ true → same (positionsOf b₁) (positionsOf b₂) ≡ samePicture b₁ b₂
+    by-positions h k = rw (h, k) at one-picture

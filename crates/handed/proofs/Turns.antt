@@ -6,7 +6,7 @@ use mathlib.Core.List.{List, [], _∷_}
 use native.Mathlib.Numerals.{add-one}
 use native.Mathlib.Omega.{arith}
 use lib.ListN.{length, getD, take, drop, drop-of-length-le}
-use lib.Seq.{drop-cons}
+use lib.Seq.{drop-cons, drop-drop}
 use lib.Dec.{eqb}
 use borrow.Author.Tests.{eq-eqb, ne-eqb}
 use Rattle.format.specs.Tools.{both, same}
@@ -49,3 +49,14 @@ same-cut (suc n) [] [] = refl
 same-cut (suc n) [] (y ∷ ys) = refl
 same-cut (suc n) (x ∷ xs) [] = refl
 same-cut (suc n) (x ∷ xs) (y ∷ ys) = cases (eqb x y) (λ e. rw e (same-cut n xs ys)) (λ e. rw e)
+
+-- q says whether the batches xs and ys, of n from r on, are the same
+module _ (ps qs : List ℕ) (r n : ℕ) (q : Bool) (xs ys : List ℕ) (here : xs ≡ take n (drop r ps)) (there : ys ≡ take n (drop r qs)) (e : q ≡ same xs ys) where
+  batch-first : both q (same (drop (r + n) ps) (drop (r + n) qs)) ≡ same (drop r ps) (drop r qs)
+  batch-first = rw (e, here, there, ← drop-drop n r ps, ← drop-drop n r qs) (sym (same-cut n (drop r ps) (drop r qs)))
+
+  pub batch-differs : q ≡ false → false ≡ same (drop r ps) (drop r qs)
+  batch-differs z = rw z at batch-first
+
+  pub batch-agrees : q ≡ true → same (drop (r + n) ps) (drop (r + n) qs) ≡ same (drop r ps) (drop r qs)
+  batch-agrees z = rw z at batch-first
