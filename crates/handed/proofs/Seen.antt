@@ -1,7 +1,7 @@
 -- What the views of two accepted files with the same N say of their words and positions. Assumes nothing.
 use Prim.Native.Nat.{ℕ, _+_, _*_, _≤_}
 use mathlib.Core.Path.{_≡_, sym, ap, ap₂, _∙_}
-use mathlib.Core.Bool.{Bool}
+use mathlib.Core.Bool.{Bool, true}
 use mathlib.Core.List.{List}
 use native.Mathlib.Omega.{arith}
 use lib.ListN.{length, drop}
@@ -14,7 +14,8 @@ use Rattle.header.specs.View.{wordsPlace}
 use Rattle.header.specs.Search.{ViewOf}
 use Rattle.header.proofs.Frame.{framed}
 use Rattle.scatter.proofs.Turn.{words-seen, size-seen, as-long}
-use Rattle.handed.specs.Pair.{Views}
+use Rattle.handed.specs.Pair.{sameHeader, Views}
+use Rattle.handed.proofs.Common.{header-alike}
 use Rattle.handed.proofs.Turns.{agree}
 
 -- the stored words by the view
@@ -23,6 +24,10 @@ unfolding keptOf
 kept-seen b v o =
     let w : wordsPlace v ≡ wordsAt b = ap wordsPlace (o .view) ∙ sym (framed b (accepted b (o .accepted) .header) .words-at) in
     ap₂ (λ (n at : ℕ). numbersOf 4 n (drop at b)) (words-seen b v o) w
+
+-- two accepted files with the same header
+pub both-seen : (b₁ : List ℕ) (v : View) (b₂ : List ℕ) (w : View) → ViewOf b₁ v → ViewOf b₂ w → sameHeader b₁ b₂ ≡ true → Views b₁ v b₂ w
+both-seen b₁ v b₂ w o p h = record { first = o; second = p; count = words-seen b₁ v o ∙ header-alike b₁ b₂ h .count ∙ sym (words-seen b₂ w p) }
 
 module _ (b₁ : List ℕ) (v : View) (b₂ : List ℕ) (w : View) (o : Views b₁ v b₂ w) where
   pub count-first : v .words ≡ wordsCount b₁

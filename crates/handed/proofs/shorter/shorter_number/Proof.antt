@@ -1,38 +1,46 @@
+use mathlib.Core.Path.{_≡_, sym, _∙_}
+use borrow.Author.Tests.{not-true, not-false}
+use Rattle.format.specs.Accepted.{checkNumber}
+use Rattle.handed.proofs.Choice.{first-number, second-number, other-picture, same-picture}
 use borrow.Author.Needs.{needs}
 use Rattle.handed.proofs.shorter.shorter_number.Statement.{statement}
 use Rattle.handed.proofs.shorter.shorter_number.Tie as tie
-use Rattle.handed.proofs.shorter.shorter_number.Reads as reads
-use Rattle.handed.proofs.shorter.shorter_number.Lts as lts
-use Rattle.archive.proofs.check.check.Reads as check-reads
-use Rattle.handed.proofs.same.same_picture.Reads as same-picture-reads
 
--- src/shorter.rt:11:9
 check-requires : tie.Need-check-requires
 check-requires c κs = search needs
 
--- src/shorter.rt:13:9
 returns : tie.Need-returns
-returns c = search needs
+returns c =
+    let a = c .before .before .before .before .args in
+    first-number (a .first .now) (a .second .now) (c .before .check .result) (c .before .check .ensures .number) (c .if1 .taken)
 
--- src/shorter.rt:15:9
 check-requires-2 : tie.Need-check-requires-2
 check-requires-2 c κs = search needs
 
--- src/shorter.rt:17:9
+-- the first file is accepted
+first-right : (c : tie.After-check2) → checkNumber (c .before .before .before .before .before .args .first .now) ≡ 0
+first-right c = sym (c .before .before .check .ensures .number) ∙ c .before .if1 .left
+
+second-right : (c : tie.After-check2) → c .check2 .result ≡ 0 → checkNumber (c .before .before .before .before .before .args .second .now) ≡ 0
+second-right c z = sym (c .check2 .ensures .number) ∙ z
+
 returns-2 : tie.Need-returns-2
-returns-2 c = search needs
+returns-2 c =
+    let a = c .before .before .before .before .before .before .args in
+    second-number (a .first .now) (a .second .now) (first-right (c .before)) (c .before .check2 .result) (c .before .check2 .ensures .number) (c .if2 .taken)
 
--- src/shorter.rt:19:9
 same-picture-requires : tie.Need-same-picture-requires
-same-picture-requires c κs = search needs
+same-picture-requires c κs = (first-right (c .before), second-right (c .before) (c .if2 .left))
 
--- src/shorter.rt:20:9
 returns-3 : tie.Need-returns-3
-returns-3 c = search needs
+returns-3 c =
+    let a = c .before .before .before .before .before .before .before .before .args in
+    other-picture (a .first .now) (a .second .now) (first-right (c .before .before .before)) (second-right (c .before .before .before) (c .before .before .if2 .left)) (c .before .same-picture .result) (c .before .same-picture .ensures) (not-true _ (c .if3 .taken))
 
--- src/shorter.rt:8:1
 returns-4 : tie.Need-returns-4
-returns-4 c = search needs
+returns-4 c =
+    let a = c .before .before .before .before .before .before .before .before .args in
+    same-picture (a .first .now) (a .second .now) (first-right (c .before .before .before)) (second-right (c .before .before .before) (c .before .before .if2 .left)) (c .before .same-picture .result) (c .before .same-picture .ensures) (not-false _ (c .if3 .left))
 
 pub shorter-number-spec : {M : Type 1} → statement M
 shorter-number-spec =
