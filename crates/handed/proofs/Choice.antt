@@ -1,6 +1,6 @@
 -- The number of two files, and the file that is handed back. Assumes nothing.
 use Prim.Native.Nat.{ℕ, _≤_, _<_}
-use mathlib.Core.Path.{_≡_, refl, sym, _∙_}
+use mathlib.Core.Path.{_≡_, _∙_}
 use mathlib.Core.Bool.{Bool, true, false}
 use mathlib.Core.List.{List, []}
 use lib.ListN.{length}
@@ -8,7 +8,7 @@ use denote.Ref.{RefT, now}
 use borrow.Author.Tests.{lt-ltb, le-ltb, ne-eqb}
 use Rattle.format.specs.Signals.{OTHER}
 use Rattle.format.specs.Accepted.{checkNumber}
-use Rattle.format.specs.Shorter.{samePicture, shorterNumber, shorterOf, ShorterPart}
+use Rattle.format.specs.Shorter.{samePicture, shorterNumber, ShorterPart}
 use Rattle.handed.proofs.Range.{first-refused}
 
 -- ---- the number

@@ -1,5 +1,5 @@
 -- Two accepted files are of one picture exactly when header, stored words and stored positions agree. Assumes nothing.
-use Prim.Native.Nat.{ℕ, zero, suc, _+_, _-_, _*_, _≤_, _<_}
+use Prim.Native.Nat.{ℕ}
 use mathlib.Core.Path.{_≡_, refl, sym, ap, ap₂, _∙_}
 use mathlib.Core.Bool.{Bool, true, false}
 use mathlib.Core.List.{List, [], _∷_, _++_}
@@ -11,8 +11,7 @@ use borrow.Author.Tests.{eqb-true, eq-eqb, ne-eqb}
 use Rattle.format.specs.declared.Dimensions.{Dimensions}
 use Rattle.format.specs.Tools.{both, same}
 use Rattle.format.specs.Bytes.{field, numbersOf}
-use Rattle.format.specs.Picture.{cells}
-use Rattle.format.specs.Stored.{placed, stored, kept}
+use Rattle.format.specs.Stored.{stored, kept}
 use Rattle.format.specs.Accepted.{dimensionsOf, emptyOf, wordsCount, positionsOf, keptOf, wordsOf, checkNumber}
 use Rattle.format.specs.Shorter.{samePicture}
 use Rattle.laws.proofs.Tools.{both-true, both-make, same-refl, same-true}

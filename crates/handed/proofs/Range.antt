@@ -1,25 +1,26 @@
 -- The number of a range of ranks, and the part that is handed back. Assumes nothing.
 use Prim.Native.Nat.{ℕ, zero, suc, _+_, _-_, _*_, _≤_, _<_}
-use mathlib.Core.Path.{_≡_, refl, sym, ap, _∙_}
-use mathlib.Core.Bool.{Bool, true, false, not}
+use mathlib.Core.Path.{_≡_, refl, sym, _∙_}
+use mathlib.Core.Bool.{not}
 use mathlib.Core.List.{List, []}
 use native.Mathlib.Omega.{arith}
 use lib.ListN.{length, take, drop}
-use lib.Dec.{leb, eqb}
+use lib.Dec.{leb}
 use denote.Ref.{RefT, now, ptr}
 use borrow.Author.Tests.{leb-true, le-leb, lt-leb, ne-eqb}
 use Rattle.format.specs.declared.View.{View}
-use Rattle.format.specs.Tools.{pick, both}
+use Rattle.format.specs.Tools.{both}
 use Rattle.format.specs.Signals.{BEYOND, orElse}
 use Rattle.format.specs.Accepted.{wordsCount, wordsAt, checkNumber}
-use Rattle.format.specs.RankRange.{IsPart, ranksNumber, ranksFrom, ranksBytes, RanksPart}
+use Rattle.format.specs.RankRange.{ranksNumber, ranksFrom, ranksBytes, RanksPart}
 use Rattle.format.specs.Opened.{viewOf}
 use Rattle.laws.proofs.Tools.{both-true, not-false, refuse-zero, orElse-zero}
-use Rattle.laws.proofs.Acceptance.{accepted, header-right}
+use Rattle.laws.proofs.Acceptance.{accepted}
 use Rattle.header.specs.View.{wordsPlace}
 use Rattle.header.specs.Search.{ViewOf}
-use Rattle.header.proofs.Frame.{Framed, framed}
+use Rattle.header.proofs.Frame.{framed}
 use Rattle.scatter.proofs.Turn.{words-seen}
+use Rattle.archive.proofs.Answers.{whole-header}
 
 -- a first refusal
 pub first-refused : (n m later : ℕ) → n ≡ m → (n ≡ 0 → ⊥) → n ≡ orElse m later
@@ -27,7 +28,7 @@ first-refused zero m later e h = absurd (h refl)
 first-refused (suc n) m later e h = rw (← e)
 
 pub header-there : (b : List ℕ) → checkNumber b ≡ 0 → 52 ≤ length b
-header-there b h = header-right b (accepted b h .header) .long
+header-there b h = whole-header b (checkNumber b) (record { number = refl }) h
 
 -- ---- the number
 
@@ -68,15 +69,13 @@ module _ (x : RefT (List ℕ)) (a c n : ℕ) (r : RefT (List ℕ)) (number : n �
   pub no-part : (n ≡ 0 → ⊥) → now r ≡ [] → RanksPart x a c r
   no-part h e = record { bytes = rw (← number, ne-eqb n 0 h) e; own = λ z. absurd (h (number ∙ z)) }
 
-  pub part-given : (at : ℕ) → n ≡ 0 → at ≡ wordsPlace (viewOf (now x)) → ptr r ≡ (ptr x .0, at + 4 * a + ptr x .1)
-      → now r ≡ take (at + 4 * c - (at + 4 * a)) (drop (at + 4 * a) (now x)) → RanksPart x a c r
+  pub part-given : (from to : ℕ) → n ≡ 0 → from ≡ wordsPlace (viewOf (now x)) + 4 * a → to ≡ wordsPlace (viewOf (now x)) + 4 * c
+      → ptr r ≡ (ptr x .0, from + ptr x .1) → now r ≡ take (to - from) (drop from (now x)) → RanksPart x a c r
   unfolding ranksBytes ranksFrom
-  part-given at z e place bytes =
+  part-given from to z e f place bytes =
       let o = ranged (now x) a c (sym number ∙ z) in
-      let s : at + 4 * c - (at + 4 * a) ≡ 4 * (c - a) = size (o .order) in
-      let w : at ≡ wordsAt (now x) = e ∙ sym (o .words-at) in
+      let h = o .order in
+      let s : to - from ≡ 4 * (c - a) = omega arith in
+      let w : from ≡ wordsAt (now x) + 4 * a = rw (o .words-at) e in
       let t : now r ≡ take (4 * (c - a)) (drop (wordsAt (now x) + 4 * a) (now x)) = rw (s, w) at bytes in
       record { bytes = rw (← number, z) t; own = λ y. record { place = rw w at place; bytes = t } }
-    where
-      size : a ≤ c → at + 4 * c - (at + 4 * a) ≡ 4 * (c - a)
-      size h = omega arith

@@ -1,4 +1,4 @@
-use mathlib.Core.Path.{_≡_, sym, _∙_}
+use mathlib.Core.Path.{sym, _∙_}
 use Rattle.format.specs.Accepted.{checkNumber}
 use Rattle.format.specs.RankRange.{ranksNumber}
 use Rattle.header.specs.Search.{ViewOf}

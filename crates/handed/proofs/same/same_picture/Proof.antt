@@ -5,7 +5,6 @@ use Rattle.handed.specs.Pair.{sameHeader, Views}
 use Rattle.handed.proofs.Common.{other-header, other-words, by-positions}
 use Rattle.handed.proofs.Range.{header-there}
 use Rattle.handed.proofs.Seen.{both-seen}
-use borrow.Author.Needs.{needs}
 use Rattle.handed.proofs.same.same_picture.Statement.{statement}
 use Rattle.handed.proofs.same.same_picture.Tie as tie
 
