@@ -1,4 +1,4 @@
 // Parts of the caller's own files, handed back without a copy (document 01, "The calls").
 pub mod ranks;
-pub mod same;
+mod same;
 pub mod shorter;
