@@ -19,19 +19,20 @@ fn edit_of(file: &[u8], v: View, p: Position, word: u32) -> Edit
     requires { ⌜ ViewOf (now file) v × (p .0 < v .cells) ⌝ }
     ensures { λ r. ⌜ Writes (now (file .entry)) (p .0) word r ⌝ }
 {
+    let put = word != v.empty;
     let answer = rank_in(file, v, p);
     let RankAnswer::Rank(rank) = answer else {
         let below = ranks_below(file, v, p.0);
         return Edit {
             before: below,
-            put: word != v.empty,
+            put,
             position: p.0,
             after: below,
         };
     };
     Edit {
         before: rank.0,
-        put: word != v.empty,
+        put,
         position: p.0,
         after: rank.0 + 1,
     }

@@ -1,0 +1,5 @@
+pub mod Common
+pub mod Turns
+pub mod Range
+pub mod Seen
+pub mod Choice
