@@ -29,16 +29,16 @@ returns : tie.Need-returns
 returns c =
     let g = c .before .before .before .before .before .args in
     let w = c .before .before .before .before .before .pre in
-    let a = empty-there (g .file .now) (g .v) (w .0) (g .p .0) (g .word) (w .1) (c .before .before .before .rank-in .result) (c .before .before .match .keys2) (c .before .before .before .rank-in .ensures) in
-    edit-empty (g .file .now) (g .v) (w .0) (g .p .0) (g .word) (w .1) a _ (c .before .ranks-below .ensures) _ refl
+    let a = empty-there (g .file .now) (g .v) (w .0) (g .p .0) (g .word) (w .1) (c .before .before .rank-in .result) (c .before .match .keys2) (c .before .before .rank-in .ensures) in
+    edit-empty (g .file .now) (g .v) (w .0) (g .p .0) (g .word) (w .1) a _ (c .ranks-below .ensures) _ refl
 
 -- src/write.rt:36:16
-add-t10 : tie.Need-add-t10
-add-t10 c =
+add-t9 : tie.Need-add-t9
+add-t9 c =
     let g = c .before .before .before .before .before .before .before .args in
     let w = c .before .before .before .before .before .before .before .pre in
-    let r = c .before .before .before .before .before .rank-in in
-    let h = rank-small (g .file .now) (g .v) (g .p .0) _ (subst (λ (a : RankAnswer). RankSearched (g .file .now) (g .v) (g .p .0) (rankSays a)) (c .before .before .before .answer .given .1) (r .ensures)) in
+    let r = c .before .before .before .before .rank-in in
+    let h = rank-small (g .file .now) (g .v) (g .p .0) _ (subst (λ (a : RankAnswer). RankSearched (g .file .now) (g .v) (g .p .0) (rankSays a)) (c .before .before .answer .given .1) (r .ensures)) in
     let f = c .before .before .before .before .before .before .before .fits in
     omega arith
 
@@ -47,11 +47,11 @@ returns-2 : tie.Need-returns-2
 returns-2 c =
     let g = c .before .before .before .before .before .before .before .args in
     let w = c .before .before .before .before .before .before .before .pre in
-    let r = c .before .before .before .before .before .rank-in in
-    let t = subst (λ (a : RankAnswer). RankSearched (g .file .now) (g .v) (g .p .0) (rankSays a)) (c .before .before .before .answer .given .1) (r .ensures) in
+    let r = c .before .before .before .before .rank-in in
+    let t = subst (λ (a : RankAnswer). RankSearched (g .file .now) (g .v) (g .p .0) (rankSays a)) (c .before .before .answer .given .1) (r .ensures) in
     edit-stored (g .file .now) (g .v) (w .0) (g .p .0) (g .word) (w .1) _ (stored-there (g .file .now) (g .v) (w .0) (g .p .0) (g .word) (w .1) _ t) _ refl
 
 pub edit-of-spec : {M : Type 1} → statement M
 edit-of-spec =
     tie.close
-    (tie.spec rank-in-requires enum-known-answer ranks-below-requires returns add-t10 returns-2)
+    (tie.spec rank-in-requires enum-known-answer ranks-below-requires returns add-t9 returns-2)
