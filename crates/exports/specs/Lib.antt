@@ -1,3 +1,4 @@
 pub mod Code
 pub mod Extents
+pub mod Handed
 pub mod Unchecked

@@ -1,0 +1,71 @@
+// Coordinates to position and back.
+use crate::code::code_and_value;
+use crate::code::position_code;
+use crate::extents::four;
+use format::Dimensions;
+use format::Position;
+use header::coordinates::coordinates_at;
+use header::coordinates::position_at;
+use header::extents::cell_count;
+ghost use mathlib.Core.Path.{_≡_};
+ghost use mathlib.Core.List.{_++_};
+ghost use Prim.Native.Nat.{_≤_};
+ghost use lib.ListN.{length, drop};
+ghost use Rattle.format.specs.Coordinates.{PositionOf};
+ghost use Rattle.exports.specs.Code.{Coded};
+ghost use Rattle.exports.specs.Extents.{dimensions, CoordinatesOut};
+
+// The position of coordinates. Extents that are not four numbers are 4; coordinates that are not four are 8.
+#[no_mangle]
+pub extern "C" fn ra_coordinates_position(dims: u32, extents: &[u32], at: &[u32]) -> u64
+    ensures { λ r. ⌜ Coded (PositionOf (dimensions dims (now (extents .entry))) (now (at .entry))) r ⌝ }
+{
+    if extents.len() != 4 {
+        return code_and_value(4, 0);
+    }
+    let d = Dimensions {
+        count: dims,
+        extents: four(extents),
+    };
+    if cell_count(d) == 0 {
+        return code_and_value(4, 0);
+    }
+    if at.len() != 4 {
+        return code_and_value(8, 0);
+    }
+    position_code(position_at(d, four(at)))
+}
+
+// Four numbers into a destination's first elements.
+fn put_four(numbers: [u32; 4], dst: &mut [u32])
+    requires { ⌜ 4 ≤ length (now dst) ⌝ }
+    ensures { λ _. ⌜ now (dst .exit) ≡ numbers ++ drop 4 (now (dst .entry)) ⌝ }
+{
+    dst[0] = numbers[0];
+    dst[1] = numbers[1];
+    dst[2] = numbers[2];
+    dst[3] = numbers[3];
+}
+
+// The coordinates of a position, four numbers. Extents that are not four numbers are 4; a destination shorter than four is 10.
+#[no_mangle]
+pub extern "C" fn ra_position_coordinates(dims: u32, extents: &[u32], place: u32, dst: &mut [u32]) -> u32
+    ensures { λ r. ⌜ CoordinatesOut (dimensions dims (now (extents .entry))) place (now (dst .entry)) r (now (dst .exit)) ⌝ }
+{
+    if extents.len() != 4 {
+        return 4;
+    }
+    let d = Dimensions {
+        count: dims,
+        extents: four(extents),
+    };
+    let c = coordinates_at(d, Position(place));
+    if c.number != 0 {
+        return c.number;
+    }
+    if dst.len() < 4 {
+        return 10;
+    }
+    put_four(c.at, dst);
+    0
+}
