@@ -113,7 +113,7 @@ count-all d low high l h = rw (allowed-as d low high l h, one-mul (boxCount (d .
 
 -- ---- as many as the positions of the box
 
-length-range : (a n : ℕ) → length (range a n) ≡ n
+pub length-range : (a n : ℕ) → length (range a n) ≡ n
 unfolding range
 length-range a zero = refl
 length-range a (suc n) = ap suc (length-range (suc a) n)

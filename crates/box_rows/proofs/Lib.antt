@@ -1,2 +1,4 @@
 pub mod Counted
 pub mod Resumed
+pub mod Rows
+pub mod Turns

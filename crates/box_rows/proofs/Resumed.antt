@@ -66,6 +66,9 @@ module _ (b : List ℕ) (v : View) (o : ViewOf b v) where
   pub cells-seen : v .cells ≡ cells (dimensionsOf b)
   cells-seen = ap (λ (x : View). x .cells) (o .view) ∙ frame .cells
 
+  pub cells-few : v .cells ≤ 16777216
+  cells-few = omega (arith, cells-seen, frame .cells, frame .cells-most)
+
   words-seen : v .words ≡ wordsCount b
   unfolding viewOf
   words-seen = ap (λ (x : View). x .words) (o .view)
