@@ -2,3 +2,4 @@ pub mod Counted
 pub mod Resumed
 pub mod Rows
 pub mod Turns
+pub mod Whole

@@ -33,7 +33,7 @@ unfolding wordsOn
 words-append b [] ys = refl
 words-append b (x ∷ xs) ys = ap (λ (l : List ℕ). getD (wordsOf b) x 0 ∷ l) (words-append b xs ys)
 
-length-words-on : (b ps : List ℕ) → length (wordsOn b ps) ≡ length ps
+pub length-words-on : (b ps : List ℕ) → length (wordsOn b ps) ≡ length ps
 unfolding wordsOn
 length-words-on b ps = length-map ps _
 

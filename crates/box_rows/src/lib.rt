@@ -4,6 +4,7 @@ pub mod resume;
 
 use cursor::Cursor;
 use cursor::start;
+use format::Dimensions;
 use format::Position;
 use format::RankAnswer;
 use format::View;
@@ -11,9 +12,14 @@ use header::places::words_at;
 use resume::rank_from;
 use wire::load_u32;
 ghost use mathlib.Core.Path.{_≡_};
+ghost use mathlib.Core.Bool.{true};
 ghost use Prim.Native.Nat.{_+_, _-_, _*_, _≤_, _<_, _^_};
 ghost use lib.ListN.{length, drop};
-ghost use Rattle.format.specs.Tools.{range};
+ghost use Rattle.format.specs.Answers.{leaves};
+ghost use Rattle.format.specs.Accepted.{dimensionsOf};
+ghost use Rattle.format.specs.Box.{boxAllowed, boxWords};
+ghost use Rattle.header.specs.Search.{ViewOf};
+ghost use Rattle.box_rows.specs.Bounds.{boxCount};
 ghost use Rattle.box_rows.specs.Filling.{RowGoes, RowFilled, BoxGoes, BoxFilled};
 
 // How far a box is put out: the cursor, and the words that the destination has.
@@ -87,4 +93,17 @@ fn put_from(
         a += 1;
     }
     s
+}
+
+// The words of an allowed box into the destination's first elements.
+pub fn put_box(file: &[u8], v: View, d: Dimensions, low: [u32; 4], high: [u32; 4], dst: &mut [u32])
+    requires { ⌜ ViewOf (now file) v × (d ≡ dimensionsOf (now file)) × (boxAllowed d low high ≡ true) × (boxCount (d .extents) low high ≤ length (now dst)) ⌝ }
+    ensures { λ _. ⌜ now (dst .exit) ≡ leaves 0 (boxWords (now (file .entry)) low high) (now (dst .entry)) ⌝ }
+{
+    let extents = d.extents;
+    let s = Filled {
+        cursor: start(file, v),
+        words: 0,
+    };
+    put_from(file, v, extents, low, high, 0, 0, s, dst);
 }
