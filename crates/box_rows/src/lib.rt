@@ -79,17 +79,7 @@ fn put_from(
         return put_row(file, v, s, before + a, last - a + 1, dst);
     }
     while a <= last {
-        s = put_from(
-            file,
-            v,
-            extents,
-            low,
-            high,
-            i + 1,
-            before + a,
-            s,
-            dst,
-        );
+        s = put_from(file, v, extents, low, high, i + 1, before + a, s, dst);
         a += 1;
     }
     s

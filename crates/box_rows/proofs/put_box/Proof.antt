@@ -1,3 +1,9 @@
+-- The box goes from the first dimension on, and fills the destination's beginning. Assumes nothing.
+use Prim.Native.Nat.{ℕ, _<_}
+use mathlib.Core.Path.{_≡_}
+use native.Mathlib.Omega.{arith}
+use lib.ListN.{length}
+use Rattle.box_rows.proofs.Whole.{box-goes, box-done}
 use borrow.Author.Needs.{needs}
 use Rattle.box_rows.proofs.put_box.Statement.{statement}
 use Rattle.box_rows.proofs.put_box.Tie as tie
@@ -12,7 +18,11 @@ start-requires c κs = search needs
 
 -- src/lib.rt:108:5
 put-from-requires : tie.Need-put-from-requires
-put-from-requires c κs = search needs
+put-from-requires c κs =
+    let s = c .before .before .before .before .before in
+    let low : length (s .args .low) ≡ 4 = search needs in
+    let high : length (s .args .high) ≡ 4 = search needs in
+    (omega arith, box-goes (s .args .file .now) (s .args .v) (s .args .d) (s .args .low) (s .args .high) (s .pre .0) (s .pre .1) (c .before .start .result) _ (c .before .start .ensures) low high (s .pre .2) (s .pre .3))
 
 -- src/lib.rt:99:1
 same-length : tie.Need-same-length
@@ -20,7 +30,10 @@ same-length c = search needs
 
 -- src/lib.rt:99:1
 returns : tie.Need-returns
-returns c = search needs
+returns c =
+    let s = c .before .before .before .before .before .before .before .before in
+    box-done (s .args .file .now) (s .args .v) (s .args .d) (s .args .low) (s .args .high) (s .pre .0) (s .pre .1) (c .before .before .before .before .start .result) (s .args .dst .now) _ _ (s .pre .3)
+    (c .before .before .put-from .ensures)
 
 pub put-box-spec : {M : Type 1} → statement M
 put-box-spec = tie.close (tie.spec start-requires put-from-requires same-length returns)
