@@ -8,7 +8,6 @@ use lib.ListN.{length}
 use lib.Dec.{ltb}
 use borrow.Author.Tests.{lt-ltb, le-ltb}
 use Rattle.format.specs.declared.Dimensions.{Dimensions}
-use Rattle.format.specs.declared.View.{View}
 use Rattle.format.specs.Tools.{pick}
 use Rattle.format.specs.Signals.{BEYOND, SMALL}
 use Rattle.format.specs.Answers.{leaves}
@@ -18,7 +17,6 @@ use Rattle.format.specs.Opened.{viewOf}
 use Rattle.format.specs.Box.{boxAllowed, boxWords, boxNumber, Boxed}
 use Rattle.laws.proofs.Tools.{cases}
 use Rattle.laws.proofs.Acceptance.{accepted, header-right}
-use Rattle.header.specs.Search.{ViewOf}
 use Rattle.box_rows.specs.Bounds.{boxCount}
 use Rattle.box_rows.proofs.Counted.{allowed-as, count-least}
 use Rattle.box_rows.proofs.Whole.{length-box-words}
@@ -49,15 +47,13 @@ module _ (b low high before : List ℕ) (d : Dimensions) (count : ℕ) (right : 
     pub counted : count ≡ boxCount (d .extents) low high
     counted = rw allowed at counts
 
-    module _ (v : View) (seen : v ≡ viewOf b) where
-      as-long : length (boxWords b low high) ≡ count
-      as-long = length-box-words b v d low high (record { accepted = right; view = seen }) e ∙ sym counted
+    as-long : length (boxWords b low high) ≡ count
+    as-long = length-box-words b (viewOf b) d low high (record { accepted = right; view = refl }) e ∙ sym counted
 
-      pub box-small : length before < count → Boxed b low high before SMALL before
-      unfolding boxNumber
-      box-small h =
-          record { number = rw (right, ← e, allowed, as-long, lt-ltb (length before) count h); left = refl }
+    pub box-small : length before < count → Boxed b low high before SMALL before
+    unfolding boxNumber
+    box-small h = record { number = rw (right, ← e, allowed, as-long, lt-ltb (length before) count h); left = refl }
 
-      pub box-fills : (after : List ℕ) → count ≤ length before → after ≡ leaves 0 (boxWords b low high) before → Boxed b low high before 0 after
-      unfolding boxNumber
-      box-fills after h f = record { number = rw (right, ← e, allowed, as-long, le-ltb (length before) count h); left = f }
+    pub box-fills : (after : List ℕ) → count ≤ length before → after ≡ leaves 0 (boxWords b low high) before → Boxed b low high before 0 after
+    unfolding boxNumber
+    box-fills after h f = record { number = rw (right, ← e, allowed, as-long, le-ltb (length before) count h); left = f }
