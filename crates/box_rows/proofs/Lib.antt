@@ -3,3 +3,4 @@ pub mod Resumed
 pub mod Rows
 pub mod Turns
 pub mod Whole
+pub mod Between

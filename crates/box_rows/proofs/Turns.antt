@@ -44,7 +44,7 @@ joined-row q a zero = refl
 joined-row q a (suc n) = ap (λ (l : List ℕ). (q + a) ∷ l) (joined-row q (suc a) n ∙ ap (λ (x : ℕ). range x n) (omega arith))
 
 -- extents with bounds inside them are at least 1
-product-bounded : (es low high : List ℕ) → bounded es low high ≡ true → 1 ≤ product es
+pub product-bounded : (es low high : List ℕ) → bounded es low high ≡ true → 1 ≤ product es
 unfolding bounded product
 product-bounded [] low high h = le-refl 1
 product-bounded (e ∷ es) low high h =
