@@ -1,9 +1,9 @@
 -- The positions of an allowed box are those below cells whose coordinates lie between its corners, rising. Assumes nothing.
-use Prim.Native.Nat.{ℕ, zero, suc, _+_, _-_, _*_, _/_, _%_, _≤_, _<_}
+use Prim.Native.Nat.{ℕ, zero, suc, _+_, _-_, _*_, _/_, _≤_, _<_}
 use mathlib.Core.Path.{_≡_, refl, sym, ap, ap₂, _∙_}
 use mathlib.Core.Bool.{Bool, true, false, not}
 use mathlib.Core.List.{List, [], _∷_, _++_, append-assoc, append-nil}
-use native.Mathlib.Nat.{add-zero, zero-add, zero-mul, one-mul, mul-one, mul-assoc, add-mul, suc-mul, mul-add-div-right, mul-add-mod-self-right, mod-eq-of-lt, zero-div, zero-mod, div-one, mod-one}
+use native.Mathlib.Nat.{add-zero, zero-add, zero-mul, mul-one, mul-assoc, suc-mul, mul-add-div-right, mul-add-mod-self-right}
 use native.Mathlib.Omega.{arith}
 use lib.ListN.{length}
 use lib.Arith.{digits-div, digits-mod}

@@ -2,18 +2,18 @@
 use Prim.Native.Nat.{ℕ, zero, suc, _+_, _-_, _*_, _≤_, _<_}
 use mathlib.Core.Path.{_≡_, refl, sym, ap, _∙_}
 use mathlib.Core.Bool.{Bool, true, false}
-use mathlib.Core.List.{List, [], _∷_, _++_}
+use mathlib.Core.List.{List, [], _∷_}
 use native.Mathlib.Nat.{mul-one, one-mul, mul-assoc, mul-le-mul, mul-le-mul-left, one-le-mul, le-mul-of-pos-right, le-refl}
 use native.Mathlib.Numerals.{add-one}
 use native.Mathlib.Omega.{arith}
 use lib.ListN.{length, getD, drop, drop-of-length-le, length-append}
 use lib.Seq.{drop-cons}
-use lib.Dec.{leb, ltb, eqb}
-use borrow.Author.Tests.{leb-true, leb-false, ltb-true, le-leb, lt-leb, lt-ltb, le-ltb}
+use lib.Dec.{leb, ltb}
+use borrow.Author.Tests.{leb-true, ltb-true, le-leb, lt-leb, lt-ltb, le-ltb}
 use Rattle.format.specs.declared.Dimensions.{Dimensions}
 use Rattle.format.specs.Tools.{pick, both, first, others, range, joined}
-use Rattle.format.specs.Picture.{product, cells, dimensionsAllowed, insideExtents, inside}
-use Rattle.format.specs.Box.{ordered, boxAllowed, boxFrom, boxPositions}
+use Rattle.format.specs.Picture.{product, cells, insideExtents, inside}
+use Rattle.format.specs.Box.{ordered, boxAllowed, boxFrom}
 use Rattle.laws.proofs.Tools.{cases, both-true}
 use Rattle.header.proofs.RowOrder.{rest-least}
 use Rattle.box_rows.specs.Bounds.{bounded, boxCount}

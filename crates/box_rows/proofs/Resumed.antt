@@ -1,5 +1,5 @@
 -- A search that goes on from where a cursor stands. Assumes nothing.
-use Prim.Native.Nat.{ℕ, zero, suc, _+_, _-_, _^_, _≤_, _<_}
+use Prim.Native.Nat.{ℕ, zero, suc, _+_, _-_, _≤_, _<_}
 use mathlib.Core.Path.{_≡_, refl, sym, ap, _∙_, subst}
 use mathlib.Core.List.{List, [], _∷_}
 use native.Mathlib.Nat.{add-zero, zero-add}
@@ -7,7 +7,6 @@ use native.Mathlib.Numerals.{add-one}
 use native.Mathlib.Omega.{arith}
 use lib.ListN.{length, getD, take, drop, drop-of-length-le}
 use lib.Seq.{drop-cons}
-use lib.Dec.{eqb}
 use borrow.Author.Tests.{eq-eqb, ne-eqb}
 use Rattle.format.specs.declared.View.{View}
 use Rattle.format.specs.Tools.{Below}
@@ -16,7 +15,7 @@ use Rattle.format.specs.Opened.{viewOf, Free}
 use Rattle.format.specs.Picture.{cells}
 use Rattle.format.specs.Accepted.{dimensionsOf, emptyOf, wordsOf, wordsCount, positionsOf}
 use Rattle.format.specs.Lookups.{rankIn}
-use Rattle.laws.proofs.Stored.{Rising, rising-weaken}
+use Rattle.laws.proofs.Stored.{Rising}
 use Rattle.laws.proofs.Bounds.{below-widen}
 use Rattle.laws.proofs.Search.{rankAmong, not-among, rank-among}
 use Rattle.laws.proofs.Acceptance.{accepted, accepted-has-file}

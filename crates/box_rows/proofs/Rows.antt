@@ -1,12 +1,11 @@
 -- A row cell by cell: what is left of it gives the whole. Assumes nothing.
-use Prim.Native.Nat.{ℕ, zero, suc, _+_, _-_, _*_, _≤_, _<_}
-use mathlib.Core.Path.{_≡_, refl, sym, ap, _∙_}
+use Prim.Native.Nat.{ℕ, suc, _+_, _-_, _*_, _≤_, _<_}
+use mathlib.Core.Path.{_≡_, refl, ap, _∙_}
 use mathlib.Core.Logic.{⊎-elim}
-use mathlib.Core.List.{List, [], _∷_, _++_, map}
+use mathlib.Core.List.{List, [], _∷_}
 use native.Mathlib.Numerals.{add-one}
 use native.Mathlib.Omega.{arith}
 use lib.ListN.{length, getD, set, length-set}
-use lib.Dec.{ltb}
 use borrow.Author.Tests.{lt-ltb}
 use types.Run.{OneOf}
 use denote.Enum.Declared.{tagOf}
@@ -27,7 +26,7 @@ use Rattle.search.proofs.Cells.{cellBy, cell-searched}
 use Rattle.cursor.specs.declared.Cursor.{Cursor}
 use Rattle.box_rows.specs.declared.Filled.{Filled}
 use Rattle.box_rows.specs.Ready.{Ready}
-use Rattle.box_rows.specs.Filling.{wordsOn, RowGoes, RowFilled}
+use Rattle.box_rows.specs.Filling.{wordsOn, RowFilled}
 use Rattle.box_rows.proofs.Resumed.{ready-later, length-words}
 
 -- ---- the word of a cell, by the answer of the search

@@ -1,12 +1,12 @@
 -- A box dimension by dimension: what is left of it gives the whole. Assumes nothing.
 use Prim.Native.Nat.{ℕ, zero, suc, _+_, _-_, _*_, _≤_, _<_}
 use mathlib.Core.Path.{_≡_, refl, sym, ap, _∙_}
-use mathlib.Core.Bool.{Bool, true}
-use mathlib.Core.List.{List, [], _∷_, _++_, map}
+use mathlib.Core.Bool.{true}
+use mathlib.Core.List.{List, [], _∷_, _++_}
 use native.Mathlib.Nat.{mul-one, mul-assoc, suc-mul, mul-le-mul-right, one-le-mul, le-mul-of-pos-right, le-refl, add-zero}
 use native.Mathlib.Numerals.{add-one}
 use native.Mathlib.Omega.{arith}
-use lib.ListN.{length, getD, drop, length-append, length-map, drop-of-length-le}
+use lib.ListN.{length, getD, drop, length-append, length-map}
 use lib.Seq.{drop-cons}
 use lib.Dec.{leb, ltb}
 use borrow.Author.Tests.{leb-true, ltb-true}
@@ -18,7 +18,6 @@ use Rattle.format.specs.Box.{boxFrom}
 use Rattle.laws.proofs.Tools.{both-true}
 use Rattle.stores.specs.Put.{put}
 use Rattle.stores.proofs.Laws.{put-append, length-put}
-use Rattle.header.specs.Search.{ViewOf}
 use Rattle.box_rows.specs.declared.Filled.{Filled}
 use Rattle.box_rows.specs.Bounds.{bounded}
 use Rattle.box_rows.specs.Ready.{Ready}

@@ -1,11 +1,10 @@
 -- The whole box: all dimensions, from position 0 and the destination's first element on. Assumes nothing.
-use Prim.Native.Nat.{ℕ, _+_, _*_, _≤_}
-use mathlib.Core.Path.{_≡_, refl, sym, ap, _∙_}
+use Prim.Native.Nat.{ℕ, _≤_}
+use mathlib.Core.Path.{_≡_, sym, ap, _∙_}
 use mathlib.Core.Bool.{true}
-use mathlib.Core.List.{List, _++_}
+use mathlib.Core.List.{List}
 use native.Mathlib.Nat.{zero-mul, zero-add, one-mul, le-refl}
-use native.Mathlib.Omega.{arith}
-use lib.ListN.{length, drop}
+use lib.ListN.{length}
 use Rattle.format.specs.declared.Dimensions.{Dimensions}
 use Rattle.format.specs.declared.View.{View}
 use Rattle.format.specs.Answers.{leaves}
@@ -19,7 +18,6 @@ use Rattle.cursor.specs.declared.Cursor.{Cursor}
 use Rattle.cursor.specs.Cursor.{startOf}
 use Rattle.box_rows.specs.declared.Filled.{Filled}
 use Rattle.box_rows.specs.Bounds.{boxCount}
-use Rattle.box_rows.specs.Ready.{Ready}
 use Rattle.box_rows.specs.Filling.{wordsOn, BoxGoes, BoxFilled}
 use Rattle.box_rows.proofs.Counted.{allowed-as, length-box}
 use Rattle.box_rows.proofs.Resumed.{cells-seen, ready-start}

@@ -1,6 +1,6 @@
 -- A box dimension by dimension: its bounds, and the number of its cells. Assumes nothing.
 use Prim.Native.Nat.{ℕ, suc, _-_, _*_}
-use mathlib.Core.Bool.{Bool, true, false}
+use mathlib.Core.Bool.{Bool, true}
 use mathlib.Core.List.{List, [], _∷_}
 use lib.Dec.{leb, ltb}
 use Rattle.format.specs.Tools.{both, first, others}

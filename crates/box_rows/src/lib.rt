@@ -13,7 +13,7 @@ use resume::rank_from;
 use wire::load_u32;
 ghost use mathlib.Core.Path.{_≡_};
 ghost use mathlib.Core.Bool.{true};
-ghost use Prim.Native.Nat.{_+_, _-_, _*_, _≤_, _<_, _^_};
+ghost use Prim.Native.Nat.{_≤_, _<_};
 ghost use lib.ListN.{length, drop};
 ghost use Rattle.format.specs.Answers.{leaves};
 ghost use Rattle.format.specs.Accepted.{dimensionsOf};

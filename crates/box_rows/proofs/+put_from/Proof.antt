@@ -1,13 +1,13 @@
 -- Each turn puts out the box in the dimensions after i, of which there are fewer. Assumes nothing.
 use Prim.Native.Nat.{suc, _+_, _-_, _*_, _≤_}
-use mathlib.Core.Path.{_≡_, refl, sym, _∙_}
+use mathlib.Core.Path.{_≡_}
 use native.Mathlib.Omega.{arith}
 use mathlib.Core.List.{List, [], _∷_}
 use native.Mathlib.Nat.{le-refl}
 use lib.Arith.{lt-of-le-ne}
 use lib.ListN.{length, getD, drop, drop-of-length-le}
 use Rattle.box_rows.specs.Filling.{BoxGoes}
-use Rattle.box_rows.proofs.Turns.{first-goes, first-filled, in-order, in-extent, cell-small, row-goes, row-filled, BoxLeft, box-start, box-down, box-turn, box-end}
+use Rattle.box_rows.proofs.Turns.{first-goes, first-filled, in-order, cell-small, row-goes, row-filled, BoxLeft, box-start, box-down, box-turn, box-end}
 use borrow.Author.Needs.{needs}
 use Prim.Native.Nat.{ℕ, _<_}
 use borrow.Fn.Kinds.{In}
@@ -82,57 +82,44 @@ before-last i h k = let m : i ≤ 3 = omega arith in let n : i < 3 = lt-of-le-ne
 none : (t : ℕ) (c : Start t) → c .args .i ≡ 3 → drop (c .args .i + 1) (c .args .t3) ≡ []
 none t c e = let f = four t c in drop-of-length-le (c .args .t3) {i = c .args .i + 1} (omega arith)
 
--- src/lib.rt:69:22
 put-from-mul-before : (t : ℕ) → put-from-lts.Need-mul-before (put-from-calls t) (put-from-at t) put-from.Post put-from-Inv-loop put-from-μ-loop
 put-from-mul-before t c = search needs
 
--- src/lib.rt:69:22
 put-from-array-read-before : (t : ℕ) → put-from-lts.Need-array-read-before (put-from-calls t) (put-from-at t) put-from.Post put-from-Inv-loop put-from-μ-loop
 put-from-array-read-before t c = search needs
 
--- src/lib.rt:69:18
 put-from-mul-before-2 : (t : ℕ) → put-from-lts.Need-mul-before-2 (put-from-calls t) (put-from-at t) put-from.Post put-from-Inv-loop put-from-μ-loop
 put-from-mul-before-2 t c = let h = small t (c .before .before) (low t (c .before .before)) (ordered t (c .before .before)) in record { fits = omega arith }
 
--- src/lib.rt:70:17
 put-from-mul-a : (t : ℕ) → put-from-lts.Need-mul-a (put-from-calls t) (put-from-at t) put-from.Post put-from-Inv-loop put-from-μ-loop
 put-from-mul-a t c = search needs
 
--- src/lib.rt:70:17
 put-from-array-read-a : (t : ℕ) → put-from-lts.Need-array-read-a (put-from-calls t) (put-from-at t) put-from.Post put-from-Inv-loop put-from-μ-loop
 put-from-array-read-a t c = search needs
 
--- src/lib.rt:71:16
 put-from-mul-last : (t : ℕ) → put-from-lts.Need-mul-last (put-from-calls t) (put-from-at t) put-from.Post put-from-Inv-loop put-from-μ-loop
 put-from-mul-last t c = search needs
 
--- src/lib.rt:71:16
 put-from-array-read-last : (t : ℕ) → put-from-lts.Need-array-read-last (put-from-calls t) (put-from-at t) put-from.Post put-from-Inv-loop put-from-μ-loop
 put-from-array-read-last t c = search needs
 
--- src/lib.rt:73:36
 put-from-add-put-row : (t : ℕ) → put-from-lts.Need-add-put-row (put-from-calls t) (put-from-at t) put-from.Post put-from-Inv-loop put-from-μ-loop
 put-from-add-put-row t c = let h = small t (c .before .before .before) (low t (c .before .before .before)) (ordered t (c .before .before .before)) in record { fits = omega arith }
 
--- src/lib.rt:73:48
 put-from-sub-put-row : (t : ℕ) → put-from-lts.Need-sub-put-row (put-from-calls t) (put-from-at t) put-from.Post put-from-Inv-loop put-from-μ-loop
 put-from-sub-put-row t c = ordered t (c .before .before .before)
 
--- src/lib.rt:73:48
 put-from-add-put-row-2 : (t : ℕ) → put-from-lts.Need-add-put-row-2 (put-from-calls t) (put-from-at t) put-from.Post put-from-Inv-loop put-from-μ-loop
 put-from-add-put-row-2 t c = let h = small t (c .before .before .before) (high t (c .before .before .before)) (le-refl _) in record { fits = omega arith }
 
--- src/lib.rt:73:9
 put-from-put-row-requires : (t : ℕ) → put-from-lts.Need-put-row-requires (put-from-calls t) (put-from-at t) put-from.Post put-from-Inv-loop put-from-μ-loop
 put-from-put-row-requires t c κs =
     let s = c .before .before .before .before in
     row-goes (file t s) (s .args .v) (extent t s) (low t s) _ (high t s) _ (s .args .p) (s .args .s) _ (rw (none t s (c .before .if1 .taken)) at (goes t s))
 
--- src/lib.rt:73:9
 put-from-same-length : (t : ℕ) → put-from-lts.Need-same-length (put-from-calls t) (put-from-at t) put-from.Post put-from-Inv-loop put-from-μ-loop
 put-from-same-length t c = search needs
 
--- src/lib.rt:73:9
 put-from-returns : (t : ℕ) → put-from-lts.Need-returns (put-from-calls t) (put-from-at t) put-from.Post put-from-Inv-loop put-from-μ-loop
 put-from-returns t c =
     let s = c .before .before .before .before .before .before .before in
@@ -142,21 +129,17 @@ put-from-returns t c =
     first-filled (file t s) (s .args .v) (s .args .i) (s .args .t3) (s .args .t4) (s .args .t5) (omega arith) (omega arith) (omega arith) (s .args .p) (s .args .s) (s .args .dst .now) _ _
     (rw z (row-filled (file t s) (s .args .v) (extent t s) (low t s) _ (high t s) _ (s .args .p) (s .args .s) _ (rw z at (goes t s)) (s .args .dst .now) _ _ (c .before .before .put-row .ensures)))
 
--- src/lib.rt:75:5
 put-from-loop-holds : (t : ℕ) → put-from-lts.Need-loop-holds (put-from-calls t) (put-from-at t) put-from.Post put-from-Inv-loop put-from-μ-loop
 put-from-loop-holds t c =
     let s = c .before .before .before in
     box-start (file t s) (s .args .v) (extent t s) _ _ _ (s .args .p) (high t s) (low t s) (s .args .s) (s .args .dst .now) (goes t s)
 
--- src/lib.rt:82:13
 put-from-add-put-from : (t : ℕ) → put-from-lts.Need-add-put-from (put-from-calls t) (put-from-at t) put-from.Post put-from-Inv-loop put-from-μ-loop
 put-from-add-put-from t c = search needs
 
--- src/lib.rt:83:13
 put-from-add-put-from-2 : (t : ℕ) → put-from-lts.Need-add-put-from-2 (put-from-calls t) (put-from-at t) put-from.Post put-from-Inv-loop put-from-μ-loop
 put-from-add-put-from-2 t c = let h = small t (c .before .before .before .before .before) (c .before .loop .a) (c .loop-test .taken) in record { fits = omega arith }
 
--- src/lib.rt:76:9
 put-from-put-from-requires : (t : ℕ) → put-from-lts.Need-put-from-requires (put-from-calls t) (put-from-at t) put-from.Post put-from-Inv-loop put-from-μ-loop
 put-from-put-from-requires t c κs =
     let s = c .before .before .before .before .before .before in
@@ -166,15 +149,12 @@ put-from-put-from-requires t c κs =
     let n : s .args .i + 1 < 4 = before-last _ k (c .before .before .before .if1 .left) in
     (omega arith, (n, box-down (file t s) (s .args .v) (extent t s) _ _ _ (s .args .p) (high t s) (low t s) (s .args .s) (s .args .dst .now) (goes t s) (l .s) (l .dst) (l .a) (l .inv) (c .before .loop-test .taken)))
 
--- src/lib.rt:87:9
 put-from-add-a : (t : ℕ) → put-from-lts.Need-add-a (put-from-calls t) (put-from-at t) put-from.Post put-from-Inv-loop put-from-μ-loop
 put-from-add-a t c = let h = small t (c .before .before .before .before .before .before .before .before .before) (c .before .before .before .before .before .loop .a) (c .before .before .before .before .loop-test .taken) in record { fits = omega arith }
 
--- src/lib.rt:75:5
 put-from-loop-less : (t : ℕ) → put-from-lts.Need-loop-less (put-from-calls t) (put-from-at t) put-from.Post put-from-Inv-loop put-from-μ-loop
 put-from-loop-less t c = search needs
 
--- src/lib.rt:75:5
 put-from-loop-again : (t : ℕ) → put-from-lts.Need-loop-again (put-from-calls t) (put-from-at t) put-from.Post put-from-Inv-loop put-from-μ-loop
 put-from-loop-again t c =
     let s = c .before .before .before .before .before .before .before .before .before in
@@ -182,11 +162,9 @@ put-from-loop-again t c =
     box-turn (file t s) (s .args .v) (extent t s) _ _ _ (s .args .p) (high t s) (low t s) (s .args .s) (s .args .dst .now) (goes t s) (l .s) (l .dst) (l .a) (l .inv) (c .before .before .before .before .loop-test .taken) _ _
     (c .before .before .put-from .ensures)
 
--- src/lib.rt:55:1
 put-from-same-length-2 : (t : ℕ) → put-from-lts.Need-same-length-2 (put-from-calls t) (put-from-at t) put-from.Post put-from-Inv-loop put-from-μ-loop
 put-from-same-length-2 t c = search needs
 
--- src/lib.rt:55:1
 put-from-returns-2 : (t : ℕ) → put-from-lts.Need-returns-2 (put-from-calls t) (put-from-at t) put-from.Post put-from-Inv-loop put-from-μ-loop
 put-from-returns-2 t c =
     let s = c .before .before .before .before .before in

@@ -1,5 +1,4 @@
 -- The box goes from the first dimension on, and fills the destination's beginning. Assumes nothing.
-use Prim.Native.Nat.{ℕ, _<_}
 use mathlib.Core.Path.{_≡_}
 use native.Mathlib.Omega.{arith}
 use lib.ListN.{length}
@@ -7,16 +6,10 @@ use Rattle.box_rows.proofs.Whole.{box-goes, box-done}
 use borrow.Author.Needs.{needs}
 use Rattle.box_rows.proofs.put_box.Statement.{statement}
 use Rattle.box_rows.proofs.put_box.Tie as tie
-use Rattle.box_rows.proofs.put_box.Reads as reads
-use Rattle.box_rows.proofs.put_box.Lts as lts
-use Rattle.box_rows.proofs.put_from.Reads as put-from-reads
-use Rattle.cursor.proofs.start.Reads as start-reads
 
--- src/lib.rt:105:17
 start-requires : tie.Need-start-requires
 start-requires c κs = search needs
 
--- src/lib.rt:108:5
 put-from-requires : tie.Need-put-from-requires
 put-from-requires c κs =
     let s = c .before .before .before .before .before in
@@ -24,11 +17,9 @@ put-from-requires c κs =
     let high : length (s .args .high) ≡ 4 = search needs in
     (omega arith, box-goes (s .args .file .now) (s .args .v) (s .args .d) (s .args .low) (s .args .high) (s .pre .0) (s .pre .1) (c .before .start .result) _ (c .before .start .ensures) low high (s .pre .2) (s .pre .3))
 
--- src/lib.rt:99:1
 same-length : tie.Need-same-length
 same-length c = search needs
 
--- src/lib.rt:99:1
 returns : tie.Need-returns
 returns c =
     let s = c .before .before .before .before .before .before .before .before in

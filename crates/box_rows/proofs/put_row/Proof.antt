@@ -1,6 +1,6 @@
 -- Each turn puts one word, and the cells that are left give the row. Assumes nothing.
-use Prim.Native.Nat.{ℕ, _+_, _-_, _*_, _^_, _≤_, _<_}
-use mathlib.Core.Path.{_≡_, refl, sym, _∙_}
+use Prim.Native.Nat.{_+_, _-_, _*_, _^_, _<_}
+use mathlib.Core.Path.{refl, _∙_}
 use native.Mathlib.Omega.{arith}
 use lib.ListN.{length}
 use Rattle.box_rows.proofs.Resumed.{cells-few}
@@ -8,11 +8,6 @@ use Rattle.box_rows.proofs.Rows.{word-stored, word-empty, RowLeft, row-
 use borrow.Author.Needs.{needs}
 use Rattle.box_rows.proofs.put_row.Statement.{statement}
 use Rattle.box_rows.proofs.put_row.Tie as tie
-use Rattle.box_rows.proofs.put_row.Reads as reads
-use Rattle.box_rows.proofs.put_row.Lts as lts
-use Rattle.box_rows.proofs.resume.rank_from.Reads as rank-from-reads
-use Rattle.header.proofs.places.words_at.Reads as words-at-reads
-use Rattle.wire.proofs.load_u32.Reads as load-u32-reads
 
 abbrev Inv-loop : tie.InvT-loop
 Inv-loop file v from n dst₀ words c₀ p₀ k₀ end dst c p k = RowLeft file v from n k₀ dst₀ dst c p k
@@ -36,49 +31,38 @@ there c = let h = c .before .before .before .before .before .before .pre .fits i
 offset : (c : tie.In-loop Inv-loop μ-loop) → c .before .loop .k * 4 < 2 ^ 64
 offset c = let h = there c in search needs
 
--- src/lib.rt:30:9
 words-at-requires : tie.Need-words-at-requires Inv-loop μ-loop
 words-at-requires c κs = search needs
 
--- src/lib.rt:34:15
 add-end : tie.Need-add-end Inv-loop μ-loop
 add-end c = let h = c .before .before .before .before .pre .fits in search needs
 
--- src/lib.rt:35:5
 loop-holds : tie.Need-loop-holds Inv-loop μ-loop
 loop-holds c =
     let s = c .before .before .before .before in
     row-start (s .args .file .now) (s .args .v) (s .args .from) (s .args .n) (s .args .s .words) (s .args .dst .now) (s .args .s .cursor) (s .pre .ready)
 
--- src/lib.rt:36:13
 rank-from-requires : tie.Need-rank-from-requires Inv-loop μ-loop
 rank-from-requires c κs = (c .before .before .before .before .before .before .pre .view, inside c, c .before .loop .inv .ready)
 
--- src/lib.rt:39:9
 add-k : tie.Need-add-k Inv-loop μ-loop
 add-k c = let h = c .before .before .before .before .before .before .before .before .pre .fits in let k = c .before .before .loop-test .taken in search needs
 
--- src/lib.rt:40:9
 add-p : tie.Need-add-p Inv-loop μ-loop
 add-p c = let h = few (c .before .before) in search needs
 
--- src/lib.rt:42:30
 enum-known-answer : tie.Need-enum-known-answer Inv-loop μ-loop
 enum-known-answer c = search needs
 
--- src/lib.rt:43:13
 mul-dst : tie.Need-mul-dst Inv-loop μ-loop
 mul-dst c = record { fits = offset (c .before .before .before) }
 
--- src/lib.rt:43:13
 slice-write-dst : tie.Need-slice-write-dst Inv-loop μ-loop
 slice-write-dst c = there (c .before .before .before)
 
--- src/lib.rt:35:5
 loop-less : tie.Need-loop-less Inv-loop μ-loop
 loop-less c = let k = c .before .before .before .loop-test .taken in omega arith
 
--- src/lib.rt:35:5
 loop-again : tie.Need-loop-again Inv-loop μ-loop
 loop-again c =
     let s = c .before .before .before .before .before .before .before .before .before in
@@ -88,35 +72,27 @@ loop-again c =
     row-turn (s .args .file .now) (s .args .v) (s .args .from) (s .args .n) (s .args .s .words) (s .args .dst .now) (l .dst) (l .c) (l .p) (l .k) (l .inv)
     (r .result .cursor) (s .args .v .empty) (c .before .before .before .loop-test .taken) x (r .ensures .1)
 
--- src/lib.rt:46:46
 cast-load-u32 : tie.Need-cast-load-u32 Inv-loop μ-loop
 cast-load-u32 c = search needs
 
--- src/lib.rt:46:42
 mul-load-u32 : tie.Need-mul-load-u32 Inv-loop μ-loop
 mul-load-u32 c = search needs
 
--- src/lib.rt:46:34
 add-load-u32 : tie.Need-add-load-u32 Inv-loop μ-loop
 add-load-u32 c = search needs
 
--- src/lib.rt:46:19
 load-u32-requires : tie.Need-load-u32-requires Inv-loop μ-loop
 load-u32-requires c κs = search needs
 
--- src/lib.rt:46:9
 mul-dst-2 : tie.Need-mul-dst-2 Inv-loop μ-loop
 mul-dst-2 c = record { fits = offset (c .before .before .before .before .before .before .before) }
 
--- src/lib.rt:46:9
 slice-write-dst-2 : tie.Need-slice-write-dst-2 Inv-loop μ-loop
 slice-write-dst-2 c = there (c .before .before .before .before .before .before .before)
 
--- src/lib.rt:35:5
 loop-less-2 : tie.Need-loop-less-2 Inv-loop μ-loop
 loop-less-2 c = let k = c .before .before .before .before .before .before .before .loop-test .taken in omega arith
 
--- src/lib.rt:35:5
 loop-again-2 : tie.Need-loop-again-2 Inv-loop μ-loop
 loop-again-2 c =
     let s = c .before .before .before .before .before .before .before .before .before .before .before .before .before in
@@ -126,11 +102,9 @@ loop-again-2 c =
     row-turn (s .args .file .now) (s .args .v) (s .args .from) (s .args .n) (s .args .s .words) (s .args .dst .now) (l .dst) (l .c) (l .p) (l .k) (l .inv)
     (r .result .cursor) (c .load-u32 .result) (c .before .before .before .before .before .before .before .loop-test .taken) (c .load-u32 .ensures .0 ∙ rw (c .before .before .before .before .before .before .before .before .before .before .words-at .ensures .0) x) (r .ensures .1)
 
--- src/lib.rt:26:1
 same-length : tie.Need-same-length Inv-loop μ-loop
 same-length c = c .before .loop .inv .size
 
--- src/lib.rt:26:1
 returns : tie.Need-returns Inv-loop μ-loop
 returns c =
     let s = c .before .before .before .before .before .before in

@@ -1,13 +1,11 @@
 -- The loop's invariant: the count so far, continued over the dimensions that are left, gives the whole. Assumes nothing.
 use mathlib.Core.Path.{_≡_, refl, sym, _∙_}
-use mathlib.Core.List.{List}
-use Prim.Native.Nat.{ℕ, suc, _+_, _-_, _*_, _≤_, _<_}
+use Prim.Native.Nat.{ℕ, _+_, _-_, _*_, _≤_}
 use mir.Val.{Fits}
 use mir.Syntax.{w32}
 use native.Mathlib.Nat.{one-mul, le-refl}
 use native.Mathlib.Omega.{arith}
 use lib.ListN.{length, drop, getD}
-use Rattle.format.specs.declared.Dimensions.{Dimensions}
 use Rattle.format.specs.Tools.{pick}
 use Rattle.format.specs.Picture.{product, cells}
 use Rattle.format.specs.Box.{boxAllowed}
@@ -18,8 +16,6 @@ use Rattle.box_rows.proofs.Counted.{counted, count-turn, count-past, co
 use borrow.Author.Needs.{needs}
 use Rattle.box_rows.proofs.count.box_count.Statement.{statement}
 use Rattle.box_rows.proofs.count.box_count.Tie as tie
-use Rattle.box_rows.proofs.count.box_count.Reads as reads
-use Rattle.box_rows.proofs.count.box_count.Lts as lts
 
 abbrev Inv-loop : tie.InvT-loop
 Inv-loop low high extents count₀ i₀ count i =
@@ -66,35 +62,27 @@ next c =
     let k = count-small _ _ (c .before .before .before .loop .i + 1) (s .args .d .extents) (m .0) (room c) in
     omega (arith, m .1)
 
--- src/count.rt:19:5
 loop-holds : tie.Need-loop-holds Inv-loop μ-loop
 loop-holds c = (omega arith, rw one-mul (le-refl _), refl)
 
--- src/count.rt:20:17
 mul-e : tie.Need-mul-e Inv-loop μ-loop
 mul-e c = search needs
 
--- src/count.rt:20:17
 array-read-e : tie.Need-array-read-e Inv-loop μ-loop
 array-read-e c = search needs
 
--- src/count.rt:21:17
 mul-l : tie.Need-mul-l Inv-loop μ-loop
 mul-l c = search needs
 
--- src/count.rt:21:17
 array-read-l : tie.Need-array-read-l Inv-loop μ-loop
 array-read-l c = search needs
 
--- src/count.rt:22:17
 mul-h : tie.Need-mul-h Inv-loop μ-loop
 mul-h c = search needs
 
--- src/count.rt:22:17
 array-read-h : tie.Need-array-read-h Inv-loop μ-loop
 array-read-h c = search needs
 
--- src/count.rt:24:13
 returns : tie.Need-returns Inv-loop μ-loop
 returns c =
     let s = c .before .before .before .before in
@@ -102,7 +90,6 @@ returns c =
     let f = four s in
     (whole (c .before .before) 0 (count-past (l .count) (l .i) _ _ _ (omega arith) (omega arith) (omega arith) (c .if1 .taken)), omega arith)
 
--- src/count.rt:27:13
 returns-2 : tie.Need-returns-2 Inv-loop μ-loop
 returns-2 c =
     let s = c .before .before .before .before .before in
@@ -110,26 +97,21 @@ returns-2 c =
     let f = four s in
     (whole (c .before .before .before) 0 (count-above (l .count) (l .i) _ _ _ (omega arith) (omega arith) (omega arith) (c .if2 .taken)), omega arith)
 
--- src/count.rt:29:26
 add-count : tie.Need-add-count Inv-loop μ-loop
 add-count c =
     let k = c .before .if1 .left in
     let fits : Fits w32 (getD (c .before .before .before .before .before .args .d .extents) (c .before .before .before .loop .i) 0) = search needs in
     record { fits = omega arith }
 
--- src/count.rt:29:17
 mul-count : tie.Need-mul-count Inv-loop μ-loop
 mul-count c = let h = next c in record { fits = omega arith }
 
--- src/count.rt:30:9
 add-i : tie.Need-add-i Inv-loop μ-loop
 add-i c = search needs
 
--- src/count.rt:19:5
 loop-less : tie.Need-loop-less Inv-loop μ-loop
 loop-less c = search needs
 
--- src/count.rt:19:5
 loop-again : tie.Need-loop-again Inv-loop μ-loop
 loop-again c =
     let s = c .before .before .before .before .before in
@@ -142,7 +124,6 @@ loop-again c =
       sym (count-turn (l .count) (l .i) _ _ _ (omega arith) (omega arith) (omega arith) (omega arith) (omega arith)) ∙ l .inv .2,
     )
 
--- src/count.rt:12:1
 returns-3 : tie.Need-returns-3 Inv-loop μ-loop
 returns-3 c =
     let s = c .before .before .before in

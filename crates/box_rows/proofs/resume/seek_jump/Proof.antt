@@ -1,6 +1,6 @@
 -- The cursor stays ready, and the ranks ahead of it fall. Assumes nothing.
-use Prim.Native.Nat.{_+_, _-_, _≤_, _<_}
-use mathlib.Core.Path.{_≡_, sym, _∙_}
+use Prim.Native.Nat.{_-_}
+use mathlib.Core.Path.{_≡_, _∙_}
 use native.Mathlib.Omega.{arith}
 use lib.Arith.{lt-of-le-ne}
 use Rattle.cursor.specs.Cursor.{nextOf}
@@ -9,9 +9,6 @@ use Rattle.box_rows.proofs.Resumed.{sought-none, sought-here, sought-pa
 use borrow.Author.Needs.{needs}
 use Rattle.box_rows.proofs.resume.seek_jump.Statement.{statement}
 use Rattle.box_rows.proofs.resume.seek_jump.Tie as tie
-use Rattle.box_rows.proofs.resume.seek_jump.Reads as reads
-use Rattle.box_rows.proofs.resume.seek_jump.Lts as lts
-use Rattle.cursor.proofs.ranks.next_jump.Reads as next-jump-reads
 
 abbrev Inv-loop : tie.InvT-loop
 Inv-loop file v c₀ wanted c = Ready file v c wanted
@@ -19,32 +16,27 @@ Inv-loop file v c₀ wanted c = Ready file v c wanted
 abbrev μ-loop : tie.MeasureT-loop
 μ-loop file v c₀ wanted c = v .words - c .rank
 
--- src/resume.rt:26:5
 loop-holds : tie.Need-loop-holds Inv-loop μ-loop
 loop-holds c = c .before .pre .3
 
--- src/resume.rt:28:13
 returns : tie.Need-returns Inv-loop μ-loop
 returns c =
     let s = c .before .before .before .before .before .before .before in
     let l = c .before .before .before .before .before .loop in
     (sought-here (s .args .file .now) (s .args .v) (s .pre .0) (l .c) _ (l .inv) (c .before .before .if1 .taken) (s .pre .2) (c .if2 .taken), l .inv)
 
--- src/resume.rt:34:13
 returns-2 : tie.Need-returns-2 Inv-loop μ-loop
 returns-2 c =
     let s = c .before .before .before .before .before .before .before .before .before in
     let l = c .before .before .before .before .before .before .before .loop in
     (sought-past (s .args .file .now) (s .args .v) (s .pre .0) (l .c) _ (l .inv) (c .before .before .before .before .if1 .taken) (s .pre .2) (c .if3 .taken), l .inv)
 
--- src/resume.rt:39:9
 next-jump-requires : tie.Need-next-jump-requires Inv-loop μ-loop
 next-jump-requires c κs = search needs
 
 stepped : (c : tie.After-next-jump Inv-loop μ-loop) → c .next-jump .result ≡ nextOf (c .before .before .before .before .before .before .before .before .before .before .args .file .now) (c .before .before .before .before .before .before .before .before .before .before .args .v) (c .before .before .before .before .before .before .before .before .loop .c)
 stepped c = let s = c .before .before .before .before .before .before .before .before .before .before in c .next-jump .ensures ∙ jump-step (s .args .file .now) (s .args .v) (c .before .before .before .before .before .before .before .before .loop .c) (s .pre .1)
 
--- src/resume.rt:26:5
 loop-less : tie.Need-loop-less Inv-loop μ-loop
 loop-less c =
     let s = c .before .before .before .before .before .before .before .before .before .before in
@@ -53,7 +45,6 @@ loop-less c =
     let e = rank-up (s .args .file .now) (s .args .v) (s .pre .0) (l .c) _ (l .inv) h _ (stepped c) in
     omega arith
 
--- src/resume.rt:26:5
 loop-again : tie.Need-loop-again Inv-loop μ-loop
 loop-again c =
     let s = c .before .before .before .before .before .before .before .before .before .before in
@@ -61,7 +52,6 @@ loop-again c =
     let below = lt-of-le-ne (c .before .if3 .left) (c .before .before .before .if2 .left) in
     ready-next (s .args .file .now) (s .args .v) (s .pre .0) (l .c) _ (l .inv) (c .before .before .before .before .before .if1 .taken) _ (stepped c) below
 
--- src/resume.rt:21:1
 returns-3 : tie.Need-returns-3 Inv-loop μ-loop
 returns-3 c =
     let s = c .before .before .before .before .before in
