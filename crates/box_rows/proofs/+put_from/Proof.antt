@@ -75,6 +75,10 @@ small t c a h = cell-small (file t c) (c .args .v) (extent t c) _ (low t c) _ (h
 ordered : (t : ℕ) (c : Start t) → low t c ≤ high t c
 ordered t c = in-order (file t c) (c .args .v) (extent t c) _ (low t c) _ (high t c) _ (c .args .p) (c .args .s) _ (goes t c)
 
+-- in the loop
+reach : (t : ℕ) (c : put-from-lts.In-loop (put-from-calls t) (put-from-at t) put-from.Post put-from-Inv-loop put-from-μ-loop) → c .before .loop .a ≤ high t (c .before .before .before .before .before)
+reach t c = omega (arith, c .loop-test .taken)
+
 before-last : (i : ℕ) → i < 4 → (i ≡ 3 → ⊥) → i + 1 < 4
 before-last i h k = let m : i ≤ 3 = omega arith in let n : i < 3 = lt-of-le-ne m k in omega arith
 
@@ -138,7 +142,7 @@ put-from-add-put-from : (t : ℕ) → put-from-lts.Need-add-put-from (put-from-c
 put-from-add-put-from t c = search needs
 
 put-from-add-put-from-2 : (t : ℕ) → put-from-lts.Need-add-put-from-2 (put-from-calls t) (put-from-at t) put-from.Post put-from-Inv-loop put-from-μ-loop
-put-from-add-put-from-2 t c = let h = small t (c .before .before .before .before .before) (c .before .loop .a) (c .loop-test .taken) in record { fits = omega arith }
+put-from-add-put-from-2 t c = let h = small t (c .before .before .before .before .before) (c .before .loop .a) (reach t c) in record { fits = omega arith }
 
 put-from-put-from-requires : (t : ℕ) → put-from-lts.Need-put-from-requires (put-from-calls t) (put-from-at t) put-from.Post put-from-Inv-loop put-from-μ-loop
 put-from-put-from-requires t c κs =
@@ -147,10 +151,10 @@ put-from-put-from-requires t c κs =
     let k = s .pre .1 .0 in
     let m = s .pre .0 in
     let n : s .args .i + 1 < 4 = before-last _ k (c .before .before .before .if1 .left) in
-    (omega arith, (n, box-down (file t s) (s .args .v) (extent t s) _ _ _ (s .args .p) (high t s) (low t s) (s .args .s) (s .args .dst .now) (goes t s) (l .s) (l .dst) (l .a) (l .inv) (c .before .loop-test .taken)))
+    (omega arith, (n, box-down (file t s) (s .args .v) (extent t s) _ _ _ (s .args .p) (high t s) (low t s) (s .args .s) (s .args .dst .now) (goes t s) (l .s) (l .dst) (l .a) (l .inv) (reach t (c .before))))
 
 put-from-add-a : (t : ℕ) → put-from-lts.Need-add-a (put-from-calls t) (put-from-at t) put-from.Post put-from-Inv-loop put-from-μ-loop
-put-from-add-a t c = let h = small t (c .before .before .before .before .before .before .before .before .before) (c .before .before .before .before .before .loop .a) (c .before .before .before .before .loop-test .taken) in record { fits = omega arith }
+put-from-add-a t c = let h = small t (c .before .before .before .before .before .before .before .before .before) (c .before .before .before .before .before .loop .a) (reach t (c .before .before .before .before)) in record { fits = omega arith }
 
 put-from-loop-less : (t : ℕ) → put-from-lts.Need-loop-less (put-from-calls t) (put-from-at t) put-from.Post put-from-Inv-loop put-from-μ-loop
 put-from-loop-less t c = search needs
@@ -159,7 +163,7 @@ put-from-loop-again : (t : ℕ) → put-from-lts.Need-loop-again (put-from-calls
 put-from-loop-again t c =
     let s = c .before .before .before .before .before .before .before .before .before in
     let l = c .before .before .before .before .before .loop in
-    box-turn (file t s) (s .args .v) (extent t s) _ _ _ (s .args .p) (high t s) (low t s) (s .args .s) (s .args .dst .now) (goes t s) (l .s) (l .dst) (l .a) (l .inv) (c .before .before .before .before .loop-test .taken) _ _
+    box-turn (file t s) (s .args .v) (extent t s) _ _ _ (s .args .p) (high t s) (low t s) (s .args .s) (s .args .dst .now) (goes t s) (l .s) (l .dst) (l .a) (l .inv) (reach t (c .before .before .before .before)) _ _
     (c .before .before .put-from .ensures)
 
 put-from-same-length-2 : (t : ℕ) → put-from-lts.Need-same-length-2 (put-from-calls t) (put-from-at t) put-from.Post put-from-Inv-loop put-from-μ-loop
