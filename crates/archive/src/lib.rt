@@ -1,4 +1,5 @@
 // The calls of document 01 on lent buffers.
+pub mod boxes;
 pub mod change;
 pub mod check;
 pub mod expand;

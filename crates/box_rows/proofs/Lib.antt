@@ -1,0 +1,6 @@
+pub mod Counted
+pub mod Resumed
+pub mod Rows
+pub mod Turns
+pub mod Whole
+pub mod Between

@@ -1,0 +1,52 @@
+-- The whole box: all dimensions, from position 0 and the destination's first element on. Assumes nothing.
+use Prim.Native.Nat.{ℕ, _≤_}
+use mathlib.Core.Path.{_≡_, sym, ap, _∙_}
+use mathlib.Core.Bool.{true}
+use mathlib.Core.List.{List}
+use native.Mathlib.Nat.{zero-mul, zero-add, one-mul, le-refl}
+use lib.ListN.{length}
+use Rattle.format.specs.declared.Dimensions.{Dimensions}
+use Rattle.format.specs.declared.View.{View}
+use Rattle.format.specs.Answers.{leaves}
+use Rattle.format.specs.Picture.{product, cells}
+use Rattle.format.specs.Accepted.{dimensionsOf}
+use Rattle.format.specs.Box.{boxAllowed, boxFrom, boxPositions, boxWords}
+use Rattle.stores.specs.Put.{put}
+use Rattle.stores.proofs.Laws.{put-front}
+use Rattle.header.specs.Search.{ViewOf}
+use Rattle.cursor.specs.declared.Cursor.{Cursor}
+use Rattle.cursor.specs.Cursor.{startOf}
+use Rattle.box_rows.specs.declared.Filled.{Filled}
+use Rattle.box_rows.specs.Bounds.{boxCount}
+use Rattle.box_rows.specs.Filling.{wordsOn, BoxGoes, BoxFilled}
+use Rattle.box_rows.proofs.Counted.{allowed-as, length-box}
+use Rattle.box_rows.proofs.Resumed.{cells-seen, ready-start}
+use Rattle.box_rows.proofs.Turns.{length-words-on}
+
+module _ (b : List ℕ) (v : View) (d : Dimensions) (low high : List ℕ) (o : ViewOf b v) (e : d ≡ dimensionsOf b) where
+  pub box-goes : (c : Cursor) (room : ℕ) → c ≡ startOf b v → length low ≡ 4 → length high ≡ 4 → boxAllowed d low high ≡ true
+      → boxCount (d .extents) low high ≤ room → BoxGoes b v (d .extents) low high 0 (record { cursor = c; words = 0 }) room
+  unfolding cells
+  box-goes c room s l h a k =
+      let m : product (d .extents) ≡ v .cells = ap cells e ∙ sym (cells-seen b v o) in
+      record {
+        view = o;
+        bounds = sym (allowed-as d low high l h) ∙ a;
+        ready = rw (zero-mul (product (d .extents))) (ready-start b v o c s);
+        inside = rw (one-mul (product (d .extents)), m) (le-refl (v .cells));
+        fits = rw (zero-add (length (boxFrom 0 (d .extents) low high)), length-box 0 (d .extents) low high) k;
+      }
+
+  box-words : boxWords b low high ≡ wordsOn b (boxFrom 0 (d .extents) low high)
+  unfolding boxWords boxPositions wordsOn
+  box-words = rw e
+
+  pub length-box-words : length (boxWords b low high) ≡ boxCount (d .extents) low high
+  length-box-words =
+      ap length box-words ∙ length-words-on b (boxFrom 0 (d .extents) low high) ∙ length-box 0 (d .extents) low high
+
+  pub box-done : (c : Cursor) (before : List ℕ) (r : Filled) (after : List ℕ) → boxCount (d .extents) low high ≤ length before
+      → BoxFilled b v (d .extents) low high 0 (record { cursor = c; words = 0 }) before r after → after ≡ leaves 0 (boxWords b low high) before
+  box-done c before r after k f =
+      let n : length (boxWords b low high) ≤ length before = rw length-box-words k in
+      f .put ∙ ap (put before 0) (sym box-words) ∙ put-front before (boxWords b low high) n

@@ -1,0 +1,156 @@
+-- The loop's invariant: the count so far, continued over the dimensions that are left, gives the whole. Assumes nothing.
+use mathlib.Core.Path.{_≡_, refl, sym, _∙_}
+use Prim.Native.Nat.{ℕ, _+_, _-_, _*_, _≤_}
+use mir.Val.{Fits}
+use mir.Syntax.{w32}
+use native.Mathlib.Nat.{one-mul, le-refl}
+use native.Mathlib.Omega.{arith}
+use lib.ListN.{length, drop, getD}
+use Rattle.format.specs.Tools.{pick}
+use Rattle.format.specs.Picture.{product, cells}
+use Rattle.format.specs.Box.{boxAllowed}
+use Rattle.laws.proofs.Limits.{small-dims}
+use Rattle.header.proofs.CellCount.{cells-least}
+use Rattle.box_rows.specs.Bounds.{boxCount}
+use Rattle.box_rows.proofs.Counted.{counted, count-turn, count-past, count-above, count-room, count-end, count-small, count-all}
+use borrow.Author.Needs.{needs}
+use Rattle.box_rows.proofs.count.box_count.Statement.{statement}
+use Rattle.box_rows.proofs.count.box_count.Tie as tie
+
+abbrev Inv-loop : tie.InvT-loop
+Inv-loop low high extents count₀ i₀ count i =
+    (i ≤ 4) × (count * product (drop i extents) ≤ product extents)
+    × (counted count (drop i extents) (drop i low) (drop i high) ≡ counted 1 extents low high)
+
+abbrev μ-loop : tie.MeasureT-loop
+μ-loop low high extents count₀ i₀ count i = 4 - i
+
+four : (c : tie.Start Inv-loop μ-loop) → (length (c .args .d .extents) ≡ 4) × (length (c .args .t2) ≡ 4) × (length (c .args .t3) ≡ 4)
+four c = (search needs, search needs, search needs)
+
+most : (c : tie.Start Inv-loop μ-loop) → (1 ≤ product (c .args .d .extents)) × (product (c .args .d .extents) ≤ 16777216)
+unfolding cells
+most c = (cells-least (c .args .d) (c .pre), small-dims (c .args .d) (c .pre) .most)
+
+-- where it stops, what it counts is the number of cells, or 0
+whole : (c : tie.At-loop Inv-loop μ-loop) (x : ℕ)
+    → counted (c .loop .count) (drop (c .loop .i) (c .before .before .args .d .extents)) (drop (c .loop .i) (c .before .before .args .t2)) (drop (c .loop .i) (c .before .before .args .t3)) ≡ x
+    → x ≡ pick (boxAllowed (c .before .before .args .d) (c .before .before .args .t2) (c .before .before .args .t3)) (boxCount (c .before .before .args .d .extents) (c .before .before .args .t2) (c .before .before .args .t3)) 0
+whole c x h =
+    let s = c .before .before in
+    let f = four s in
+    sym h ∙ c .loop .inv .2 ∙ count-all (s .args .d) (s .args .t2) (s .args .t3) (f .1) (f .2)
+
+-- the next count stays in the picture
+room : (c : tie.Else2 Inv-loop μ-loop)
+    → c .before .before .before .loop .count * (getD (c .before .before .before .before .before .args .t3) (c .before .before .before .loop .i) 0 - getD (c .before .before .before .before .before .args .t2) (c .before .before .before .loop .i) 0 + 1)
+    * product (drop (c .before .before .before .loop .i + 1) (c .before .before .before .before .before .args .d .extents))
+    ≤ product (c .before .before .before .before .before .args .d .extents)
+room c =
+    let s = c .before .before .before .before .before in
+    let l = c .before .before .before .loop in
+    let f = four s in
+    let k = c .before .if1 .left in
+    count-room (l .count) (l .i) (s .args .d .extents) (s .args .t2) (s .args .t3) (omega arith) (omega arith) (omega arith) _ (l .inv .1) (omega arith)
+
+next : (c : tie.Else2 Inv-loop μ-loop)
+    → c .before .before .before .loop .count * (getD (c .before .before .before .before .before .args .t3) (c .before .before .before .loop .i) 0 - getD (c .before .before .before .before .before .args .t2) (c .before .before .before .loop .i) 0 + 1)
+    ≤ 16777216
+next c =
+    let s = c .before .before .before .before .before in
+    let m = most s in
+    let k = count-small _ _ (c .before .before .before .loop .i + 1) (s .args .d .extents) (m .0) (room c) in
+    omega (arith, m .1)
+
+loop-holds : tie.Need-loop-holds Inv-loop μ-loop
+loop-holds c = (omega arith, rw one-mul (le-refl _), refl)
+
+mul-e : tie.Need-mul-e Inv-loop μ-loop
+mul-e c = search needs
+
+array-read-e : tie.Need-array-read-e Inv-loop μ-loop
+array-read-e c = search needs
+
+mul-l : tie.Need-mul-l Inv-loop μ-loop
+mul-l c = search needs
+
+array-read-l : tie.Need-array-read-l Inv-loop μ-loop
+array-read-l c = search needs
+
+mul-h : tie.Need-mul-h Inv-loop μ-loop
+mul-h c = search needs
+
+array-read-h : tie.Need-array-read-h Inv-loop μ-loop
+array-read-h c = search needs
+
+returns : tie.Need-returns Inv-loop μ-loop
+returns c =
+    let s = c .before .before .before .before in
+    let l = c .before .before .loop in
+    let f = four s in
+    (whole (c .before .before) 0 (count-past (l .count) (l .i) _ _ _ (omega arith) (omega arith) (omega arith) (c .if1 .taken)), omega arith)
+
+returns-2 : tie.Need-returns-2 Inv-loop μ-loop
+returns-2 c =
+    let s = c .before .before .before .before .before in
+    let l = c .before .before .before .loop in
+    let f = four s in
+    (whole (c .before .before .before) 0 (count-above (l .count) (l .i) _ _ _ (omega arith) (omega arith) (omega arith) (c .if2 .taken)), omega arith)
+
+add-count : tie.Need-add-count Inv-loop μ-loop
+add-count c =
+    let k = c .before .if1 .left in
+    let fits : Fits w32 (getD (c .before .before .before .before .before .args .d .extents) (c .before .before .before .loop .i) 0) = search needs in
+    record { fits = omega arith }
+
+mul-count : tie.Need-mul-count Inv-loop μ-loop
+mul-count c = let h = next c in record { fits = omega arith }
+
+add-i : tie.Need-add-i Inv-loop μ-loop
+add-i c = search needs
+
+loop-less : tie.Need-loop-less Inv-loop μ-loop
+loop-less c = search needs
+
+loop-again : tie.Need-loop-again Inv-loop μ-loop
+loop-again c =
+    let s = c .before .before .before .before .before in
+    let l = c .before .before .before .loop in
+    let f = four s in
+    let h = c .if2 .left in
+    let k = c .before .if1 .left in (
+      omega arith,
+      room c,
+      sym (count-turn (l .count) (l .i) _ _ _ (omega arith) (omega arith) (omega arith) (omega arith) (omega arith)) ∙ l .inv .2,
+    )
+
+returns-3 : tie.Need-returns-3 Inv-loop μ-loop
+returns-3 c =
+    let s = c .before .before .before in
+    let l = c .before .loop in
+    let f = four s in
+    let m = most s in
+    let k = count-small _ (l .count) (l .i) (s .args .d .extents) (m .0) (l .inv .1) in
+    (whole (c .before) (l .count) (count-end (l .count) (l .i) (s .args .d .extents) _ _ (omega arith)), omega arith)
+
+pub box-count-spec : {M : Type 1} → statement M
+box-count-spec =
+    tie.close
+    (tie.spec
+    Inv-loop
+    μ-loop
+    loop-holds
+    mul-e
+    array-read-e
+    mul-l
+    array-read-l
+    mul-h
+    array-read-h
+    returns
+    returns-2
+    add-count
+    mul-count
+    add-i
+    loop-less
+    loop-again
+    returns-3)

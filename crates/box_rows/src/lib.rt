@@ -1,0 +1,99 @@
+// The words of a box of a picture in row order, from an accepted file. Positions never fall, so a file of kind 4 is walked once.
+pub mod count;
+pub mod resume;
+
+use cursor::Cursor;
+use cursor::start;
+use format::Dimensions;
+use format::Position;
+use format::RankAnswer;
+use format::View;
+use header::places::words_at;
+use resume::rank_from;
+use wire::load_u32;
+ghost use mathlib.Core.Path.{_≡_};
+ghost use mathlib.Core.Bool.{true};
+ghost use Prim.Native.Nat.{_≤_, _<_};
+ghost use lib.ListN.{length, drop};
+ghost use Rattle.format.specs.Answers.{leaves};
+ghost use Rattle.format.specs.Accepted.{dimensionsOf};
+ghost use Rattle.format.specs.Box.{boxAllowed, boxWords};
+ghost use Rattle.header.specs.Search.{ViewOf};
+ghost use Rattle.box_rows.specs.Bounds.{boxCount};
+ghost use Rattle.box_rows.specs.Filling.{RowGoes, RowFilled, BoxGoes, BoxFilled};
+
+// How far a box is put out: the cursor, and the words that the destination has.
+pub struct Filled {
+    pub cursor: Cursor,
+    pub words: usize,
+}
+
+// The words of n cells from a position on.
+fn put_row(file: &[u8], v: View, s: Filled, from: u32, n: u32, dst: &mut [u32]) -> Filled
+    requires { ⌜ RowGoes (now file) v s from n (length (now dst)) ⌝ }
+    ensures { λ r. ⌜ RowFilled (now (file .entry)) v s from n (now (dst .entry)) r (now (dst .exit)) ⌝ }
+{
+    let words = words_at(v);
+    let mut c = s.cursor;
+    let mut p = from;
+    let mut k = s.words;
+    let end = k + n as usize;
+    while k < end {
+        let sought = rank_from(file, v, c, Position(p));
+        c = sought.cursor;
+        let to = k;
+        k += 1;
+        p += 1;
+        let answer = sought.answer;
+        let RankAnswer::Rank(rank) = answer else {
+            dst[to] = v.empty;
+            continue;
+        };
+        dst[to] = load_u32(file, words + 4 * rank.0 as usize);
+    }
+    Filled {
+        cursor: c,
+        words: k,
+    }
+}
+
+// The words of the box in the dimensions from i on; p is the position of the coordinates before.
+fn put_from(
+    file: &[u8],
+    v: View,
+    extents: [u32; 4],
+    low: [u32; 4],
+    high: [u32; 4],
+    i: usize,
+    p: u32,
+    mut s: Filled,
+    dst: &mut [u32],
+) -> Filled
+    requires { ⌜ (i < 4) × BoxGoes (now file) v (drop i extents) (drop i low) (drop i high) p s (length (now dst)) ⌝ }
+    ensures { λ r. ⌜ BoxFilled (now (file .entry)) v (drop i extents) (drop i low) (drop i high) p s (now (dst .entry)) r (now (dst .exit)) ⌝ }
+{
+    let before = p * extents[i];
+    let mut a = low[i];
+    let last = high[i];
+    if i == 3 {
+        return put_row(file, v, s, before + a, last - a + 1, dst);
+    }
+    while a <= last {
+        s = put_from(file, v, extents, low, high, i + 1, before + a, s, dst);
+        a += 1;
+    }
+    s
+}
+
+// The words of an allowed box into the destination's first elements.
+pub fn put_box(file: &[u8], v: View, d: Dimensions, low: [u32; 4], high: [u32; 4], dst: &mut [u32])
+    requires { ⌜ ViewOf (now file) v × (d ≡ dimensionsOf (now file)) × (boxAllowed d low high ≡ true) × (boxCount (d .extents) low high ≤ length (now dst)) ⌝ }
+    ensures { λ _. ⌜ now (dst .exit) ≡ leaves 0 (boxWords (now (file .entry)) low high) (now (dst .entry)) ⌝ }
+{
+    let extents = d.extents;
+    let s = Filled {
+        cursor: start(file, v),
+        words: 0,
+    };
+    put_from(file, v, extents, low, high, 0, 0, s, dst);
+}
