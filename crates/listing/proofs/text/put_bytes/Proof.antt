@@ -1,0 +1,68 @@
+use borrow.Author.Needs.{needs}
+use Rattle.listing.proofs.text.put_bytes.Statement.{statement}
+use Rattle.listing.proofs.text.put_bytes.Tie as tie
+use Rattle.listing.proofs.text.put_bytes.Reads as reads
+use Rattle.listing.proofs.text.put_bytes.Lts as lts
+
+abbrev Inv-loop : tie.InvT-loop
+Inv-loop dst₀ at text i₀ dst i = ?
+
+abbrev μ-loop : tie.MeasureT-loop
+μ-loop dst₀ at text i₀ dst i = ?
+
+-- src/text.rt:15:5
+loop-holds : tie.Need-loop-holds Inv-loop μ-loop
+loop-holds c = search needs
+
+-- src/text.rt:16:23
+shared-slice-read-dst : tie.Need-shared-slice-read-dst Inv-loop μ-loop
+shared-slice-read-dst c = search needs
+
+-- src/text.rt:16:13
+add-dst : tie.Need-add-dst Inv-loop μ-loop
+add-dst c = search needs
+
+-- src/text.rt:16:9
+slice-write-dst : tie.Need-slice-write-dst Inv-loop μ-loop
+slice-write-dst c = search needs
+
+-- src/text.rt:17:9
+add-i : tie.Need-add-i Inv-loop μ-loop
+add-i c = search needs
+
+-- src/text.rt:15:5
+loop-less : tie.Need-loop-less Inv-loop μ-loop
+loop-less c = search needs
+
+-- src/text.rt:15:5
+loop-again : tie.Need-loop-again Inv-loop μ-loop
+loop-again c = search needs
+
+-- src/text.rt:19:5
+add-result : tie.Need-add-result Inv-loop μ-loop
+add-result c = search needs
+
+-- src/text.rt:10:1
+same-length : tie.Need-same-length Inv-loop μ-loop
+same-length c = search needs
+
+-- src/text.rt:10:1
+returns : tie.Need-returns Inv-loop μ-loop
+returns c = search needs
+
+pub put-bytes-spec : {M : Type 1} → statement M
+put-bytes-spec =
+    tie.close
+    (tie.spec
+    Inv-loop
+    μ-loop
+    loop-holds
+    shared-slice-read-dst
+    add-dst
+    slice-write-dst
+    add-i
+    loop-less
+    loop-again
+    add-result
+    same-length
+    returns)
