@@ -1,3 +1,10 @@
+-- `digit_count` meets its contract: the digits counted and those of the rest. Assumes nothing.
+use Prim.Native.Nat.{_+_, _≤_}
+use mathlib.Core.Path.{_≡_}
+use native.Mathlib.Omega.{arith}
+use lib.ListN.{length}
+use Rattle.format.specs.Lister.{decimal}
+use Rattle.listing.proofs.Decimal.{decimal-one, length-decimal, length-decimal-more}
 use borrow.Author.Needs.{needs}
 use Rattle.listing.proofs.text.digit_count.Statement.{statement}
 use Rattle.listing.proofs.text.digit_count.Tie as tie
@@ -5,10 +12,10 @@ use Rattle.listing.proofs.text.digit_count.Reads as reads
 use Rattle.listing.proofs.text.digit_count.Lts as lts
 
 abbrev Inv-loop : tie.InvT-loop
-Inv-loop n count₀ rest₀ count rest = ?
+Inv-loop n count₀ rest₀ count rest = (rest ≤ n) × (count + length (decimal rest) ≡ length (decimal n) + 1)
 
 abbrev μ-loop : tie.MeasureT-loop
-μ-loop n count₀ rest₀ count rest = ?
+μ-loop n count₀ rest₀ count rest = rest
 
 -- src/text.rt:28:5
 loop-holds : tie.Need-loop-holds Inv-loop μ-loop
@@ -16,7 +23,7 @@ loop-holds c = search needs
 
 -- src/text.rt:30:9
 add-count : tie.Need-add-count Inv-loop μ-loop
-add-count c = search needs
+add-count c = let f = c .before .before .fits in let k = length-decimal 9 (c .before .before .args .n) (omega arith) in let e = c .before .loop .inv .1 in search needs
 
 -- src/text.rt:28:5
 loop-less : tie.Need-loop-less Inv-loop μ-loop
@@ -24,11 +31,19 @@ loop-less c = search needs
 
 -- src/text.rt:28:5
 loop-again : tie.Need-loop-again Inv-loop μ-loop
-loop-again c = search needs
+loop-again c =
+    let l = c .before .loop in
+    let e = l .inv .1 in
+    let f = c .before .before .fits in
+    (omega arith, omega (arith, length-decimal-more (l .rest) (omega arith) (c .loop-test .taken)))
 
 -- src/text.rt:23:1
 returns : tie.Need-returns Inv-loop μ-loop
-returns c = search needs
+returns c =
+    let l = c .before .loop in
+    let e = l .inv .1 in
+    let o : length (decimal (l .rest)) ≡ 1 = rw (decimal-one (l .rest) (omega arith)) in
+    (omega arith, length-decimal 9 (c .before .before .args .n) (omega arith))
 
 pub digit-count-spec : {M : Type 1} → statement M
 digit-count-spec =

@@ -1,3 +1,11 @@
+-- `put_bytes` meets its contract: the bytes that are left, put on, give the whole. Assumes nothing.
+use Prim.Native.Nat.{_+_, _-_, _≤_}
+use mathlib.Core.Path.{_≡_, refl, sym, _∙_}
+use native.Mathlib.Nat.{add-zero}
+use native.Mathlib.Omega.{arith}
+use lib.ListN.{length, drop}
+use Rattle.stores.specs.Put.{put}
+use Rattle.listing.proofs.Placing.{bytes-turn, bytes-end}
 use borrow.Author.Needs.{needs}
 use Rattle.listing.proofs.text.put_bytes.Statement.{statement}
 use Rattle.listing.proofs.text.put_bytes.Tie as tie
@@ -5,14 +13,14 @@ use Rattle.listing.proofs.text.put_bytes.Reads as reads
 use Rattle.listing.proofs.text.put_bytes.Lts as lts
 
 abbrev Inv-loop : tie.InvT-loop
-Inv-loop dst₀ at text i₀ dst i = ?
+Inv-loop dst₀ at text i₀ dst i = (i ≤ length text) × (length dst ≡ length dst₀) × (put dst (at + i) (drop i text) ≡ put dst₀ at text)
 
 abbrev μ-loop : tie.MeasureT-loop
-μ-loop dst₀ at text i₀ dst i = ?
+μ-loop dst₀ at text i₀ dst i = length text - i
 
 -- src/text.rt:15:5
 loop-holds : tie.Need-loop-holds Inv-loop μ-loop
-loop-holds c = search needs
+loop-holds c = (omega arith, refl, rw add-zero)
 
 -- src/text.rt:16:23
 shared-slice-read-dst : tie.Need-shared-slice-read-dst Inv-loop μ-loop
@@ -36,7 +44,13 @@ loop-less c = search needs
 
 -- src/text.rt:15:5
 loop-again : tie.Need-loop-again Inv-loop μ-loop
-loop-again c = search needs
+loop-again c =
+    let a = c .before .before .before .args in
+    let l = c .before .before .loop in (
+      search needs,
+      search needs,
+      bytes-turn (l .dst) (a .at) (a .text .now) (l .i) (c .before .loop-test .taken) ∙ l .inv .2,
+    )
 
 -- src/text.rt:19:5
 add-result : tie.Need-add-result Inv-loop μ-loop
@@ -48,7 +62,13 @@ same-length c = search needs
 
 -- src/text.rt:10:1
 returns : tie.Need-returns Inv-loop μ-loop
-returns c = search needs
+returns c =
+    let a = c .before .before .args in
+    let l = c .before .loop in
+    record {
+      place = let low = l .inv .0 in omega arith;
+      bytes = sym (bytes-end (l .dst) (a .at) (a .text .now) (l .i) (c .loop-test .left)) ∙ l .inv .2;
+    }
 
 pub put-bytes-spec : {M : Type 1} → statement M
 put-bytes-spec =
