@@ -43,7 +43,8 @@ returns c =
     let l = c .before .loop in
     let e = l .inv .1 in
     let o : length (decimal (l .rest)) ≡ 1 = rw (decimal-one (l .rest) (omega arith)) in
-    (omega arith, length-decimal 9 (c .before .before .args .n) (omega arith))
+    let m = length-decimal 9 (c .before .before .args .n) (omega arith) in
+    (omega arith, omega arith)
 
 pub digit-count-spec : {M : Type 1} → statement M
 digit-count-spec =

@@ -1,3 +1,12 @@
+-- `put_decimal` meets its contract: the digits of the rest, put on, give the whole. Assumes nothing.
+use Prim.Native.Nat.{_+_, _-_, _%_, _^_, _≤_, _<_}
+use mathlib.Core.Path.{_≡_, refl, sym, _∙_}
+use native.Mathlib.Omega.{arith}
+use lib.ListN.{length, length-set}
+use Rattle.format.specs.Lister.{decimal}
+use Rattle.stores.specs.Put.{put}
+use Rattle.listing.proofs.Decimal.{length-decimal-more}
+use Rattle.listing.proofs.Placing.{decimal-turn, decimal-end}
 use borrow.Author.Needs.{needs}
 use Rattle.listing.proofs.text.put_decimal.Statement.{statement}
 use Rattle.listing.proofs.text.put_decimal.Tie as tie
@@ -6,10 +15,12 @@ use Rattle.listing.proofs.text.put_decimal.Lts as lts
 use Rattle.listing.proofs.text.digit_count.Reads as digit-count-reads
 
 abbrev Inv-loop : tie.InvT-loop
-Inv-loop dst₀ at n end place₀ rest₀ dst place rest = ?
+Inv-loop dst₀ at n end place₀ rest₀ dst place rest =
+    (rest ≤ n) × (length dst ≡ length dst₀) × (place ≡ at + length (decimal rest)) × (place ≤ at + 10)
+    × (put dst at (decimal rest) ≡ put dst₀ at (decimal n))
 
 abbrev μ-loop : tie.MeasureT-loop
-μ-loop dst₀ at n end place₀ rest₀ dst place rest = ?
+μ-loop dst₀ at n end place₀ rest₀ dst place rest = rest
 
 -- src/text.rt:40:20
 digit-count-requires : tie.Need-digit-count-requires Inv-loop μ-loop
@@ -17,15 +28,22 @@ digit-count-requires c κs = search needs
 
 -- src/text.rt:40:15
 add-end : tie.Need-add-end Inv-loop μ-loop
-add-end c = search needs
+add-end c = let k = c .digit-count .ensures .1 in search needs
 
 -- src/text.rt:43:5
 loop-holds : tie.Need-loop-holds Inv-loop μ-loop
-loop-holds c = search needs
+loop-holds c =
+    let e = c .digit-count .ensures .0 in
+    let k = c .digit-count .ensures .1 in
+    (omega arith, refl, omega arith, omega arith, refl)
 
 -- src/text.rt:44:9
 sub-place : tie.Need-sub-place Inv-loop μ-loop
-sub-place c = search needs
+sub-place c =
+    let l = c .before .loop in
+    let f = c .before .before .before .before .fits in
+    let p = l .inv .2 in
+    omega (arith, length-decimal-more (l .rest) (omega arith) (c .loop-test .taken))
 
 -- src/text.rt:45:23
 add-dst : tie.Need-add-dst Inv-loop μ-loop
@@ -37,7 +55,13 @@ cast-dst c = search needs
 
 -- src/text.rt:45:9
 slice-write-dst : tie.Need-slice-write-dst Inv-loop μ-loop
-slice-write-dst c = search needs
+slice-write-dst c =
+    let l = c .before .loop in
+    let e = l .inv .1 in
+    let k = l .inv .3 in
+    let p = c .before .before .before .before .pre in
+    let z = sub-place c in
+    omega arith
 
 -- src/text.rt:43:5
 loop-less : tie.Need-loop-less Inv-loop μ-loop
@@ -45,7 +69,19 @@ loop-less c = search needs
 
 -- src/text.rt:43:5
 loop-again : tie.Need-loop-again Inv-loop μ-loop
-loop-again c = search needs
+loop-again c =
+    let a = c .before .before .before .before .args in
+    let l = c .before .loop in
+    let f = c .before .before .before .before .fits in
+    let p = l .inv .2 in
+    let k = l .inv .3 in
+    let small : l .rest < 10 ^ 10 = omega arith in (
+      omega arith,
+      length-set (l .dst) (l .place - 1) (48 + l .rest % 10) ∙ l .inv .1,
+      omega (arith, length-decimal-more (l .rest) small (c .loop-test .taken)),
+      omega arith,
+      decimal-turn (l .dst) (a .at) (l .rest) (l .place) small (c .loop-test .taken) p ∙ l .inv .4,
+    )
 
 -- src/text.rt:48:16
 add-dst-2 : tie.Need-add-dst-2 Inv-loop μ-loop
@@ -57,7 +93,10 @@ cast-dst-2 c = search needs
 
 -- src/text.rt:48:5
 slice-write-dst-2 : tie.Need-slice-write-dst-2 Inv-loop μ-loop
-slice-write-dst-2 c = search needs
+slice-write-dst-2 c =
+    let e = c .before .loop .inv .1 in
+    let p = c .before .before .before .before .pre in
+    omega arith
 
 -- src/text.rt:36:1
 same-length : tie.Need-same-length Inv-loop μ-loop
@@ -65,7 +104,13 @@ same-length c = search needs
 
 -- src/text.rt:36:1
 returns : tie.Need-returns Inv-loop μ-loop
-returns c = search needs
+returns c =
+    let a = c .before .before .before .before .args in
+    let l = c .before .loop in
+    record {
+      place = let e = c .before .before .digit-count .ensures .0 in omega arith;
+      bytes = decimal-end (l .dst) (a .at) (l .rest) (omega arith) ∙ l .inv .4;
+    }
 
 pub put-decimal-spec : {M : Type 1} → statement M
 put-decimal-spec =

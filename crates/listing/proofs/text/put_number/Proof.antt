@@ -1,0 +1,30 @@
+use borrow.Author.Needs.{needs}
+use Rattle.listing.proofs.text.put_number.Statement.{statement}
+use Rattle.listing.proofs.text.put_number.Tie as tie
+use Rattle.listing.proofs.text.put_number.Reads as reads
+use Rattle.listing.proofs.text.put_number.Lts as lts
+use Rattle.listing.proofs.text.put_decimal.Reads as put-decimal-reads
+
+-- src/text.rt:57:9
+put-decimal-requires : tie.Need-put-decimal-requires
+put-decimal-requires c κs = search needs
+
+-- src/text.rt:58:5
+slice-write-dst : tie.Need-slice-write-dst
+slice-write-dst c = search needs
+
+-- src/text.rt:59:5
+add-result : tie.Need-add-result
+add-result c = search needs
+
+-- src/text.rt:53:1
+same-length : tie.Need-same-length
+same-length c = search needs
+
+-- src/text.rt:53:1
+returns : tie.Need-returns
+returns c = search needs
+
+pub put-number-spec : {M : Type 1} → statement M
+put-number-spec =
+    tie.close (tie.spec put-decimal-requires slice-write-dst add-result same-length returns)
