@@ -1,6 +1,6 @@
 -- Text put piece by piece. Assumes nothing.
 use Prim.Native.Nat.{ℕ, suc, _+_, _-_, _/_, _%_, _^_, _≤_, _<_}
-use mathlib.Core.Path.{_≡_, refl, sym, ap, _∙_}
+use mathlib.Core.Path.{_≡_, refl, sym, ap, _∙_, subst}
 use mathlib.Core.List.{List, [], _∷_, _++_, append-assoc}
 use native.Mathlib.Numerals.{add-one}
 use native.Mathlib.Omega.{arith}
@@ -8,7 +8,7 @@ use lib.ListN.{length, getD, set, drop, length-append, drop-of-length-le}
 use lib.Seq.{drop-cons}
 use Rattle.format.specs.Lister.{decimal, line, refusedLine}
 use Rattle.stores.specs.Put.{put}
-use Rattle.stores.proofs.Laws.{put-append, put-comm, put-nil}
+use Rattle.stores.proofs.Laws.{length-put, put-append, put-comm, put-nil}
 use Rattle.listing.specs.Text.{TextPut}
 use Rattle.listing.proofs.Decimal.{decimal-one, decimal-more, length-decimal, length-decimal-more}
 
@@ -21,6 +21,9 @@ text-then xs ys d e f at m r h k =
       place = omega (arith, length-append xs ys);
       bytes = k .bytes ∙ rw (h .bytes, p) (sym (put-append d at xs ys));
     }
+
+pub text-size : (xs d e : List ℕ) (at m : ℕ) → TextPut xs d at m e → length e ≡ length d
+text-size xs d e at m h = ap length (h .bytes) ∙ length-put d at xs
 
 -- one byte
 pub byte-put : (d : List ℕ) (at x : ℕ) → set d at x ≡ put d at (x ∷ [])
@@ -51,8 +54,51 @@ decimal-turn d at n place h k e =
 pub decimal-end : (d : List ℕ) (at n : ℕ) → n < 10 → set d at (48 + n) ≡ put d at (decimal n)
 decimal-end d at n h = byte-put d at (48 + n) ∙ ap (put d at) (sym (decimal-one n h))
 
+-- ---- a number and a byte
+
+number-length : (n x : ℕ) → n < 10 ^ 10 → length (decimal n ++ (x ∷ [])) ≤ 11
+number-length n x h = let k = length-decimal 9 n h in rw (length-append (decimal n) (x ∷ [])) (omega arith)
+
+-- the room that a number of 32 bits and a byte leave
+pub number-room : (n x : ℕ) (d e : List ℕ) (at m : ℕ) → n < 10 ^ 10 → TextPut (decimal n ++ (x ∷ [])) d at m e → (m ≤ at + 11) × (length e ≡ length d)
+number-room n x d e at m h t =
+    let p = t .place in
+    let k = number-length n x h in
+    (omega arith, text-size (decimal n ++ (x ∷ [])) d e at m t)
+
+pub byte-room : (n : ℕ) (d e : List ℕ) (at m : ℕ) → n < 10 ^ 10 → at + 11 ≤ length d → TextPut (decimal n) d at m e → m + 1 ≤ length e
+byte-room n d e at m h k t =
+    let p = t .place in
+    let q = length-decimal 9 n h in
+    let s = text-size (decimal n) d e at m t in
+    omega arith
+
+pub number-put : (n x : ℕ) (d e : List ℕ) (at m : ℕ) → TextPut (decimal n) d at m e → TextPut (decimal n ++ (x ∷ [])) d at (m + 1) (set e m x)
+number-put n x d e at m t = text-then (decimal n) (x ∷ []) d e (set e m x) at m (m + 1) t (record { place = refl; bytes = byte-put e m x })
+
 -- ---- lines
 
-pub line-of : (a b c : ℕ) → (decimal a ++ (32 ∷ [])) ++ (decimal b ++ (32 ∷ [])) ++ (decimal c ++ (10 ∷ [])) ≡ line a b c
+line-of : (a b c : ℕ) → (decimal a ++ (32 ∷ [])) ++ (decimal b ++ (32 ∷ [])) ++ (decimal c ++ (10 ∷ [])) ≡ line a b c
 unfolding line
 line-of a b c = simp append-assoc
+
+pub line-put : (a b c : ℕ) (d e f g : List ℕ) (at m n r : ℕ) → TextPut (decimal a ++ (32 ∷ [])) d at m e → TextPut (decimal b ++ (32 ∷ [])) e m n f
+    → TextPut (decimal c ++ (10 ∷ [])) f n r g → TextPut (line a b c) d at r g
+line-put a b c d e f g at m n r x y z =
+    subst (λ (l : List ℕ). TextPut l d at r g) (line-of a b c)
+    (text-then ((decimal a ++ (32 ∷ [])) ++ (decimal b ++ (32 ∷ []))) (decimal c ++ (10 ∷ [])) d f g at n r
+    (text-then (decimal a ++ (32 ∷ [])) (decimal b ++ (32 ∷ [])) d e f at m n x y) z)
+
+pub line-length : (a b c i j k : ℕ) → a < 10 ^ suc i → b < 10 ^ suc j → c < 10 ^ suc k → length (line a b c) ≤ i + j + k + 6
+line-length a b c i j k h1 h2 h3 =
+    let l1 = length-decimal i a h1 in
+    let l2 = length-decimal j b h2 in
+    let l3 = length-decimal k c h3 in
+    rw (← line-of a b c) (simp length-append (omega arith))
+
+pub refused-put : (n : ℕ) (d e f : List ℕ) (m r : ℕ) → TextPut (114 ∷ 101 ∷ 102 ∷ 117 ∷ 115 ∷ 101 ∷ 100 ∷ 32 ∷ []) d 0 m e
+    → TextPut (decimal n ++ (10 ∷ [])) e m r f → TextPut (refusedLine n) d 0 r f
+unfolding refusedLine
+refused-put n d e f m r x y =
+    subst (λ (l : List ℕ). TextPut l d 0 r f) (sym (append-assoc (114 ∷ 101 ∷ 102 ∷ 117 ∷ 115 ∷ 101 ∷ 100 ∷ 32 ∷ []) (decimal n) (10 ∷ [])))
+    (text-then (114 ∷ 101 ∷ 102 ∷ 117 ∷ 115 ∷ 101 ∷ 100 ∷ 32 ∷ []) (decimal n ++ (10 ∷ [])) d e f 0 m r x y)

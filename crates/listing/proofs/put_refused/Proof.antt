@@ -1,3 +1,6 @@
+-- `put_refused` meets its contract. Assumes nothing.
+use native.Mathlib.Omega.{arith}
+use Rattle.listing.proofs.Placing.{text-size, refused-put}
 use borrow.Author.Needs.{needs}
 use Rattle.listing.proofs.put_refused.Statement.{statement}
 use Rattle.listing.proofs.put_refused.Tie as tie
@@ -16,7 +19,12 @@ put-bytes-requires c κs = search needs
 
 -- src/lib.rt:28:5
 put-number-requires : tie.Need-put-number-requires
-put-number-requires c κs = search needs
+put-number-requires c κs =
+    let t = c .before .before .before .put-bytes .ensures in
+    let p = t .place in
+    let s = text-size _ (c .before .before .before .before .before .before .before .args .out .now) _ 0 _ t in
+    let q = c .before .before .before .before .before .before .before .pre in
+    omega arith
 
 -- src/lib.rt:23:1
 same-length : tie.Need-same-length
@@ -24,7 +32,9 @@ same-length c = search needs
 
 -- src/lib.rt:23:1
 returns : tie.Need-returns
-returns c = search needs
+returns c =
+    let a = c .before .before .before .before .before .before .before .before .before .before .args in
+    refused-put (a .number) (a .out .now) _ _ _ _ (c .before .before .before .before .before .before .put-bytes .ensures) (c .before .before .put-number .ensures)
 
 pub put-refused-spec : {M : Type 1} → statement M
 put-refused-spec =

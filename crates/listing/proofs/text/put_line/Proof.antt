@@ -1,3 +1,6 @@
+-- `put_line` meets its contract. Assumes nothing.
+use native.Mathlib.Omega.{arith}
+use Rattle.listing.proofs.Placing.{number-room, line-put}
 use borrow.Author.Needs.{needs}
 use Rattle.listing.proofs.text.put_line.Statement.{statement}
 use Rattle.listing.proofs.text.put_line.Tie as tie
@@ -11,11 +14,21 @@ put-number-requires c κs = search needs
 
 -- src/text.rt:68:9
 put-number-requires-2 : tie.Need-put-number-requires-2
-put-number-requires-2 c κs = search needs
+put-number-requires-2 c κs =
+    let s = c .before .before .before .before .before .before in
+    let k = number-room (s .args .a) 32 (s .args .dst .now) _ (s .args .at) _ (let f = s .fits in omega arith) (c .before .before .before .put-number .ensures) in
+    let p = s .pre in
+    omega arith
 
 -- src/text.rt:69:5
 put-number-requires-3 : tie.Need-put-number-requires-3
-put-number-requires-3 c κs = search needs
+put-number-requires-3 c κs =
+    let s = c .before .before .before .before .before .before .before .before .before .before in
+    let f = s .fits in
+    let k = number-room (s .args .a) 32 (s .args .dst .now) _ (s .args .at) _ (omega arith) (c .before .before .before .before .before .before .before .put-number .ensures) in
+    let l = number-room (s .args .b) 32 _ _ _ _ (omega arith) (c .before .before .before .put-number2 .ensures) in
+    let p = s .pre in
+    omega arith
 
 -- src/text.rt:63:1
 same-length : tie.Need-same-length
@@ -23,7 +36,10 @@ same-length c = search needs
 
 -- src/text.rt:63:1
 returns : tie.Need-returns
-returns c = search needs
+returns c =
+    let a = c .before .before .before .before .before .before .before .before .before .before .before .before .before .args in
+    line-put (a .a) (a .b) (a .c) (a .dst .now) _ _ _ (a .at) _ _ _ (c .before .before .before .before .before .before .before .before .before .before .put-number .ensures)
+    (c .before .before .before .before .before .before .put-number2 .ensures) (c .before .before .put-number3 .ensures)
 
 pub put-line-spec : {M : Type 1} → statement M
 put-line-spec =

@@ -1,3 +1,6 @@
+-- `put_number` meets its contract. Assumes nothing.
+use native.Mathlib.Omega.{arith}
+use Rattle.listing.proofs.Placing.{byte-room, number-put}
 use borrow.Author.Needs.{needs}
 use Rattle.listing.proofs.text.put_number.Statement.{statement}
 use Rattle.listing.proofs.text.put_number.Tie as tie
@@ -11,11 +14,13 @@ put-decimal-requires c κs = search needs
 
 -- src/text.rt:58:5
 slice-write-dst : tie.Need-slice-write-dst
-slice-write-dst c = search needs
+slice-write-dst c =
+    let s = c .before .before .before .before .before in
+    byte-room (s .args .n) (s .args .dst .now) _ (s .args .at) _ (let f = s .fits in omega arith) (s .pre) (c .before .before .put-decimal .ensures)
 
 -- src/text.rt:59:5
 add-result : tie.Need-add-result
-add-result c = search needs
+add-result c = let h = slice-write-dst c in search needs
 
 -- src/text.rt:53:1
 same-length : tie.Need-same-length
@@ -23,7 +28,9 @@ same-length c = search needs
 
 -- src/text.rt:53:1
 returns : tie.Need-returns
-returns c = search needs
+returns c =
+    let a = c .before .before .before .before .before .args in
+    number-put (a .n) (a .after) (a .dst .now) _ (a .at) _ (c .before .before .put-decimal .ensures)
 
 pub put-number-spec : {M : Type 1} → statement M
 put-number-spec =

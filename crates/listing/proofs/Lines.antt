@@ -1,0 +1,138 @@
+-- The lines of an accepted file, put one after the other: what is left gives the whole. Assumes nothing.
+use Prim.Native.Nat.{ℕ, suc, _+_, _-_, _*_, _^_, _≤_, _<_}
+use mathlib.Core.Path.{_≡_, refl, sym, ap, _∙_, subst}
+use mathlib.Core.List.{List, [], _++_}
+use native.Mathlib.Numerals.{add-one}
+use native.Mathlib.Omega.{arith}
+use lib.ListN.{length, getD, drop, length-append, drop-of-length-le}
+use lib.Seq.{drop-cons}
+use Rattle.format.specs.declared.View.{View}
+use Rattle.format.specs.Bytes.{field}
+use Rattle.format.specs.Picture.{cells}
+use Rattle.format.specs.Accepted.{settingOf, dimensionsOf, wordsCount, positionsOf, keptOf}
+use Rattle.format.specs.Opened.{viewOf}
+use Rattle.format.specs.Lister.{line, rankLines, fileLines}
+use Rattle.laws.proofs.Acceptance.{accepted, header-right}
+use Rattle.laws.proofs.Limits.{small-setting}
+use Rattle.laws.proofs.Check.{length-numbersOf}
+use Rattle.stores.specs.Put.{put}
+use Rattle.stores.proofs.Laws.{put-append, put-nil}
+use Rattle.header.specs.View.{secondPlace, wordsPlace}
+use Rattle.header.specs.Search.{ViewOf}
+use Rattle.header.proofs.Frame.{Framed, framed}
+use Rattle.cursor.specs.declared.Cursor.{Cursor}
+use Rattle.cursor.specs.Cursor.{nextOf, walked}
+use Rattle.cursor.proofs.Walks.{Turned, walked-next}
+use Rattle.scatter.proofs.Turn.{words-seen, cells-seen, as-long, size-seen, word-seen}
+use Rattle.listing.specs.Text.{TextPut}
+use Rattle.listing.proofs.Placing.{line-length}
+
+-- of the text, to be put into `before`, `rest` is left from index to on
+pub record Left (text before rest : List ℕ) (to : ℕ) (now : List ℕ) : Type 0 where
+  pub place : to + length rest ≡ length text
+  pub bytes : put now to rest ≡ put before 0 text
+
+left-turn : (text before xs ys d e : List ℕ) (to m : ℕ) → Left text before (xs ++ ys) to d → TextPut xs d to m e → Left text before ys m e
+left-turn text before xs ys d e to m h t =
+    let p = h .place in
+    let q = t .place in
+    record {
+      place = omega (arith, length-append xs ys);
+      bytes = rw (t .bytes, q) (sym (put-append d to xs ys)) ∙ h .bytes;
+    }
+
+left-end : (text before rest d : List ℕ) (to : ℕ) → rest ≡ [] → Left text before rest to d → TextPut text before 0 to d
+left-end text before rest d to e h =
+    let p = h .place in
+    let n : length rest ≡ 0 = ap length e in
+    record { place = omega arith; bytes = sym (put-nil d to) ∙ ap (put d to) (sym e) ∙ h .bytes }
+
+rank-turn : (r : ℕ) (ls vs : List ℕ) → r < length ls → r < length vs
+    → rankLines r (drop r ls) (drop r vs) ≡ line r (getD ls r 0) (getD vs r 0) ++ rankLines (r + 1) (drop (r + 1) ls) (drop (r + 1) vs)
+unfolding rankLines
+rank-turn r ls vs h k = rw (drop-cons ls r 0 h, drop-cons vs r 0 k, add-one r)
+
+rank-end : (r : ℕ) (ls vs : List ℕ) → length ls ≤ r → rankLines r (drop r ls) vs ≡ []
+unfolding rankLines
+rank-end r ls vs h = rw (drop-of-length-le ls {i = r} h)
+
+-- ---- of the view v of an accepted file b
+module _ (b : List ℕ) (v : View) (o : ViewOf b v) where
+  frame : Framed b
+  frame = framed b (accepted b (o .accepted) .header)
+
+  -- the lines from rank r on
+  abbrev pub linesFrom : ℕ → List ℕ
+  linesFrom r = rankLines r (drop r (positionsOf b)) (drop r (keptOf b))
+
+  kept-long : length (keptOf b) ≡ wordsCount b
+  unfolding keptOf
+  kept-long = length-numbersOf 4 (wordsCount b) _
+
+  -- a file of at most 65,536 bytes has few words
+  header-there : 52 ≤ wordsPlace v
+  unfolding wordsPlace secondPlace
+  header-there = omega arith
+
+  pub few-words : length b ≤ 65536 → v .words ≤ 16371
+  few-words h = omega (arith, words-seen b v o, size-seen b v o, header-there)
+
+  pub word-inside : (r : ℕ) → r < v .words → wordsPlace v + 4 * r + 4 ≤ length b
+  word-inside r h = omega (arith, words-seen b v o, size-seen b v o)
+
+  -- the first line
+  kind-seen : v .kind ≡ settingOf b .kind
+  unfolding viewOf
+  kind-seen = ap (λ (x : View). x .kind) (o .view)
+
+  first-line : line (v .kind) (v .cells) (v .words) ++ linesFrom 0 ≡ fileLines b
+  unfolding fileLines
+  first-line = rw (kind-seen, cells-seen b v o, frame .cells, words-seen b v o)
+
+  pub first-short : length b ≤ 65536 → length (line (v .kind) (v .cells) (v .words)) ≤ 20
+  first-short h =
+      let s = small-setting (settingOf b) (header-right b (accepted b (o .accepted) .header) .setting) in
+      let k = s .kind in
+      let m = frame .cells-most in
+      let e = cells-seen b v o in
+      let w = few-words h in
+      let t = kind-seen in
+      line-length (v .kind) (v .cells) (v .words) 0 7 7 (omega arith) (omega arith) (omega arith)
+
+  module _ (before : List ℕ) where
+    pub lines-begin : (m : ℕ) (e : List ℕ) → TextPut (line (v .kind) (v .cells) (v .words)) before 0 m e → Left (fileLines b) before (linesFrom 0) m e
+    lines-begin m e t =
+        left-turn (fileLines b) before (line (v .kind) (v .cells) (v .words)) (linesFrom 0) before e 0 m
+        (record { place = ap length first-line; bytes = ap (put before 0) first-line }) t
+
+    pub lines-end : (r to : ℕ) (d : List ℕ) → v .words ≤ r → Left (fileLines b) before (linesFrom r) to d → TextPut (fileLines b) before 0 to d
+    lines-end r to d h l =
+        left-end (fileLines b) before (linesFrom r) d to
+        (rank-end r (positionsOf b) (drop r (keptOf b)) (omega (arith, words-seen b v o, as-long b v o))) l
+
+  -- ---- one rank
+  module _ (r : ℕ) (c : Cursor) (word : ℕ) (h : r < v .words) (walk : walked b v c (wordsCount b - r) ≡ drop r (positionsOf b))
+      (at : word ≡ field 4 (wordsPlace v + 4 * r) b) where
+    below : r < wordsCount b
+    below = omega (arith, words-seen b v o)
+
+    pub step : Turned b v c r
+    step = walked-next b (o .accepted) v c r below walk
+
+    this-line : line r (c .at) word ++ linesFrom (r + 1) ≡ linesFrom r
+    this-line =
+        rw (step .position, at, word-seen b v o r below)
+        (sym (rank-turn r (positionsOf b) (keptOf b) (omega (arith, below, as-long b v o)) (omega (arith, below, kept-long))))
+
+    pub lines-turn : (before d e : List ℕ) (to m : ℕ) → Left (fileLines b) before (linesFrom r) to d → TextPut (line r (c .at) word) d to m e
+        → Left (fileLines b) before (linesFrom (r + 1)) m e
+    lines-turn before d e to m l t =
+        left-turn (fileLines b) before (line r (c .at) word) (linesFrom (r + 1)) d e to m
+        (subst (λ (x : List ℕ). Left (fileLines b) before x to d) (sym this-line) l) t
+
+    pub line-short : length b ≤ 65536 → word < 2 ^ 32 → length (line r (c .at) word) ≤ 26
+    line-short n w =
+        let p = step .in-view in
+        let m = frame .cells-most in
+        let f = few-words n in
+        line-length r (c .at) word 4 7 9 (omega arith) (omega arith) (omega arith)
