@@ -25,15 +25,16 @@ use Rattle.cursor.specs.Cursor.{nextOf, walked}
 use Rattle.cursor.proofs.Walks.{Turned, walked-next}
 use Rattle.scatter.proofs.Turn.{words-seen, cells-seen, as-long, size-seen, word-seen}
 use Rattle.listing.specs.Text.{TextPut}
-use Rattle.listing.proofs.Placing.{line-length}
+use Rattle.listing.proofs.Placing.{text-then, line-length}
 
--- of the text, to be put into `before`, `rest` is left from index to on
-pub record Left (text before rest : List ℕ) (to : ℕ) (now : List ℕ) : Type 0 where
-  pub place : to + length rest ≡ length text
-  pub bytes : put now to rest ≡ put before 0 text
+-- of the text, to be put into `before` from index at on, `rest` is left, from index to on
+pub record Left (text before : List ℕ) (at : ℕ) (rest : List ℕ) (to : ℕ) (now : List ℕ) : Type 0 where
+  pub place : to + length rest ≡ at + length text
+  pub bytes : put now to rest ≡ put before at text
 
-left-turn : (text before xs ys d e : List ℕ) (to m : ℕ) → Left text before (xs ++ ys) to d → TextPut xs d to m e → Left text before ys m e
-left-turn text before xs ys d e to m h t =
+left-turn : (text before : List ℕ) (at : ℕ) (xs ys d e : List ℕ) (to m : ℕ) → Left text before at (xs ++ ys) to d → TextPut xs d to m e
+    → Left text before at ys m e
+left-turn text before at xs ys d e to m h t =
     let p = h .place in
     let q = t .place in
     record {
@@ -41,11 +42,11 @@ left-turn text before xs ys d e to m h t =
       bytes = rw (t .bytes, q) (sym (put-append d to xs ys)) ∙ h .bytes;
     }
 
-left-end : (text before rest d : List ℕ) (to : ℕ) → rest ≡ [] → Left text before rest to d → TextPut text before 0 to d
-left-end text before rest d to e h =
+left-end : (text before : List ℕ) (at : ℕ) (rest d : List ℕ) (to : ℕ) → rest ≡ [] → to ≤ length before → Left text before at rest to d → TextPut text before at to d
+left-end text before at rest d to e i h =
     let p = h .place in
     let n : length rest ≡ 0 = ap length e in
-    record { place = omega arith; bytes = sym (put-nil d to) ∙ ap (put d to) (sym e) ∙ h .bytes }
+    record { place = omega arith; bytes = sym (put-nil d to) ∙ ap (put d to) (sym e) ∙ h .bytes; inside = i }
 
 rank-turn : (r : ℕ) (ls vs : List ℕ) → r < length ls → r < length vs
     → rankLines r (drop r ls) (drop r vs) ≡ line r (getD ls r 0) (getD vs r 0) ++ rankLines (r + 1) (drop (r + 1) ls) (drop (r + 1) vs)
@@ -61,8 +62,11 @@ module _ (b : List ℕ) (v : View) (o : ViewOf b v) where
   frame : Framed b
   frame = framed b (accepted b (o .accepted) .header)
 
-  -- the lines from rank r on
-  abbrev pub linesFrom : ℕ → List ℕ
+  -- the lines of the ranks, and those from rank r on
+  abbrev lines : List ℕ
+  lines = rankLines 0 (positionsOf b) (keptOf b)
+
+  abbrev linesFrom : ℕ → List ℕ
   linesFrom r = rankLines r (drop r (positionsOf b)) (drop r (keptOf b))
 
   kept-long : length (keptOf b) ≡ wordsCount b
@@ -85,10 +89,6 @@ module _ (b : List ℕ) (v : View) (o : ViewOf b v) where
   unfolding viewOf
   kind-seen = ap (λ (x : View). x .kind) (o .view)
 
-  first-line : line (v .kind) (v .cells) (v .words) ++ linesFrom 0 ≡ fileLines b
-  unfolding fileLines
-  first-line = rw (kind-seen, cells-seen b v o, frame .cells, words-seen b v o)
-
   pub first-short : length b ≤ 65536 → length (line (v .kind) (v .cells) (v .words)) ≤ 20
   first-short h =
       let s = small-setting (settingOf b) (header-right b (accepted b (o .accepted) .header) .setting) in
@@ -99,16 +99,17 @@ module _ (b : List ℕ) (v : View) (o : ViewOf b v) where
       let t = kind-seen in
       line-length (v .kind) (v .cells) (v .words) 0 7 7 (omega arith) (omega arith) (omega arith)
 
-  module _ (before : List ℕ) where
-    pub lines-begin : (m : ℕ) (e : List ℕ) → TextPut (line (v .kind) (v .cells) (v .words)) before 0 m e → Left (fileLines b) before (linesFrom 0) m e
-    lines-begin m e t =
-        left-turn (fileLines b) before (line (v .kind) (v .cells) (v .words)) (linesFrom 0) before e 0 m
-        (record { place = ap length first-line; bytes = ap (put before 0) first-line }) t
+  pub first-then : (d e f : List ℕ) (m r : ℕ) → TextPut (line (v .kind) (v .cells) (v .words)) d 0 m e → TextPut lines e m r f → TextPut (fileLines b) d 0 r f
+  unfolding fileLines
+  first-then d e f m r x y =
+      let t : TextPut (line (settingOf b .kind) (cells (dimensionsOf b)) (wordsCount b)) d 0 m e
+      = rw (← kind-seen, ← frame .cells, ← cells-seen b v o, ← words-seen b v o) x in
+      text-then (line (settingOf b .kind) (cells (dimensionsOf b)) (wordsCount b)) lines d e f 0 m r t y
 
-    pub lines-end : (r to : ℕ) (d : List ℕ) → v .words ≤ r → Left (fileLines b) before (linesFrom r) to d → TextPut (fileLines b) before 0 to d
-    lines-end r to d h l =
-        left-end (fileLines b) before (linesFrom r) d to
-        (rank-end r (positionsOf b) (drop r (keptOf b)) (omega (arith, words-seen b v o, as-long b v o))) l
+  pub lines-end : (before : List ℕ) (at r to : ℕ) (d : List ℕ) → v .words ≤ r → to ≤ length before → Left lines before at (linesFrom r) to d → TextPut lines before at to d
+  lines-end before at r to d h i l =
+      left-end lines before at (linesFrom r) d to
+      (rank-end r (positionsOf b) (drop r (keptOf b)) (omega (arith, words-seen b v o, as-long b v o))) i l
 
   -- ---- one rank
   module _ (r : ℕ) (c : Cursor) (word : ℕ) (h : r < v .words) (walk : walked b v c (wordsCount b - r) ≡ drop r (positionsOf b))
@@ -124,11 +125,11 @@ module _ (b : List ℕ) (v : View) (o : ViewOf b v) where
         rw (step .position, at, word-seen b v o r below)
         (sym (rank-turn r (positionsOf b) (keptOf b) (omega (arith, below, as-long b v o)) (omega (arith, below, kept-long))))
 
-    pub lines-turn : (before d e : List ℕ) (to m : ℕ) → Left (fileLines b) before (linesFrom r) to d → TextPut (line r (c .at) word) d to m e
-        → Left (fileLines b) before (linesFrom (r + 1)) m e
-    lines-turn before d e to m l t =
-        left-turn (fileLines b) before (line r (c .at) word) (linesFrom (r + 1)) d e to m
-        (subst (λ (x : List ℕ). Left (fileLines b) before x to d) (sym this-line) l) t
+    pub lines-turn : (before : List ℕ) (from : ℕ) (d e : List ℕ) (to m : ℕ) → Left lines before from (linesFrom r) to d → TextPut (line r (c .at) word) d to m e
+        → Left lines before from (linesFrom (r + 1)) m e
+    lines-turn before from d e to m l t =
+        left-turn lines before from (line r (c .at) word) (linesFrom (r + 1)) d e to m
+        (subst (λ (x : List ℕ). Left lines before from x to d) (sym this-line) l) t
 
     pub line-short : length b ≤ 65536 → word < 2 ^ 32 → length (line r (c .at) word) ≤ 26
     line-short n w =

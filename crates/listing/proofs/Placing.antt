@@ -12,6 +12,9 @@ use Rattle.stores.proofs.Laws.{length-put, put-append, put-comm, put-nil}
 use Rattle.listing.specs.Text.{TextPut}
 use Rattle.listing.proofs.Decimal.{decimal-one, decimal-more, length-decimal, length-decimal-more}
 
+pub text-size : (xs d e : List ℕ) (at m : ℕ) → TextPut xs d at m e → length e ≡ length d
+text-size xs d e at m h = ap length (h .bytes) ∙ length-put d at xs
+
 -- a text, then another
 pub text-then : (xs ys d e f : List ℕ) (at m r : ℕ) → TextPut xs d at m e → TextPut ys e m r f → TextPut (xs ++ ys) d at r f
 text-then xs ys d e f at m r h k =
@@ -20,10 +23,8 @@ text-then xs ys d e f at m r h k =
     record {
       place = omega (arith, length-append xs ys);
       bytes = k .bytes ∙ rw (h .bytes, p) (sym (put-append d at xs ys));
+      inside = let i = k .inside in omega (arith, text-size xs d e at m h);
     }
-
-pub text-size : (xs d e : List ℕ) (at m : ℕ) → TextPut xs d at m e → length e ≡ length d
-text-size xs d e at m h = ap length (h .bytes) ∙ length-put d at xs
 
 -- one byte
 pub byte-put : (d : List ℕ) (at x : ℕ) → set d at x ≡ put d at (x ∷ [])
@@ -66,15 +67,16 @@ number-room n x d e at m h t =
     let k = number-length n x h in
     (omega arith, text-size (decimal n ++ (x ∷ [])) d e at m t)
 
-pub byte-room : (n : ℕ) (d e : List ℕ) (at m : ℕ) → n < 10 ^ 10 → at + 11 ≤ length d → TextPut (decimal n) d at m e → m + 1 ≤ length e
+pub byte-room : (n : ℕ) (d e : List ℕ) (at m : ℕ) → n < 10 ^ 10 → at + 11 ≤ length d → TextPut (decimal n) d at m e → m < length e
 byte-room n d e at m h k t =
     let p = t .place in
     let q = length-decimal 9 n h in
     let s = text-size (decimal n) d e at m t in
     omega arith
 
-pub number-put : (n x : ℕ) (d e : List ℕ) (at m : ℕ) → TextPut (decimal n) d at m e → TextPut (decimal n ++ (x ∷ [])) d at (m + 1) (set e m x)
-number-put n x d e at m t = text-then (decimal n) (x ∷ []) d e (set e m x) at m (m + 1) t (record { place = refl; bytes = byte-put e m x })
+pub number-put : (n x : ℕ) (d e : List ℕ) (at m : ℕ) → m < length e → TextPut (decimal n) d at m e → TextPut (decimal n ++ (x ∷ [])) d at (m + 1) (set e m x)
+number-put n x d e at m h t =
+    text-then (decimal n) (x ∷ []) d e (set e m x) at m (m + 1) t (record { place = refl; bytes = byte-put e m x; inside = omega arith })
 
 -- ---- lines
 

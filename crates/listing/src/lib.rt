@@ -15,7 +15,8 @@ ghost use mathlib.Core.Path.{_≡_};
 ghost use mathlib.Core.List.{_++_};
 ghost use Prim.Native.Nat.{_+_, _*_, _≤_, _<_, _^_};
 ghost use lib.ListN.{length, drop};
-ghost use Rattle.format.specs.Lister.{fileLines, refusedLine, listing};
+ghost use Rattle.format.specs.Accepted.{positionsOf, keptOf};
+ghost use Rattle.format.specs.Lister.{rankLines, fileLines, refusedLine, listing};
 ghost use Rattle.header.specs.Search.{ViewOf};
 ghost use Rattle.listing.specs.Text.{TextPut};
 
@@ -28,14 +29,14 @@ fn put_refused(out: &mut [u8], number: u32) -> usize
     put_number(out, at, number, b'\n')
 }
 
-// The lines of an accepted file: the first, then one for each rank.
-fn put_file(file: &[u8], v: View, out: &mut [u8]) -> usize
-    requires { ⌜ ViewOf (now file) v × (length (now file) ≤ 65536) × (426000 ≤ length (now out)) ⌝ }
-    ensures { λ r. ⌜ TextPut (fileLines (now (file .entry))) (now (out .entry)) 0 r (now (out .exit)) ⌝ }
+// A line for each rank of an accepted file.
+fn put_ranks(file: &[u8], v: View, out: &mut [u8], at: usize) -> usize
+    requires { ⌜ ViewOf (now file) v × (length (now file) ≤ 65536) × (at ≤ 20) × (426000 ≤ length (now out)) ⌝ }
+    ensures { λ r. ⌜ TextPut (rankLines 0 (positionsOf (now (file .entry))) (keptOf (now (file .entry)))) (now (out .entry)) at r (now (out .exit)) ⌝ }
 {
     let words = words_at(v);
     let mut c = start(file, v);
-    let mut to = put_line(out, 0, v.kind, v.cells, v.words);
+    let mut to = at;
     let mut rank: u32 = 0;
     while rank < v.words {
         let word = get_u32(file, words + 4 * rank as usize);
@@ -44,6 +45,15 @@ fn put_file(file: &[u8], v: View, out: &mut [u8]) -> usize
         rank += 1;
     }
     to
+}
+
+// The lines of an accepted file.
+fn put_file(file: &[u8], v: View, out: &mut [u8]) -> usize
+    requires { ⌜ ViewOf (now file) v × (length (now file) ≤ 65536) × (426000 ≤ length (now out)) ⌝ }
+    ensures { λ r. ⌜ TextPut (fileLines (now (file .entry))) (now (out .entry)) 0 r (now (out .exit)) ⌝ }
+{
+    let at = put_line(out, 0, v.kind, v.cells, v.words);
+    put_ranks(file, v, out, at)
 }
 
 // What the lister prints, in the first bytes of out; how many they are. An input longer than 65,536 bytes is too long.

@@ -9,51 +9,51 @@ use Rattle.listing.proofs.put_file.Reads as put-file-reads
 use Rattle.listing.proofs.put_refused.Reads as put-refused-reads
 use Rattle.listing.proofs.text.put_bytes.Reads as put-bytes-reads
 
--- src/lib.rt:55:34
+-- src/lib.rt:65:34
 slice-aggregate-put-bytes : tie.Need-slice-aggregate-put-bytes
 slice-aggregate-put-bytes c = search needs
 
--- src/lib.rt:55:9
+-- src/lib.rt:65:9
 put-bytes-requires : tie.Need-put-bytes-requires
 put-bytes-requires c κs = search needs
 
--- src/lib.rt:55:9
+-- src/lib.rt:65:9
 same-length : tie.Need-same-length
 same-length c = search needs
 
--- src/lib.rt:55:9
+-- src/lib.rt:65:9
 returns : tie.Need-returns
 returns c = search needs
 
--- src/lib.rt:57:9
+-- src/lib.rt:67:9
 check-requires : tie.Need-check-requires
 check-requires c κs = search needs
 
--- src/lib.rt:59:9
+-- src/lib.rt:69:9
 put-refused-requires : tie.Need-put-refused-requires
 put-refused-requires c κs = search needs
 
--- src/lib.rt:59:9
+-- src/lib.rt:69:9
 same-length-2 : tie.Need-same-length-2
 same-length-2 c = search needs
 
--- src/lib.rt:59:9
+-- src/lib.rt:69:9
 returns-2 : tie.Need-returns-2
 returns-2 c = search needs
 
--- src/lib.rt:61:21
+-- src/lib.rt:71:21
 read-view-requires : tie.Need-read-view-requires
 read-view-requires c κs = search needs
 
--- src/lib.rt:61:5
+-- src/lib.rt:71:5
 put-file-requires : tie.Need-put-file-requires
 put-file-requires c κs = search needs
 
--- src/lib.rt:50:1
+-- src/lib.rt:60:1
 same-length-3 : tie.Need-same-length-3
 same-length-3 c = search needs
 
--- src/lib.rt:50:1
+-- src/lib.rt:60:1
 returns-3 : tie.Need-returns-3
 returns-3 c = search needs
 

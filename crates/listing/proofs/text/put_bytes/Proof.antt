@@ -65,8 +65,11 @@ returns : tie.Need-returns Inv-loop μ-loop
 returns c =
     let a = c .before .before .args in
     let l = c .before .loop in
+    let low = l .inv .0 in
+    let room = c .before .before .pre in
     record {
-      place = let low = l .inv .0 in omega arith;
+      inside = omega arith;
+      place = omega arith;
       bytes = sym (bytes-end (l .dst) (a .at) (a .text .now) (l .i) (c .loop-test .left)) ∙ l .inv .2;
     }
 

@@ -107,8 +107,12 @@ returns : tie.Need-returns Inv-loop μ-loop
 returns c =
     let a = c .before .before .before .before .args in
     let l = c .before .loop in
+    let e = c .before .before .digit-count .ensures .0 in
+    let k = c .before .before .digit-count .ensures .1 in
+    let room = c .before .before .before .before .pre in
     record {
-      place = let e = c .before .before .digit-count .ensures .0 in omega arith;
+      inside = omega arith;
+      place = omega arith;
       bytes = decimal-end (l .dst) (a .at) (l .rest) (omega arith) ∙ l .inv .4;
     }
 

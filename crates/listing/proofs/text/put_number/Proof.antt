@@ -30,7 +30,7 @@ same-length c = search needs
 returns : tie.Need-returns
 returns c =
     let a = c .before .before .before .before .before .args in
-    number-put (a .n) (a .after) (a .dst .now) _ (a .at) _ (c .before .before .put-decimal .ensures)
+    number-put (a .n) (a .after) (a .dst .now) _ (a .at) _ (slice-write-dst c) (c .before .before .put-decimal .ensures)
 
 pub put-number-spec : {M : Type 1} → statement M
 put-number-spec =
