@@ -1,3 +1,6 @@
+-- `list` meets its contract. Assumes nothing.
+use Rattle.archive.proofs.Answers.{seen, whole-header}
+use Rattle.listing.proofs.Listed.{listed-long, listed-refused, listed-file}
 use borrow.Author.Needs.{needs}
 use Rattle.listing.proofs.list.Statement.{statement}
 use Rattle.listing.proofs.list.Tie as tie
@@ -23,7 +26,9 @@ same-length c = search needs
 
 -- src/lib.rt:65:9
 returns : tie.Need-returns
-returns c = search needs
+returns c =
+    let a = c .before .before .before .before .before .before .before .before .args in
+    listed-long (a .input .now) (a .out .now) _ _ (c .before .before .before .before .before .if1 .taken) (c .before .before .put-bytes .ensures)
 
 -- src/lib.rt:67:9
 check-requires : tie.Need-check-requires
@@ -39,15 +44,19 @@ same-length-2 c = search needs
 
 -- src/lib.rt:69:9
 returns-2 : tie.Need-returns-2
-returns-2 c = search needs
+returns-2 c =
+    let a = c .before .before .before .before .before .before .before .before .before .args in
+    listed-refused (a .input .now) (a .out .now) _ _ (c .before .before .before .before .before .before .if1 .left) _ (c .before .before .before .before .before .check .ensures) (c .before .before .before .before .if2 .taken) (c .before .before .put-refused .ensures)
 
 -- src/lib.rt:71:21
 read-view-requires : tie.Need-read-view-requires
-read-view-requires c κs = search needs
+read-view-requires c κs = whole-header (c .before .before .before .before .before .args .input .now) _ (c .before .check .ensures) (c .if2 .left)
 
 -- src/lib.rt:71:5
 put-file-requires : tie.Need-put-file-requires
-put-file-requires c κs = search needs
+put-file-requires c κs =
+    let s = c .before .before .before .before .before .before .before in
+    (seen (s .args .input .now) _ _ (c .before .before .before .check .ensures) (c .before .before .if2 .left) (c .before .read-view .ensures), c .before .before .before .before .if1 .left, s .pre)
 
 -- src/lib.rt:60:1
 same-length-3 : tie.Need-same-length-3
@@ -55,7 +64,9 @@ same-length-3 c = search needs
 
 -- src/lib.rt:60:1
 returns-3 : tie.Need-returns-3
-returns-3 c = search needs
+returns-3 c =
+    let a = c .before .before .before .before .before .before .before .before .before .before .args in
+    listed-file (a .input .now) (a .out .now) _ _ (c .before .before .before .before .before .before .before .if1 .left) _ (c .before .before .before .before .before .before .check .ensures) (c .before .before .before .before .before .if2 .left) (c .before .before .put-file .ensures)
 
 pub list-spec : {M : Type 1} → statement M
 list-spec =
