@@ -3,7 +3,8 @@ use Prim.Native.Nat.{ℕ, zero, suc, _≤_, _<_}
 use mathlib.Core.Path.{_≡_, refl, sym, ap, _∙_}
 use mathlib.Core.List.{List, _++_}
 use native.Mathlib.Nat.{zero-add}
-use lib.ListN.{length, drop}
+use native.Mathlib.Omega.{arith}
+use lib.ListN.{length, drop, length-append}
 use borrow.Author.Tests.{lt-ltb, le-ltb}
 use Rattle.format.specs.Accepted.{checkNumber, Checked}
 use Rattle.format.specs.Lister.{mostListed, fileLines, refusedLine, tooLong, listing}
@@ -30,3 +31,7 @@ module _ (b d e : List ℕ) (r : ℕ) where
     pub listed-file : (n : ℕ) → Checked b n → n ≡ 0 → TextPut (fileLines b) d 0 r e → (r ≡ length (listing b)) × (e ≡ listing b ++ drop r d)
     unfolding listing
     listed-file n c z t = rw (le-ltb mostListed (length b) h, ← c .number, z) (listed (fileLines b) d e r t)
+
+-- the bytes printed are in the buffer
+pub listed-inside : (text more e : List ℕ) (r : ℕ) → r ≡ length text → e ≡ text ++ more → r ≤ length e
+listed-inside text more e r p q = rw (q, length-append text more, p) (omega arith)
