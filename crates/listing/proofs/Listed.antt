@@ -33,5 +33,5 @@ module _ (b d e : List ℕ) (r : ℕ) where
     listed-file n c z t = rw (le-ltb mostListed (length b) h, ← c .number, z) (listed (fileLines b) d e r t)
 
 -- the bytes printed are in the buffer
-pub listed-inside : (text more e : List ℕ) (r : ℕ) → r ≡ length text → e ≡ text ++ more → r ≤ length e
-listed-inside text more e r p q = rw (q, length-append text more, p) (omega arith)
+pub listed-inside : (b d e : List ℕ) (r : ℕ) → (r ≡ length (listing b)) × (e ≡ listing b ++ drop r d) → r ≤ length e
+listed-inside b d e r h = rw (h .1, length-append (listing b) (drop r d), ← h .0) (omega arith)
