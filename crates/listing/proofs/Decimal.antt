@@ -1,14 +1,13 @@
 -- The digits of a number: how many they are, one digit at a time, and that read back they are the number. Assumes nothing.
 use Prim.Native.Nat.{ℕ, zero, suc, _+_, _-_, _*_, _/_, _%_, _^_, _≤_, _<_}
 use mathlib.Core.Path.{_≡_, refl, sym, ap, _∙_}
-use mathlib.Core.Bool.{Bool, true, false}
 use mathlib.Core.List.{List, [], _∷_, _++_}
-use native.Mathlib.Nat.{pow-suc, pow-zero, mod-lt, div-add-mod}
+use native.Mathlib.Nat.{pow-suc, div-add-mod}
 use native.Mathlib.Omega.{arith}
 use lib.ListN.{length, length-append}
 use lib.Dec.{ltb}
 use borrow.Author.Tests.{ltb-true, ltb-false, lt-ltb, le-ltb}
-use Rattle.format.specs.Tools.{pick, first, every, within}
+use Rattle.format.specs.Tools.{first}
 use Rattle.format.specs.Lister.{digits, decimal}
 use Rattle.laws.proofs.Tools.{cases}
 
@@ -53,12 +52,23 @@ length-digits (suc j) (suc k) n h =
     (λ t. let r = length-one (suc j) n (ltb-true n 10 t) in omega arith)
     (λ t. let r = length-digits j k (n / 10) (tenth (suc k) n h) in rw (length-more j n (ltb-false n 10 t)) (omega arith))
 
+length-fuel : (k n : ℕ) → length (digits k n) ≤ k
+length-fuel zero n = unfold digits in omega arith
+length-fuel (suc k) n =
+    cases (ltb n 10)
+    (λ t. let r = length-one (suc k) n (ltb-true n 10 t) in omega arith)
+    (λ t. let r = length-fuel k (n / 10) in rw (length-more k n (ltb-false n 10 t)) (omega arith))
+
 -- ---- n in decimal, for the n that have at most 10 digits
 
 -- a number below 10^(k + 1) has at most k + 1 digits
 pub length-decimal : (k n : ℕ) → n < 10 ^ suc k → length (decimal n) ≤ suc k
 unfolding decimal
 length-decimal k n h = length-digits 10 k n h
+
+pub decimal-most : (n : ℕ) → length (decimal n) ≤ 10
+unfolding decimal
+decimal-most n = length-fuel 10 n
 
 pub decimal-one : (n : ℕ) → n < 10 → decimal n ≡ (48 + n) ∷ []
 unfolding decimal

@@ -1,12 +1,13 @@
 -- The lines of an accepted file, put one after the other: what is left gives the whole. Assumes nothing.
-use Prim.Native.Nat.{ℕ, suc, _+_, _-_, _*_, _^_, _≤_, _<_}
-use mathlib.Core.Path.{_≡_, refl, sym, ap, _∙_, subst}
-use mathlib.Core.List.{List, [], _++_}
+use Prim.Native.Nat.{ℕ, suc, _+_, _-_, _*_, _≤_, _<_}
+use mathlib.Core.Path.{_≡_, sym, ap, _∙_, subst}
+use mathlib.Core.List.{List, [], _∷_, _++_}
 use native.Mathlib.Numerals.{add-one}
 use native.Mathlib.Omega.{arith}
 use lib.ListN.{length, getD, drop, length-append, drop-of-length-le}
 use lib.Seq.{drop-cons}
 use Rattle.format.specs.declared.View.{View}
+use Rattle.format.specs.Tools.{Below, first, others}
 use Rattle.format.specs.Bytes.{field}
 use Rattle.format.specs.Picture.{cells}
 use Rattle.format.specs.Accepted.{settingOf, dimensionsOf, wordsCount, positionsOf, keptOf}
@@ -14,6 +15,7 @@ use Rattle.format.specs.Opened.{viewOf}
 use Rattle.format.specs.Lister.{line, rankLines, fileLines}
 use Rattle.laws.proofs.Acceptance.{accepted, header-right}
 use Rattle.laws.proofs.Limits.{small-setting}
+use Rattle.laws.proofs.Bounds.{below-rising, below-widen}
 use Rattle.laws.proofs.Check.{length-numbersOf}
 use Rattle.stores.specs.Put.{put}
 use Rattle.stores.proofs.Laws.{put-append, put-nil}
@@ -21,11 +23,12 @@ use Rattle.header.specs.View.{secondPlace, wordsPlace}
 use Rattle.header.specs.Search.{ViewOf}
 use Rattle.header.proofs.Frame.{Framed, framed}
 use Rattle.cursor.specs.declared.Cursor.{Cursor}
-use Rattle.cursor.specs.Cursor.{nextOf, walked}
+use Rattle.cursor.specs.Cursor.{walked}
 use Rattle.cursor.proofs.Walks.{Turned, walked-next}
-use Rattle.scatter.proofs.Turn.{words-seen, cells-seen, as-long, size-seen, word-seen}
+use Rattle.scatter.proofs.Turn.{words-seen, cells-seen, as-long, size-seen, word-seen, begin-rising}
 use Rattle.listing.specs.Text.{TextPut}
-use Rattle.listing.proofs.Placing.{text-then, line-length}
+use Rattle.listing.proofs.Decimal.{length-decimal, decimal-most}
+use Rattle.listing.proofs.Placing.{text-then, length-line}
 
 -- of the text, to be put into `before` from index at on, `rest` is left, from index to on
 pub record Left (text before : List ℕ) (at : ℕ) (rest : List ℕ) (to : ℕ) (now : List ℕ) : Type 0 where
@@ -56,6 +59,22 @@ rank-turn r ls vs h k = rw (drop-cons ls r 0 h, drop-cons vs r 0 k, add-one r)
 rank-end : (r : ℕ) (ls vs : List ℕ) → length ls ≤ r → rankLines r (drop r ls) vs ≡ []
 unfolding rankLines
 rank-end r ls vs h = rw (drop-of-length-le ls {i = r} h)
+
+-- the line of a rank in a file of at most 65,536 bytes
+rank-length : (r l x : ℕ) → r < 16371 → l < 16777216 → length (line r l x) ≤ 26
+rank-length r l x h k =
+    let a = length-decimal 4 r (omega arith) in
+    let b = length-decimal 7 l (omega arith) in
+    let c = decimal-most x in
+    rw (length-line r l x) (omega arith)
+
+ranks-length : (r : ℕ) (ls vs : List ℕ) → r + length ls ≤ 16371 → Below 16777216 ls → length (rankLines r ls vs) ≤ 26 * length ls
+unfolding rankLines
+ranks-length r [] vs h k = omega arith
+ranks-length r (l ∷ ls) vs h k =
+    let a = rank-length r l (first vs) (omega arith) (k .0) in
+    let b = ranks-length (suc r) ls (others vs) (omega arith) (k .1) in
+    rw (length-append (line r l (first vs)) (rankLines (suc r) ls (others vs))) (omega arith)
 
 -- ---- of the view v of an accepted file b
 module _ (b : List ℕ) (v : View) (o : ViewOf b v) where
@@ -89,22 +108,40 @@ module _ (b : List ℕ) (v : View) (o : ViewOf b v) where
   unfolding viewOf
   kind-seen = ap (λ (x : View). x .kind) (o .view)
 
-  pub first-short : length b ≤ 65536 → length (line (v .kind) (v .cells) (v .words)) ≤ 20
-  first-short h =
+  first-seen : line (v .kind) (v .cells) (v .words) ≡ line (settingOf b .kind) (cells (dimensionsOf b)) (wordsCount b)
+  first-seen = rw (kind-seen, cells-seen b v o, frame .cells, words-seen b v o)
+
+  pub first-length : length b ≤ 65536 → length (line (v .kind) (v .cells) (v .words)) ≤ 20
+  first-length h =
       let s = small-setting (settingOf b) (header-right b (accepted b (o .accepted) .header) .setting) in
       let k = s .kind in
       let m = frame .cells-most in
       let e = cells-seen b v o in
       let w = few-words h in
       let t = kind-seen in
-      line-length (v .kind) (v .cells) (v .words) 0 7 7 (omega arith) (omega arith) (omega arith)
+      let x = length-decimal 0 (v .kind) (omega arith) in
+      let y = length-decimal 7 (v .cells) (omega arith) in
+      let z = length-decimal 4 (v .words) (omega arith) in
+      rw (length-line (v .kind) (v .cells) (v .words)) (omega arith)
 
   pub first-then : (d e f : List ℕ) (m r : ℕ) → TextPut (line (v .kind) (v .cells) (v .words)) d 0 m e → TextPut lines e m r f → TextPut (fileLines b) d 0 r f
   unfolding fileLines
   first-then d e f m r x y =
-      let t : TextPut (line (settingOf b .kind) (cells (dimensionsOf b)) (wordsCount b)) d 0 m e
-      = rw (← kind-seen, ← frame .cells, ← cells-seen b v o, ← words-seen b v o) x in
-      text-then (line (settingOf b .kind) (cells (dimensionsOf b)) (wordsCount b)) lines d e f 0 m r t y
+      subst (λ (l : List ℕ). TextPut (l ++ lines) d 0 r f) first-seen (text-then (line (v .kind) (v .cells) (v .words)) lines d e f 0 m r x y)
+
+  -- all lines
+  pub file-length : length b ≤ 65536 → length (fileLines b) ≤ 426000
+  unfolding fileLines
+  file-length h =
+      let n = few-words h in
+      let w = words-seen b v o in
+      let z = as-long b v o in
+      let m = frame .cells-most in
+      let e = cells-seen b v o in
+      let low = below-widen (v .cells) 16777216 (positionsOf b) (omega arith) (below-rising 0 (v .cells) (positionsOf b) (begin-rising b v o)) in
+      let x = first-length h in
+      let y = ranks-length 0 (positionsOf b) (keptOf b) (omega arith) low in
+      rw (← first-seen, length-append (line (v .kind) (v .cells) (v .words)) lines) (omega arith)
 
   pub lines-end : (before : List ℕ) (at r to : ℕ) (d : List ℕ) → v .words ≤ r → to ≤ length before → Left lines before at (linesFrom r) to d → TextPut lines before at to d
   lines-end before at r to d h i l =
@@ -131,9 +168,9 @@ module _ (b : List ℕ) (v : View) (o : ViewOf b v) where
         left-turn lines before from (line r (c .at) word) (linesFrom (r + 1)) d e to m
         (subst (λ (x : List ℕ). Left lines before from x to d) (sym this-line) l) t
 
-    pub line-short : length b ≤ 65536 → word < 2 ^ 32 → length (line r (c .at) word) ≤ 26
-    line-short n w =
+    pub line-length : length b ≤ 65536 → length (line r (c .at) word) ≤ 26
+    line-length n =
         let p = step .in-view in
         let m = frame .cells-most in
         let f = few-words n in
-        line-length r (c .at) word 4 7 9 (omega arith) (omega arith) (omega arith)
+        rank-length r (c .at) word (omega arith) (omega arith)

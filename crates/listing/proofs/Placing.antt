@@ -10,7 +10,7 @@ use Rattle.format.specs.Lister.{decimal, line, refusedLine}
 use Rattle.stores.specs.Put.{put}
 use Rattle.stores.proofs.Laws.{length-put, put-append, put-comm, put-nil}
 use Rattle.listing.specs.Text.{TextPut}
-use Rattle.listing.proofs.Decimal.{decimal-one, decimal-more, length-decimal, length-decimal-more}
+use Rattle.listing.proofs.Decimal.{decimal-most, decimal-one, decimal-more, length-decimal-more}
 
 pub text-size : (xs d e : List ℕ) (at m : ℕ) → TextPut xs d at m e → length e ≡ length d
 text-size xs d e at m h = ap length (h .bytes) ∙ length-put d at xs
@@ -57,20 +57,17 @@ decimal-end d at n h = byte-put d at (48 + n) ∙ ap (put d at) (sym (decimal-on
 
 -- ---- a number and a byte
 
-number-length : (n x : ℕ) → n < 10 ^ 10 → length (decimal n ++ (x ∷ [])) ≤ 11
-number-length n x h = let k = length-decimal 9 n h in rw (length-append (decimal n) (x ∷ [])) (omega arith)
-
--- the room that a number of 32 bits and a byte leave
-pub number-room : (n x : ℕ) (d e : List ℕ) (at m : ℕ) → n < 10 ^ 10 → TextPut (decimal n ++ (x ∷ [])) d at m e → (m ≤ at + 11) × (length e ≡ length d)
-number-room n x d e at m h t =
+-- the room that they leave
+pub number-room : (n x : ℕ) (d e : List ℕ) (at m : ℕ) → TextPut (decimal n ++ (x ∷ [])) d at m e → (m ≤ at + 11) × (length e ≡ length d)
+number-room n x d e at m t =
     let p = t .place in
-    let k = number-length n x h in
-    (omega arith, text-size (decimal n ++ (x ∷ [])) d e at m t)
+    let k = decimal-most n in
+    (omega (arith, length-append (decimal n) (x ∷ [])), text-size (decimal n ++ (x ∷ [])) d e at m t)
 
-pub byte-room : (n : ℕ) (d e : List ℕ) (at m : ℕ) → n < 10 ^ 10 → at + 11 ≤ length d → TextPut (decimal n) d at m e → m < length e
-byte-room n d e at m h k t =
+pub byte-room : (n : ℕ) (d e : List ℕ) (at m : ℕ) → at + 11 ≤ length d → TextPut (decimal n) d at m e → m < length e
+byte-room n d e at m k t =
     let p = t .place in
-    let q = length-decimal 9 n h in
+    let q = decimal-most n in
     let s = text-size (decimal n) d e at m t in
     omega arith
 
@@ -91,12 +88,8 @@ line-put a b c d e f g at m n r x y z =
     (text-then ((decimal a ++ (32 ∷ [])) ++ (decimal b ++ (32 ∷ []))) (decimal c ++ (10 ∷ [])) d f g at n r
     (text-then (decimal a ++ (32 ∷ [])) (decimal b ++ (32 ∷ [])) d e f at m n x y) z)
 
-pub line-length : (a b c i j k : ℕ) → a < 10 ^ suc i → b < 10 ^ suc j → c < 10 ^ suc k → length (line a b c) ≤ i + j + k + 6
-line-length a b c i j k h1 h2 h3 =
-    let l1 = length-decimal i a h1 in
-    let l2 = length-decimal j b h2 in
-    let l3 = length-decimal k c h3 in
-    rw (← line-of a b c) (simp length-append (omega arith))
+pub length-line : (a b c : ℕ) → length (line a b c) ≡ length (decimal a) + length (decimal b) + length (decimal c) + 3
+length-line a b c = rw (← line-of a b c) (simp length-append (omega arith))
 
 pub refused-put : (n : ℕ) (d e f : List ℕ) (m r : ℕ) → TextPut (114 ∷ 101 ∷ 102 ∷ 117 ∷ 115 ∷ 101 ∷ 100 ∷ 32 ∷ []) d 0 m e
     → TextPut (decimal n ++ (10 ∷ [])) e m r f → TextPut (refusedLine n) d 0 r f

@@ -13,7 +13,7 @@ use text::put_number;
 use wire::get_u32;
 ghost use mathlib.Core.Path.{_≡_};
 ghost use mathlib.Core.List.{_++_};
-ghost use Prim.Native.Nat.{_+_, _*_, _≤_, _<_, _^_};
+ghost use Prim.Native.Nat.{_≤_};
 ghost use lib.ListN.{length, drop};
 ghost use Rattle.format.specs.Accepted.{positionsOf, keptOf};
 ghost use Rattle.format.specs.Lister.{rankLines, fileLines, refusedLine, listing};
@@ -57,6 +57,7 @@ fn put_file(file: &[u8], v: View, out: &mut [u8]) -> usize
 }
 
 // What the lister prints, in the first bytes of out; how many they are. An input longer than 65,536 bytes is too long.
+// No text is longer than 426,000 bytes (proofs/Listed.antt, `listing-length`).
 pub fn list(input: &[u8], out: &mut [u8]) -> usize
     requires { ⌜ 426000 ≤ length (now out) ⌝ }
     ensures { λ r. ⌜ (r ≡ length (listing (now (input .entry)))) × (now (out .exit) ≡ listing (now (input .entry)) ++ drop r (now (out .entry))) ⌝ }

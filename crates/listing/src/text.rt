@@ -1,7 +1,7 @@
 // Text put into a buffer: each function answers the place after it.
 ghost use mathlib.Core.Path.{_≡_};
 ghost use mathlib.Core.List.{[], _∷_, _++_};
-ghost use Prim.Native.Nat.{_+_, _≤_, _<_, _^_};
+ghost use Prim.Native.Nat.{_+_, _≤_};
 ghost use lib.ListN.{length};
 ghost use Rattle.format.specs.Lister.{decimal, line};
 ghost use Rattle.listing.specs.Text.{TextPut};
@@ -26,13 +26,13 @@ pub fn digit_count(n: u32) -> usize
     let mut count: usize = 1;
     let mut rest = n;
     while 10 <= rest {
-        rest = rest / 10;
+        rest /= 10;
         count += 1;
     }
     count
 }
 
-// A number in decimal, from its last digit to its first.
+// A number in decimal, from its last digit to its first; 48 is the byte of 0.
 pub fn put_decimal(dst: &mut [u8], at: usize, n: u32) -> usize
     requires { ⌜ at + 10 ≤ length (now dst) ⌝ }
     ensures { λ r. ⌜ TextPut (decimal n) (now (dst .entry)) at r (now (dst .exit)) ⌝ }
@@ -43,7 +43,7 @@ pub fn put_decimal(dst: &mut [u8], at: usize, n: u32) -> usize
     while 10 <= rest {
         place -= 1;
         dst[place] = (48 + rest % 10) as u8;
-        rest = rest / 10;
+        rest /= 10;
     }
     dst[at] = (48 + rest) as u8;
     end

@@ -1,7 +1,7 @@
 -- `put_file` meets its contract. Assumes nothing.
 use native.Mathlib.Omega.{arith}
 use Rattle.listing.proofs.Placing.{text-size}
-use Rattle.listing.proofs.Lines.{first-short, first-then}
+use Rattle.listing.proofs.Lines.{first-length, first-then}
 use borrow.Author.Needs.{needs}
 use Rattle.listing.proofs.put_file.Statement.{statement}
 use Rattle.listing.proofs.put_file.Tie as tie
@@ -20,7 +20,7 @@ put-ranks-requires c κs =
     let s = c .before .before .before .before .before .before .before in
     let t = c .before .before .before .put-line .ensures in
     let p = t .place in
-    let n = first-short (s .args .file .now) (s .args .v) (s .pre .0) (s .pre .1) in
+    let n = first-length (s .args .file .now) (s .args .v) (s .pre .0) (s .pre .1) in
     let z = text-size _ (s .args .out .now) _ 0 _ t in
     let k = s .pre .2 in
     (s .pre .0, s .pre .1, omega arith, omega arith)

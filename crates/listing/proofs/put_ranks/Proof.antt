@@ -10,7 +10,7 @@ use Rattle.header.specs.View.{wordsPlace}
 use Rattle.cursor.specs.Cursor.{walked}
 use Rattle.cursor.proofs.Walks.{walked-start}
 use Rattle.listing.proofs.Placing.{text-size}
-use Rattle.listing.proofs.Lines.{Left, few-words, word-inside, lines-end, step, lines-turn, line-short}
+use Rattle.listing.proofs.Lines.{Left, few-words, word-inside, lines-end, step, lines-turn, line-length}
 use borrow.Author.Needs.{needs}
 use Rattle.listing.proofs.put_ranks.Statement.{statement}
 use Rattle.listing.proofs.put_ranks.Tie as tie
@@ -107,7 +107,7 @@ loop-again c =
     let m = l .inv .2 in
     let w : c .before .before .before .before .before .get-u32 .result ≡ field 4 (wordsPlace (a .v) + 4 * l .rank) (a .file .now)
     = c .before .before .before .before .before .get-u32 .ensures .0 ∙ rw (c .before .before .before .before .before .before .before .before .before .before .words-at .ensures .0) in
-    let n = line-short (a .file .now) (a .v) o (l .rank) (l .c) _ h (l .inv .3) w (s .pre .1) (c .before .before .before .before .before .get-u32 .ensures .1) in (
+    let n = line-length (a .file .now) (a .v) o (l .rank) (l .c) _ h (l .inv .3) w (s .pre .1) in (
       omega arith,
       text-size _ (l .out) _ (l .to) _ t ∙ l .inv .1,
       omega arith,

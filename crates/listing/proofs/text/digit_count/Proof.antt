@@ -4,7 +4,7 @@ use mathlib.Core.Path.{_≡_}
 use native.Mathlib.Omega.{arith}
 use lib.ListN.{length}
 use Rattle.format.specs.Lister.{decimal}
-use Rattle.listing.proofs.Decimal.{decimal-one, length-decimal, length-decimal-more}
+use Rattle.listing.proofs.Decimal.{decimal-most, decimal-one, length-decimal-more}
 use borrow.Author.Needs.{needs}
 use Rattle.listing.proofs.text.digit_count.Statement.{statement}
 use Rattle.listing.proofs.text.digit_count.Tie as tie
@@ -23,7 +23,7 @@ loop-holds c = search needs
 
 -- src/text.rt:30:9
 add-count : tie.Need-add-count Inv-loop μ-loop
-add-count c = let f = c .before .before .fits in let k = length-decimal 9 (c .before .before .args .n) (omega arith) in let e = c .before .loop .inv .1 in search needs
+add-count c = let f = c .before .before .fits in let k = decimal-most (c .before .before .args .n) in let e = c .before .loop .inv .1 in search needs
 
 -- src/text.rt:28:5
 loop-less : tie.Need-loop-less Inv-loop μ-loop
@@ -43,7 +43,7 @@ returns c =
     let l = c .before .loop in
     let e = l .inv .1 in
     let o : length (decimal (l .rest)) ≡ 1 = rw (decimal-one (l .rest) (omega arith)) in
-    let m = length-decimal 9 (c .before .before .args .n) (omega arith) in
+    let m = decimal-most (c .before .before .args .n) in
     (omega arith, omega arith)
 
 pub digit-count-spec : {M : Type 1} → statement M

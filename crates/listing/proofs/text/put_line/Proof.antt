@@ -16,7 +16,7 @@ put-number-requires c κs = search needs
 put-number-requires-2 : tie.Need-put-number-requires-2
 put-number-requires-2 c κs =
     let s = c .before .before .before .before .before .before in
-    let k = number-room (s .args .a) 32 (s .args .dst .now) _ (s .args .at) _ (let f = s .fits in omega arith) (c .before .before .before .put-number .ensures) in
+    let k = number-room (s .args .a) 32 (s .args .dst .now) _ (s .args .at) _ (c .before .before .before .put-number .ensures) in
     let p = s .pre in
     omega arith
 
@@ -24,9 +24,8 @@ put-number-requires-2 c κs =
 put-number-requires-3 : tie.Need-put-number-requires-3
 put-number-requires-3 c κs =
     let s = c .before .before .before .before .before .before .before .before .before .before in
-    let f = s .fits in
-    let k = number-room (s .args .a) 32 (s .args .dst .now) _ (s .args .at) _ (omega arith) (c .before .before .before .before .before .before .before .put-number .ensures) in
-    let l = number-room (s .args .b) 32 _ _ _ _ (omega arith) (c .before .before .before .put-number2 .ensures) in
+    let k = number-room (s .args .a) 32 (s .args .dst .now) _ (s .args .at) _ (c .before .before .before .before .before .before .before .put-number .ensures) in
+    let l = number-room (s .args .b) 32 _ _ _ _ (c .before .before .before .put-number2 .ensures) in
     let p = s .pre in
     omega arith
 

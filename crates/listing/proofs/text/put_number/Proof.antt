@@ -1,5 +1,4 @@
 -- `put_number` meets its contract. Assumes nothing.
-use native.Mathlib.Omega.{arith}
 use Rattle.listing.proofs.Placing.{byte-room, number-put}
 use borrow.Author.Needs.{needs}
 use Rattle.listing.proofs.text.put_number.Statement.{statement}
@@ -16,7 +15,7 @@ put-decimal-requires c κs = search needs
 slice-write-dst : tie.Need-slice-write-dst
 slice-write-dst c =
     let s = c .before .before .before .before .before in
-    byte-room (s .args .n) (s .args .dst .now) _ (s .args .at) _ (let f = s .fits in omega arith) (s .pre) (c .before .before .put-decimal .ensures)
+    byte-room (s .args .n) (s .args .dst .now) _ (s .args .at) _ (s .pre) (c .before .before .put-decimal .ensures)
 
 -- src/text.rt:59:5
 add-result : tie.Need-add-result
