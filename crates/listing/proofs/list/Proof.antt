@@ -4,65 +4,46 @@ use Rattle.listing.proofs.Listed.{listed-long, listed-refused, listed-f
 use borrow.Author.Needs.{needs}
 use Rattle.listing.proofs.list.Statement.{statement}
 use Rattle.listing.proofs.list.Tie as tie
-use Rattle.listing.proofs.list.Reads as reads
-use Rattle.listing.proofs.list.Lts as lts
-use Rattle.archive.proofs.check.check.Reads as check-reads
-use Rattle.header.proofs.view.read_view.Reads as read-view-reads
-use Rattle.listing.proofs.put_file.Reads as put-file-reads
-use Rattle.listing.proofs.put_refused.Reads as put-refused-reads
-use Rattle.listing.proofs.text.put_bytes.Reads as put-bytes-reads
 
--- src/lib.rt:65:34
 slice-aggregate-put-bytes : tie.Need-slice-aggregate-put-bytes
 slice-aggregate-put-bytes c = search needs
 
--- src/lib.rt:65:9
 put-bytes-requires : tie.Need-put-bytes-requires
 put-bytes-requires c κs = search needs
 
--- src/lib.rt:65:9
 same-length : tie.Need-same-length
 same-length c = search needs
 
--- src/lib.rt:65:9
 returns : tie.Need-returns
 returns c =
     let a = c .before .before .before .before .before .before .before .before .args in
     listed-long (a .input .now) (a .out .now) _ _ (c .before .before .before .before .before .if1 .taken) (c .before .before .put-bytes .ensures)
 
--- src/lib.rt:67:9
 check-requires : tie.Need-check-requires
 check-requires c κs = search needs
 
--- src/lib.rt:69:9
 put-refused-requires : tie.Need-put-refused-requires
 put-refused-requires c κs = search needs
 
--- src/lib.rt:69:9
 same-length-2 : tie.Need-same-length-2
 same-length-2 c = search needs
 
--- src/lib.rt:69:9
 returns-2 : tie.Need-returns-2
 returns-2 c =
     let a = c .before .before .before .before .before .before .before .before .before .args in
     listed-refused (a .input .now) (a .out .now) _ _ (c .before .before .before .before .before .before .if1 .left) _ (c .before .before .before .before .before .check .ensures) (c .before .before .before .before .if2 .taken) (c .before .before .put-refused .ensures)
 
--- src/lib.rt:71:21
 read-view-requires : tie.Need-read-view-requires
 read-view-requires c κs = whole-header (c .before .before .before .before .before .args .input .now) _ (c .before .check .ensures) (c .if2 .left)
 
--- src/lib.rt:71:5
 put-file-requires : tie.Need-put-file-requires
 put-file-requires c κs =
     let s = c .before .before .before .before .before .before .before in
     (seen (s .args .input .now) _ _ (c .before .before .before .check .ensures) (c .before .before .if2 .left) (c .before .read-view .ensures), c .before .before .before .before .if1 .left, s .pre)
 
--- src/lib.rt:60:1
 same-length-3 : tie.Need-same-length-3
 same-length-3 c = search needs
 
--- src/lib.rt:60:1
 returns-3 : tie.Need-returns-3
 returns-3 c =
     let a = c .before .before .before .before .before .before .before .before .before .before .args in

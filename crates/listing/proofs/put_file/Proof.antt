@@ -5,16 +5,10 @@ use Rattle.listing.proofs.Lines.{first-length, first-then}
 use borrow.Author.Needs.{needs}
 use Rattle.listing.proofs.put_file.Statement.{statement}
 use Rattle.listing.proofs.put_file.Tie as tie
-use Rattle.listing.proofs.put_file.Reads as reads
-use Rattle.listing.proofs.put_file.Lts as lts
-use Rattle.listing.proofs.put_ranks.Reads as put-ranks-reads
-use Rattle.listing.proofs.text.put_line.Reads as put-line-reads
 
--- src/lib.rt:55:9
 put-line-requires : tie.Need-put-line-requires
 put-line-requires c κs = search needs
 
--- src/lib.rt:56:5
 put-ranks-requires : tie.Need-put-ranks-requires
 put-ranks-requires c κs =
     let s = c .before .before .before .before .before .before .before in
@@ -25,11 +19,9 @@ put-ranks-requires c κs =
     let k = s .pre .2 in
     (s .pre .0, s .pre .1, omega arith, omega arith)
 
--- src/lib.rt:51:1
 same-length : tie.Need-same-length
 same-length c = search needs
 
--- src/lib.rt:51:1
 returns : tie.Need-returns
 returns c =
     let s = c .before .before .before .before .before .before .before .before .before .before in

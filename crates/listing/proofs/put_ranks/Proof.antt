@@ -14,13 +14,6 @@ use Rattle.listing.proofs.Lines.{Left, few-words, word-inside, lines-en
 use borrow.Author.Needs.{needs}
 use Rattle.listing.proofs.put_ranks.Statement.{statement}
 use Rattle.listing.proofs.put_ranks.Tie as tie
-use Rattle.listing.proofs.put_ranks.Reads as reads
-use Rattle.listing.proofs.put_ranks.Lts as lts
-use Rattle.cursor.proofs.next.Reads as next-reads
-use Rattle.cursor.proofs.start.Reads as start-reads
-use Rattle.header.proofs.places.words_at.Reads as words-at-reads
-use Rattle.listing.proofs.text.put_line.Reads as put-line-reads
-use Rattle.wire.proofs.get_u32.Reads as get-u32-reads
 
 abbrev Inv-loop : tie.InvT-loop
 Inv-loop file v out₀ at words c₀ to₀ rank₀ out c to rank =
@@ -31,15 +24,12 @@ Inv-loop file v out₀ at words c₀ to₀ rank₀ out c to rank =
 abbrev μ-loop : tie.MeasureT-loop
 μ-loop file v out₀ at words c₀ to₀ rank₀ out c to rank = v .words - rank
 
--- src/lib.rt:37:9
 words-at-requires : tie.Need-words-at-requires Inv-loop μ-loop
 words-at-requires c κs = search needs
 
--- src/lib.rt:38:9
 start-requires : tie.Need-start-requires Inv-loop μ-loop
 start-requires c κs = search needs
 
--- src/lib.rt:41:5
 loop-holds : tie.Need-loop-holds Inv-loop μ-loop
 loop-holds c =
     let s = c .before .before .before .before in
@@ -52,25 +42,20 @@ loop-holds c =
       record { place = refl; bytes = refl },
     )
 
--- src/lib.rt:42:46
 cast-get-u32 : tie.Need-cast-get-u32 Inv-loop μ-loop
 cast-get-u32 c = search needs
 
--- src/lib.rt:42:42
 mul-get-u32 : tie.Need-mul-get-u32 Inv-loop μ-loop
 mul-get-u32 c = search needs
 
--- src/lib.rt:42:34
 add-get-u32 : tie.Need-add-get-u32 Inv-loop μ-loop
 add-get-u32 c = search needs
 
--- src/lib.rt:42:13
 get-u32-requires : tie.Need-get-u32-requires Inv-loop μ-loop
 get-u32-requires c κs =
     let s = c .before .before .before .before .before .before .before in
     rw (c .before .before .before .before .words-at .ensures .0) (word-inside (s .args .file .now) (s .args .v) (s .pre .0) (c .before .before .loop .rank) (c .if1 .taken))
 
--- src/lib.rt:43:9
 put-line-requires : tie.Need-put-line-requires Inv-loop μ-loop
 put-line-requires c κs =
     let s = c .before .before .before .before .before .before .before .before .before in
@@ -82,19 +67,15 @@ put-line-requires c κs =
     let k = s .pre .3 in
     omega arith
 
--- src/lib.rt:44:9
 next-requires : tie.Need-next-requires Inv-loop μ-loop
 next-requires c κs = search needs
 
--- src/lib.rt:45:9
 add-rank : tie.Need-add-rank Inv-loop μ-loop
 add-rank c = let h = c .before .before .before .before .before .before .if1 .taken in search needs
 
--- src/lib.rt:41:5
 loop-less : tie.Need-loop-less Inv-loop μ-loop
 loop-less c = search needs
 
--- src/lib.rt:41:5
 loop-again : tie.Need-loop-again Inv-loop μ-loop
 loop-again c =
     let s = c .before .before .before .before .before .before .before .before .before .before .before .before .before in
@@ -115,11 +96,9 @@ loop-again c =
       lines-turn (a .file .now) (a .v) o (l .rank) (l .c) _ h (l .inv .3) w (a .out .now) (a .at) (l .out) _ (l .to) _ (l .inv .4) t,
     )
 
--- src/lib.rt:33:1
 same-length : tie.Need-same-length Inv-loop μ-loop
 same-length c = search needs
 
--- src/lib.rt:33:1
 returns : tie.Need-returns Inv-loop μ-loop
 returns c =
     let s = c .before .before .before .before .before .before .before in

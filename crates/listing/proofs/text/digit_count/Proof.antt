@@ -8,8 +8,6 @@ use Rattle.listing.proofs.Decimal.{decimal-most, decimal-one, length-de
 use borrow.Author.Needs.{needs}
 use Rattle.listing.proofs.text.digit_count.Statement.{statement}
 use Rattle.listing.proofs.text.digit_count.Tie as tie
-use Rattle.listing.proofs.text.digit_count.Reads as reads
-use Rattle.listing.proofs.text.digit_count.Lts as lts
 
 abbrev Inv-loop : tie.InvT-loop
 Inv-loop n count₀ rest₀ count rest = (rest ≤ n) × (count + length (decimal rest) ≡ length (decimal n) + 1)
@@ -17,19 +15,15 @@ Inv-loop n count₀ rest₀ count rest = (rest ≤ n) × (count + length (decima
 abbrev μ-loop : tie.MeasureT-loop
 μ-loop n count₀ rest₀ count rest = rest
 
--- src/text.rt:28:5
 loop-holds : tie.Need-loop-holds Inv-loop μ-loop
 loop-holds c = search needs
 
--- src/text.rt:30:9
 add-count : tie.Need-add-count Inv-loop μ-loop
 add-count c = let f = c .before .before .fits in let k = decimal-most (c .before .before .args .n) in let e = c .before .loop .inv .1 in search needs
 
--- src/text.rt:28:5
 loop-less : tie.Need-loop-less Inv-loop μ-loop
 loop-less c = search needs
 
--- src/text.rt:28:5
 loop-again : tie.Need-loop-again Inv-loop μ-loop
 loop-again c =
     let l = c .before .loop in
@@ -37,7 +31,6 @@ loop-again c =
     let f = c .before .before .fits in
     (omega arith, omega (arith, length-decimal-more (l .rest) (omega arith) (c .loop-test .taken)))
 
--- src/text.rt:23:1
 returns : tie.Need-returns Inv-loop μ-loop
 returns c =
     let l = c .before .loop in

@@ -9,8 +9,6 @@ use Rattle.listing.proofs.Placing.{bytes-turn, bytes-end}
 use borrow.Author.Needs.{needs}
 use Rattle.listing.proofs.text.put_bytes.Statement.{statement}
 use Rattle.listing.proofs.text.put_bytes.Tie as tie
-use Rattle.listing.proofs.text.put_bytes.Reads as reads
-use Rattle.listing.proofs.text.put_bytes.Lts as lts
 
 abbrev Inv-loop : tie.InvT-loop
 Inv-loop dst₀ at text i₀ dst i = (i ≤ length text) × (length dst ≡ length dst₀) × (put dst (at + i) (drop i text) ≡ put dst₀ at text)
@@ -18,31 +16,24 @@ Inv-loop dst₀ at text i₀ dst i = (i ≤ length text) × (length dst ≡ leng
 abbrev μ-loop : tie.MeasureT-loop
 μ-loop dst₀ at text i₀ dst i = length text - i
 
--- src/text.rt:15:5
 loop-holds : tie.Need-loop-holds Inv-loop μ-loop
 loop-holds c = (omega arith, refl, rw add-zero)
 
--- src/text.rt:16:23
 shared-slice-read-dst : tie.Need-shared-slice-read-dst Inv-loop μ-loop
 shared-slice-read-dst c = search needs
 
--- src/text.rt:16:13
 add-dst : tie.Need-add-dst Inv-loop μ-loop
 add-dst c = search needs
 
--- src/text.rt:16:9
 slice-write-dst : tie.Need-slice-write-dst Inv-loop μ-loop
 slice-write-dst c = search needs
 
--- src/text.rt:17:9
 add-i : tie.Need-add-i Inv-loop μ-loop
 add-i c = search needs
 
--- src/text.rt:15:5
 loop-less : tie.Need-loop-less Inv-loop μ-loop
 loop-less c = search needs
 
--- src/text.rt:15:5
 loop-again : tie.Need-loop-again Inv-loop μ-loop
 loop-again c =
     let a = c .before .before .before .args in
@@ -52,15 +43,12 @@ loop-again c =
       bytes-turn (l .dst) (a .at) (a .text .now) (l .i) (c .before .loop-test .taken) ∙ l .inv .2,
     )
 
--- src/text.rt:19:5
 add-result : tie.Need-add-result Inv-loop μ-loop
 add-result c = search needs
 
--- src/text.rt:10:1
 same-length : tie.Need-same-length Inv-loop μ-loop
 same-length c = search needs
 
--- src/text.rt:10:1
 returns : tie.Need-returns Inv-loop μ-loop
 returns c =
     let a = c .before .before .args in

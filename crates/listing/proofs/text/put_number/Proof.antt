@@ -3,29 +3,21 @@ use Rattle.listing.proofs.Placing.{byte-room, number-put}
 use borrow.Author.Needs.{needs}
 use Rattle.listing.proofs.text.put_number.Statement.{statement}
 use Rattle.listing.proofs.text.put_number.Tie as tie
-use Rattle.listing.proofs.text.put_number.Reads as reads
-use Rattle.listing.proofs.text.put_number.Lts as lts
-use Rattle.listing.proofs.text.put_decimal.Reads as put-decimal-reads
 
--- src/text.rt:57:9
 put-decimal-requires : tie.Need-put-decimal-requires
 put-decimal-requires c κs = search needs
 
--- src/text.rt:58:5
 slice-write-dst : tie.Need-slice-write-dst
 slice-write-dst c =
     let s = c .before .before .before .before .before in
     byte-room (s .args .n) (s .args .dst .now) _ (s .args .at) _ (s .pre) (c .before .before .put-decimal .ensures)
 
--- src/text.rt:59:5
 add-result : tie.Need-add-result
 add-result c = let h = slice-write-dst c in search needs
 
--- src/text.rt:53:1
 same-length : tie.Need-same-length
 same-length c = search needs
 
--- src/text.rt:53:1
 returns : tie.Need-returns
 returns c =
     let a = c .before .before .before .before .before .args in
