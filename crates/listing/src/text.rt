@@ -20,7 +20,7 @@ pub fn put_bytes(dst: &mut [u8], at: usize, text: &[u8]) -> usize
 }
 
 // How many digits a number has.
-pub fn digit_count(n: u32) -> usize
+fn digit_count(n: u32) -> usize
     ensures { λ r. ⌜ (r ≡ length (decimal n)) × (r ≤ 10) ⌝ }
 {
     let mut count: usize = 1;
@@ -33,7 +33,7 @@ pub fn digit_count(n: u32) -> usize
 }
 
 // A number in decimal, from its last digit to its first; 48 is the byte of 0.
-pub fn put_decimal(dst: &mut [u8], at: usize, n: u32) -> usize
+fn put_decimal(dst: &mut [u8], at: usize, n: u32) -> usize
     requires { ⌜ at + 10 ≤ length (now dst) ⌝ }
     ensures { λ r. ⌜ TextPut (decimal n) (now (dst .entry)) at r (now (dst .exit)) ⌝ }
 {
