@@ -1,0 +1,176 @@
+-- The lines of an accepted file, put one after the other: what is left gives the whole. Assumes nothing.
+use Prim.Native.Nat.{ℕ, suc, _+_, _-_, _*_, _≤_, _<_}
+use mathlib.Core.Path.{_≡_, sym, ap, _∙_, subst}
+use mathlib.Core.List.{List, [], _∷_, _++_}
+use native.Mathlib.Numerals.{add-one}
+use native.Mathlib.Omega.{arith}
+use lib.ListN.{length, getD, drop, length-append, drop-of-length-le}
+use lib.Seq.{drop-cons}
+use Rattle.format.specs.declared.View.{View}
+use Rattle.format.specs.Tools.{Below, first, others}
+use Rattle.format.specs.Bytes.{field}
+use Rattle.format.specs.Picture.{cells}
+use Rattle.format.specs.Accepted.{settingOf, dimensionsOf, wordsCount, positionsOf, keptOf}
+use Rattle.format.specs.Opened.{viewOf}
+use Rattle.format.specs.Lister.{line, rankLines, fileLines}
+use Rattle.laws.proofs.Acceptance.{accepted, header-right}
+use Rattle.laws.proofs.Limits.{small-setting}
+use Rattle.laws.proofs.Bounds.{below-rising, below-widen}
+use Rattle.laws.proofs.Check.{length-numbersOf}
+use Rattle.stores.specs.Put.{put}
+use Rattle.stores.proofs.Laws.{put-append, put-nil}
+use Rattle.header.specs.View.{secondPlace, wordsPlace}
+use Rattle.header.specs.Search.{ViewOf}
+use Rattle.header.proofs.Frame.{Framed, framed}
+use Rattle.cursor.specs.declared.Cursor.{Cursor}
+use Rattle.cursor.specs.Cursor.{walked}
+use Rattle.cursor.proofs.Walks.{Turned, walked-next}
+use Rattle.scatter.proofs.Turn.{words-seen, cells-seen, as-long, size-seen, word-seen, begin-rising}
+use Rattle.listing.specs.Text.{TextPut}
+use Rattle.listing.proofs.Decimal.{length-decimal, decimal-most}
+use Rattle.listing.proofs.Placing.{text-then, length-line}
+
+-- of the text, to be put into `before` from index at on, `rest` is left, from index to on
+pub record Left (text before : List ℕ) (at : ℕ) (rest : List ℕ) (to : ℕ) (now : List ℕ) : Type 0 where
+  pub place : to + length rest ≡ at + length text
+  pub bytes : put now to rest ≡ put before at text
+
+left-turn : (text before : List ℕ) (at : ℕ) (xs ys d e : List ℕ) (to m : ℕ) → Left text before at (xs ++ ys) to d → TextPut xs d to m e
+    → Left text before at ys m e
+left-turn text before at xs ys d e to m h t =
+    let p = h .place in
+    let q = t .place in
+    record {
+      place = omega (arith, length-append xs ys);
+      bytes = rw (t .bytes, q) (sym (put-append d to xs ys)) ∙ h .bytes;
+    }
+
+left-end : (text before : List ℕ) (at : ℕ) (rest d : List ℕ) (to : ℕ) → rest ≡ [] → to ≤ length before → Left text before at rest to d → TextPut text before at to d
+left-end text before at rest d to e i h =
+    let p = h .place in
+    let n : length rest ≡ 0 = ap length e in
+    record { place = omega arith; bytes = sym (put-nil d to) ∙ ap (put d to) (sym e) ∙ h .bytes; inside = i }
+
+rank-turn : (r : ℕ) (ls vs : List ℕ) → r < length ls → r < length vs
+    → rankLines r (drop r ls) (drop r vs) ≡ line r (getD ls r 0) (getD vs r 0) ++ rankLines (r + 1) (drop (r + 1) ls) (drop (r + 1) vs)
+unfolding rankLines
+rank-turn r ls vs h k = rw (drop-cons ls r 0 h, drop-cons vs r 0 k, add-one r)
+
+rank-end : (r : ℕ) (ls vs : List ℕ) → length ls ≤ r → rankLines r (drop r ls) vs ≡ []
+unfolding rankLines
+rank-end r ls vs h = rw (drop-of-length-le ls {i = r} h)
+
+-- the line of a rank in a file of at most 65,536 bytes
+rank-length : (r l x : ℕ) → r < 16371 → l < 16777216 → length (line r l x) ≤ 26
+rank-length r l x h k =
+    let a = length-decimal 4 r (omega arith) in
+    let b = length-decimal 7 l (omega arith) in
+    let c = decimal-most x in
+    rw (length-line r l x) (omega arith)
+
+ranks-length : (r : ℕ) (ls vs : List ℕ) → r + length ls ≤ 16371 → Below 16777216 ls → length (rankLines r ls vs) ≤ 26 * length ls
+unfolding rankLines
+ranks-length r [] vs h k = omega arith
+ranks-length r (l ∷ ls) vs h k =
+    let a = rank-length r l (first vs) (omega arith) (k .0) in
+    let b = ranks-length (suc r) ls (others vs) (omega arith) (k .1) in
+    rw (length-append (line r l (first vs)) (rankLines (suc r) ls (others vs))) (omega arith)
+
+-- ---- of the view v of an accepted file b
+module _ (b : List ℕ) (v : View) (o : ViewOf b v) where
+  frame : Framed b
+  frame = framed b (accepted b (o .accepted) .header)
+
+  -- the lines of the ranks, and those from rank r on
+  abbrev lines : List ℕ
+  lines = rankLines 0 (positionsOf b) (keptOf b)
+
+  abbrev linesFrom : ℕ → List ℕ
+  linesFrom r = rankLines r (drop r (positionsOf b)) (drop r (keptOf b))
+
+  kept-long : length (keptOf b) ≡ wordsCount b
+  unfolding keptOf
+  kept-long = length-numbersOf 4 (wordsCount b) _
+
+  -- a file of at most 65,536 bytes has few words
+  header-there : 52 ≤ wordsPlace v
+  unfolding wordsPlace secondPlace
+  header-there = omega arith
+
+  pub few-words : length b ≤ 65536 → v .words ≤ 16371
+  few-words h = omega (arith, words-seen b v o, size-seen b v o, header-there)
+
+  pub word-inside : (r : ℕ) → r < v .words → wordsPlace v + 4 * r + 4 ≤ length b
+  word-inside r h = omega (arith, words-seen b v o, size-seen b v o)
+
+  -- the first line
+  kind-seen : v .kind ≡ settingOf b .kind
+  unfolding viewOf
+  kind-seen = ap (λ (x : View). x .kind) (o .view)
+
+  first-seen : line (v .kind) (v .cells) (v .words) ≡ line (settingOf b .kind) (cells (dimensionsOf b)) (wordsCount b)
+  first-seen = rw (kind-seen, cells-seen b v o, frame .cells, words-seen b v o)
+
+  pub first-length : length b ≤ 65536 → length (line (v .kind) (v .cells) (v .words)) ≤ 20
+  first-length h =
+      let s = small-setting (settingOf b) (header-right b (accepted b (o .accepted) .header) .setting) in
+      let k = s .kind in
+      let m = frame .cells-most in
+      let e = cells-seen b v o in
+      let w = few-words h in
+      let t = kind-seen in
+      let x = length-decimal 0 (v .kind) (omega arith) in
+      let y = length-decimal 7 (v .cells) (omega arith) in
+      let z = length-decimal 4 (v .words) (omega arith) in
+      rw (length-line (v .kind) (v .cells) (v .words)) (omega arith)
+
+  pub first-then : (d e f : List ℕ) (m r : ℕ) → TextPut (line (v .kind) (v .cells) (v .words)) d 0 m e → TextPut lines e m r f → TextPut (fileLines b) d 0 r f
+  unfolding fileLines
+  first-then d e f m r x y =
+      subst (λ (l : List ℕ). TextPut (l ++ lines) d 0 r f) first-seen (text-then (line (v .kind) (v .cells) (v .words)) lines d e f 0 m r x y)
+
+  -- all lines
+  pub file-length : length b ≤ 65536 → length (fileLines b) ≤ 426000
+  unfolding fileLines
+  file-length h =
+      let n = few-words h in
+      let w = words-seen b v o in
+      let z = as-long b v o in
+      let m = frame .cells-most in
+      let e = cells-seen b v o in
+      let low = below-widen (v .cells) 16777216 (positionsOf b) (omega arith) (below-rising 0 (v .cells) (positionsOf b) (begin-rising b v o)) in
+      let x = first-length h in
+      let y = ranks-length 0 (positionsOf b) (keptOf b) (omega arith) low in
+      rw (← first-seen, length-append (line (v .kind) (v .cells) (v .words)) lines) (omega arith)
+
+  pub lines-end : (before : List ℕ) (at r to : ℕ) (d : List ℕ) → v .words ≤ r → to ≤ length before → Left lines before at (linesFrom r) to d → TextPut lines before at to d
+  lines-end before at r to d h i l =
+      left-end lines before at (linesFrom r) d to
+      (rank-end r (positionsOf b) (drop r (keptOf b)) (omega (arith, words-seen b v o, as-long b v o))) i l
+
+  -- ---- one rank
+  module _ (r : ℕ) (c : Cursor) (word : ℕ) (h : r < v .words) (walk : walked b v c (wordsCount b - r) ≡ drop r (positionsOf b))
+      (at : word ≡ field 4 (wordsPlace v + 4 * r) b) where
+    below : r < wordsCount b
+    below = omega (arith, words-seen b v o)
+
+    pub step : Turned b v c r
+    step = walked-next b (o .accepted) v c r below walk
+
+    this-line : line r (c .at) word ++ linesFrom (r + 1) ≡ linesFrom r
+    this-line =
+        rw (step .position, at, word-seen b v o r below)
+        (sym (rank-turn r (positionsOf b) (keptOf b) (omega (arith, below, as-long b v o)) (omega (arith, below, kept-long))))
+
+    pub lines-turn : (before : List ℕ) (from : ℕ) (d e : List ℕ) (to m : ℕ) → Left lines before from (linesFrom r) to d → TextPut (line r (c .at) word) d to m e
+        → Left lines before from (linesFrom (r + 1)) m e
+    lines-turn before from d e to m l t =
+        left-turn lines before from (line r (c .at) word) (linesFrom (r + 1)) d e to m
+        (subst (λ (x : List ℕ). Left lines before from x to d) (sym this-line) l) t
+
+    pub line-length : length b ≤ 65536 → length (line r (c .at) word) ≤ 26
+    line-length n =
+        let p = step .in-view in
+        let m = frame .cells-most in
+        let f = few-words n in
+        rank-length r (c .at) word (omega arith) (omega arith)
