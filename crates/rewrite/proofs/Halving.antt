@@ -1,6 +1,6 @@
 -- One rank of a rising list against a position: what it tells of how many are below, and what its lookup says on an accepted file. Assumes nothing.
 use Prim.Native.Nat.{ℕ, zero, suc, _≤_, _<_}
-use mathlib.Core.Path.{_≡_, refl, ap, _∙_}
+use mathlib.Core.Path.{_≡_, ap, _∙_}
 use mathlib.Core.Bool.{Bool, true, false}
 use mathlib.Core.List.{List, [], _∷_}
 use native.Mathlib.Nat.{le-refl}
@@ -45,7 +45,7 @@ count-upto a p B (l ∷ ls) (suc i) r h k =
     omega arith
 
 -- what the answer for a rank tells of p
-abbrev pub belowBy : ℕ → Answer → Bool
+abbrev belowBy : ℕ → Answer → Bool
 belowBy p (refused n) = false
 belowBy p empty = false
 belowBy p (given q) = ltb q p

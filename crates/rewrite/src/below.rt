@@ -27,7 +27,7 @@ fn count_below(ps: &[u32], p: u32) -> usize
     n
 }
 
-// The same in one pass.
+// How many stored positions are below p, in one pass.
 fn below_by_pass(file: &[u8], v: View, p: u32) -> u32
     requires { ⌜ ViewOf (now file) v ⌝ }
     ensures { λ r. ⌜ r ≡ countBelow p (positionsOf (now (file .entry))) ⌝ }
