@@ -4,3 +4,4 @@ pub mod Copied
 pub mod Stretch
 pub mod Three
 pub mod Counting
+pub mod Halving

@@ -42,7 +42,7 @@ unfolding countBelow
 count-all a p [] r = refl
 count-all a p (l ∷ ls) r = let later = count-all (suc l) p ls (r .2) in rw (lt-ltb l p (r .1)) (omega arith)
 
-count-none : (a p B : ℕ) (ls : List ℕ) → p ≤ a → Rising a B ls → countBelow p ls ≡ 0
+pub count-none : (a p B : ℕ) (ls : List ℕ) → p ≤ a → Rising a B ls → countBelow p ls ≡ 0
 unfolding countBelow
 count-none a p B [] h r = refl
 count-none a p B (l ∷ ls) h r =

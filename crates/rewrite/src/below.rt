@@ -1,9 +1,15 @@
-// How many stored positions of a file are below one, in one pass.
+// How many stored positions of a file are below one: a binary search over the ranks, or for kind 4 one pass.
 use super::walk::batch_of;
 use cursor::batch::positions;
 use cursor::start;
+use format::PositionAnswer;
+use format::Rank;
 use format::View;
+use search::position_in;
+ghost use Prim.Native.Nat.{_<_};
 ghost use mathlib.Core.Path.{_≡_};
+ghost use lib.ListN.{getD};
+ghost use lib.Dec.{ltb};
 ghost use Rattle.format.specs.Accepted.{positionsOf};
 ghost use Rattle.header.specs.Search.{ViewOf};
 ghost use Rattle.rewrite.specs.Edit.{countBelow};
@@ -21,8 +27,8 @@ fn count_below(ps: &[u32], p: u32) -> usize
     n
 }
 
-// How many stored positions are below p.
-pub fn ranks_below(file: &[u8], v: View, p: u32) -> u32
+// How many stored positions are below p, in one pass.
+fn below_by_pass(file: &[u8], v: View, p: u32) -> u32
     requires { ⌜ ViewOf (now file) v ⌝ }
     ensures { λ r. ⌜ r ≡ countBelow p (positionsOf (now (file .entry))) ⌝ }
 {
@@ -37,4 +43,45 @@ pub fn ranks_below(file: &[u8], v: View, p: u32) -> u32
         left -= k as u32;
     }
     n
+}
+
+// Whether the position of the rank r is below p.
+fn rank_is_below(file: &[u8], v: View, r: u32, p: u32) -> bool
+    requires { ⌜ ViewOf (now file) v × (r < v .words) ⌝ }
+    ensures { λ t. ⌜ t ≡ ltb (getD (positionsOf (now (file .entry))) r 0) p ⌝ }
+{
+    let answer = position_in(file, v, Rank(r));
+    let PositionAnswer::Position(q) = answer else {
+        return false;
+    };
+    q.0 < p
+}
+
+// How many stored positions are below p, by binary search: the ranks before `low` are below, and those from `high` on are not.
+fn below_by_search(file: &[u8], v: View, p: u32) -> u32
+    requires { ⌜ ViewOf (now file) v ⌝ }
+    ensures { λ r. ⌜ r ≡ countBelow p (positionsOf (now (file .entry))) ⌝ }
+{
+    let mut low = 0;
+    let mut high = v.words;
+    while low < high {
+        let middle = low + (high - low) / 2;
+        if rank_is_below(file, v, middle, p) {
+            low = middle + 1;
+        } else {
+            high = middle;
+        }
+    }
+    low
+}
+
+// How many stored positions are below p. Kind 4 has no fast position of a rank.
+pub fn ranks_below(file: &[u8], v: View, p: u32) -> u32
+    requires { ⌜ ViewOf (now file) v ⌝ }
+    ensures { λ r. ⌜ r ≡ countBelow p (positionsOf (now (file .entry))) ⌝ }
+{
+    if v.kind == 4 {
+        return below_by_pass(file, v, p);
+    }
+    below_by_search(file, v, p)
 }

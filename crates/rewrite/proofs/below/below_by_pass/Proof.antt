@@ -10,8 +10,8 @@ use Rattle.rewrite.specs.Edit.{countBelow}
 use Rattle.rewrite.proofs.Stretch.{Batch, batch}
 use Rattle.rewrite.proofs.Counting.{count-batch, count-last, count-start, count-small}
 use borrow.Author.Needs.{needs}
-use Rattle.rewrite.proofs.below.ranks_below.Statement.{statement}
-use Rattle.rewrite.proofs.below.ranks_below.Tie as tie
+use Rattle.rewrite.proofs.below.below_by_pass.Statement.{statement}
+use Rattle.rewrite.proofs.below.below_by_pass.Tie as tie
 
 abbrev Inv-loop : tie.InvT-loop
 Inv-loop file v p c₀ batch₀ n₀ left₀ c batch n left = (length batch ≡ 512) × (n + countBelow p (walked file v c left) ≡ countBelow p (positionsOf file))
@@ -128,8 +128,8 @@ returns c =
     let i = l .inv .1 in
     omega arith
 
-pub ranks-below-spec : {M : Type 1} → statement M
-ranks-below-spec =
+pub below-by-pass-spec : {M : Type 1} → statement M
+below-by-pass-spec =
     tie.close
     (tie.spec
     Inv-loop
