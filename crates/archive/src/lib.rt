@@ -5,5 +5,5 @@ pub mod check;
 pub mod expand;
 pub mod lookup;
 pub mod make;
-pub mod recode;
+mod recode;
 pub mod write;
