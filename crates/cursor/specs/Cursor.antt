@@ -26,6 +26,11 @@ unfoldable pub alongRun : Cursor → Cursor
 alongRun c =
     record { rank = add32 (c .rank) 1; at = c .at + 1; next = c .next; last = c .last; used = c .used; base = c .base; empty = c .empty }
 
+-- the cell of the run m further
+unfoldable pub alongBy : ℕ → Cursor → Cursor
+alongBy m c =
+    record { rank = add32 (c .rank) m; at = add32 (c .at) m; next = c .next; last = c .last; used = c .used; base = c .base; empty = c .empty }
+
 -- the first stored cell of the run with the next pair, L and V
 unfoldable pub runFrom : List ℕ → Cursor → Cursor
 runFrom b c =

@@ -4,9 +4,10 @@ use super::pairs::load_pair;
 use format::View;
 use std::num::wrapping_add_u32;
 ghost use mathlib.Core.Path.{_≡_};
+ghost use Prim.Native.Nat.{_+_, _≤_, _<_};
 ghost use lib.Dec.{ltb};
 ghost use Rattle.format.specs.Tools.{pick};
-ghost use Rattle.cursor.specs.Cursor.{runNext, pageOf, pagedFrom, pagedNext};
+ghost use Rattle.cursor.specs.Cursor.{runNext, pageOf, pagedFrom, pagedNext, alongBy};
 
 // 1 at the last cell of a run, 0 before it.
 fn at_end(c: Cursor) -> u32
@@ -74,4 +75,29 @@ pub fn next_paged(file: &[u8], v: View, mut c: Cursor) -> Cursor
         return c;
     }
     enter(file, v, page_of(v.step, c))
+}
+
+// The cells of the run from the cursor on, at most `left`; 1 on unfit bytes, where the cursor stands past the run.
+pub fn stretch(c: Cursor, left: u32) -> u32
+    ensures { λ r. ⌜ (r ≤ left) × (0 < left → 0 < r) × (1 < r → c .at + r ≤ c .last + 1) ⌝ }
+{
+    if left <= 1 {
+        return left;
+    }
+    if c.last <= c.at {
+        return 1;
+    }
+    if c.last - c.at < left - 1 {
+        return c.last - c.at + 1;
+    }
+    left
+}
+
+// The cursor m cells further in its run.
+pub fn along_run(mut c: Cursor, m: u32) -> Cursor
+    ensures { λ r. ⌜ r ≡ alongBy m c ⌝ }
+{
+    c.rank = wrapping_add_u32(c.rank, m);
+    c.at = wrapping_add_u32(c.at, m);
+    c
 }

@@ -11,4 +11,5 @@ pub mod Steps
 pub mod Choice
 pub mod Turn
 pub mod Along
+pub mod Grown
 pub mod Batches

@@ -1,5 +1,7 @@
 -- Many positions at a time: what they add to each part, without the end. Assumes nothing.
 use Prim.Native.Nat.{ℕ, _+_, _≤_}
+use mathlib.Core.Path.{_≡_}
+use mathlib.Core.Logic.{_⊎_}
 use mathlib.Core.List.{List, [], _∷_, _++_}
 use lib.ListN.{length}
 use Rattle.format.specs.declared.Setting.{Setting}
@@ -37,3 +39,24 @@ pub record Along (e : Encoder) (ls : List ℕ) : Type 0 where
 pub record RoomAll (k : Coder) (e : Encoder) (ls : List ℕ) (n : ℕ) : Type 0 where
   pub first : e .first + length (addedFirstBy k e ls) ≤ e .second
   pub second : e .second + length (addedSecondBy k e ls) ≤ n
+
+-- ---- a stretch of consecutive positions
+
+-- a kind that stores runs
+abbrev pub storesRuns : ℕ → Type 0
+storesRuns k = (k ≡ 1) ⊎ (k ≡ 5)
+
+-- the encoder m cells further in its run
+unfoldable pub grown : Encoder → ℕ → Encoder
+grown e m =
+    record {
+      rank = e .rank + m;
+      last = e .last + m;
+      left = e .left;
+      base = e .base;
+      cells = e .cells;
+      empty = e .empty;
+      first = e .first;
+      second = e .second;
+      fits = e .fits;
+    }

@@ -3,6 +3,7 @@ pub mod batch;
 pub mod kinds;
 pub mod measure;
 pub mod state;
+pub mod stretch;
 pub mod write;
 
 use format::Setting;

@@ -2,6 +2,7 @@ pub mod Written
 pub mod Edits
 pub mod Copied
 pub mod Stretch
+pub mod RunTurns
 pub mod Three
 pub mod Counting
 pub mod Halving

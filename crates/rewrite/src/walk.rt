@@ -1,5 +1,10 @@
-// A stretch of ranks of a file into an encoder, in batches: to measure, and to write.
+// A stretch of ranks of a file into an encoder, by runs or in batches: to measure, and to write.
 use super::Edit;
+use super::runs::measure_pages;
+use super::runs::measure_runs;
+use super::runs::put_pages;
+use super::runs::put_runs;
+use super::runs::stores_runs;
 use cursor::Cursor;
 use cursor::batch::positions;
 use cursor::next;
@@ -47,15 +52,8 @@ pub fn skip(file: &[u8], v: View, mut c: Cursor, mut n: u32) -> Cursor
     c
 }
 
-// The next n ranks, with nothing put out.
-pub fn measure_ranks(
-    file: &[u8],
-    v: View,
-    s: Setting,
-    mut c: Cursor,
-    mut e: Encoder,
-    n: u32,
-) -> Walk
+// The next n ranks in batches, with nothing put out.
+fn measure_batches(file: &[u8], v: View, s: Setting, mut c: Cursor, mut e: Encoder, n: u32) -> Walk
     requires { ⌜ (settingAllowed s ≡ true) × Along e (walked (now file) v c n) ⌝ }
     ensures { λ r. ⌜ r ≡ along s (now (file .entry)) v c e n ⌝ }
 {
@@ -70,8 +68,8 @@ pub fn measure_ranks(
     Walk { c, e }
 }
 
-// The next n ranks, put out.
-pub fn put_ranks(
+// The next n ranks in batches, put out.
+fn put_batches(
     dst: &mut [u8],
     file: &[u8],
     v: View,
@@ -92,6 +90,46 @@ pub fn put_ranks(
         left -= k as u32;
     }
     Walk { c, e }
+}
+
+// The next n ranks, with nothing put out.
+pub fn measure_ranks(file: &[u8], v: View, s: Setting, c: Cursor, e: Encoder, n: u32) -> Walk
+    requires { ⌜ (settingAllowed s ≡ true) × Along e (walked (now file) v c n) ⌝ }
+    ensures { λ r. ⌜ r ≡ along s (now (file .entry)) v c e n ⌝ }
+{
+    if stores_runs(s.kind) {
+        if v.kind == 1 {
+            return measure_runs(file, v, s, c, e, n);
+        }
+        if v.kind == 5 {
+            return measure_pages(file, v, s, c, e, n);
+        }
+    }
+    measure_batches(file, v, s, c, e, n)
+}
+
+// The next n ranks, put out.
+pub fn put_ranks(
+    dst: &mut [u8],
+    file: &[u8],
+    v: View,
+    s: Setting,
+    c: Cursor,
+    e: Encoder,
+    n: u32,
+) -> Walk
+    requires { ⌜ (settingAllowed s ≡ true) × Along e (walked (now file) v c n) × RoomAll (coder s) e (walked (now file) v c n) (length (now dst)) ⌝ }
+    ensures { λ r. ⌜ (r ≡ along s (now (file .entry)) v c e n) × (now (dst .exit) ≡ putAllBy (coder s) (now (dst .entry)) e (walked (now (file .entry)) v c n)) ⌝ }
+{
+    if stores_runs(s.kind) {
+        if v.kind == 1 {
+            return put_runs(dst, file, v, s, c, e, n);
+        }
+        if v.kind == 5 {
+            return put_pages(dst, file, v, s, c, e, n);
+        }
+    }
+    put_batches(dst, file, v, s, c, e, n)
 }
 
 // The position that the edit puts, if any, with nothing put out.

@@ -1,0 +1,13 @@
+use mathlib.Core.Logic.{inl, inr}
+use borrow.Author.Tests.{eqb-true}
+use Rattle.rewrite.proofs.runs.stores_runs.Statement.{statement}
+use Rattle.rewrite.proofs.runs.stores_runs.Tie as tie
+
+returns : tie.Need-returns
+returns c = λ _. inl (c .if1 .taken)
+
+returns-2 : tie.Need-returns-2
+returns-2 c = λ h. inr (eqb-true _ _ h)
+
+pub stores-runs-spec : {M : Type 1} → statement M
+stores-runs-spec = tie.close (tie.spec returns returns-2)
