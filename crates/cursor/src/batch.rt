@@ -7,9 +7,66 @@ use super::ranks::next_position;
 use super::runs::next_paged;
 use super::runs::next_run;
 use format::View;
+use std::num::wrapping_add_u32;
 ghost use mathlib.Core.Path.{_≡_};
+ghost use Prim.Native.Nat.{_+_, _-_, _≤_, _^_};
 ghost use lib.ListN.{length};
-ghost use Rattle.cursor.specs.Cursor.{runNext, positionNext, basedNext, jumpNext, pagedNext, nextOf, walked, steppedBy, Batch};
+ghost use Rattle.cursor.specs.Cursor.{alongRun, runNext, positionNext, basedNext, jumpNext, pagedNext, nextOf, walked, steppedBy, steppedAs, Batch};
+ghost use Rattle.cursor.specs.Stretch.{Filled};
+
+// The cells from the cursor to the end of its run, at most `left`; 1 where it stands past the end.
+fn cells_ahead(c: Cursor, left: usize) -> usize
+    requires { ⌜ 1 ≤ left ⌝ }
+    ensures { λ r. ⌜ (1 ≤ r) × (r ≤ left) × (r ≤ 1 + (c .last - c .at)) × (c .at + r ≤ 2 ^ 32) ⌝ }
+{
+    let mut m: usize = 1;
+    if c.at < c.last {
+        m = (c.last - c.at) as usize + 1;
+    }
+    if left < m {
+        return left;
+    }
+    m
+}
+
+// The cursor k cells on in its run.
+fn moved_along(mut c: Cursor, k: usize) -> Cursor
+    requires { ⌜ k ≤ c .last - c .at ⌝ }
+    ensures { λ r. ⌜ r ≡ steppedAs alongRun c k ⌝ }
+{
+    c.rank = wrapping_add_u32(c.rank, k as u32);
+    c.at += k as u32;
+    c
+}
+
+// n consecutive positions from p on, in the elements from an index on.
+fn fill_from(out: &mut [u32], from: usize, n: usize, p: u32)
+    requires { ⌜ from + n ≤ length (now out) ⌝ }
+    ensures { λ _. ⌜ Filled p from n (now (out .entry)) (now (out .exit)) ⌝ }
+{
+    let mut q = p;
+    let mut t: usize = 0;
+    while t < n {
+        out[from + t] = q;
+        q = wrapping_add_u32(q, 1);
+        t += 1;
+    }
+}
+
+// The positions of a stretch of m cells. A short one fills 8 elements where there is room, without a branch on its length: those past it are for
+// the next stretch.
+fn fill_stretch(out: &mut [u32], from: usize, m: usize, p: u32)
+    requires { ⌜ from + m ≤ length (now out) ⌝ }
+    ensures { λ _. ⌜ Filled p from m (now (out .entry)) (now (out .exit)) ⌝ }
+{
+    if m <= 8 {
+        if 8 <= out.len() - from {
+            fill_from(out, from, 8, p);
+            return;
+        }
+    }
+    fill_from(out, from, m, p);
+}
 
 // Kind 1.
 fn run_positions(file: &[u8], mut c: Cursor, out: &mut [u32]) -> Cursor
@@ -17,9 +74,10 @@ fn run_positions(file: &[u8], mut c: Cursor, out: &mut [u32]) -> Cursor
 {
     let mut i: usize = 0;
     while i < out.len() {
-        out[i] = c.at;
-        c = next_run(file, c);
-        i += 1;
+        let m = cells_ahead(c, out.len() - i);
+        fill_stretch(out, i, m, c.at);
+        c = next_run(file, moved_along(c, m - 1));
+        i += m;
     }
     c
 }
@@ -69,9 +127,10 @@ fn paged_positions(file: &[u8], v: View, mut c: Cursor, out: &mut [u32]) -> Curs
 {
     let mut i: usize = 0;
     while i < out.len() {
-        out[i] = c.at;
-        c = next_paged(file, v, c);
-        i += 1;
+        let m = cells_ahead(c, out.len() - i);
+        fill_stretch(out, i, m, c.at);
+        c = next_paged(file, v, moved_along(c, m - 1));
+        i += m;
     }
     c
 }
