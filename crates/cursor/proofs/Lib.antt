@@ -7,4 +7,4 @@ pub mod PageLaws
 pub mod Begin
 pub mod Walks
 pub mod Batches
-pub mod Stretches
+pub mod Fills

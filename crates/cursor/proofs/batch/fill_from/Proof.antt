@@ -3,7 +3,7 @@ use mathlib.Core.Path.{_≡_, _∙_, sym}
 use native.Mathlib.Omega.{arith}
 use Rattle.cursor.specs.Cursor.{add32}
 use Rattle.cursor.specs.Stretch.{Filled}
-use Rattle.cursor.proofs.Stretches.{fill-start, fill-turn}
+use Rattle.cursor.proofs.Fills.{fill-start, fill-turn}
 use borrow.Author.Needs.{needs}
 use Rattle.cursor.proofs.batch.fill_from.Statement.{statement}
 use Rattle.cursor.proofs.batch.fill_from.Tie as tie

@@ -1,5 +1,5 @@
 use native.Mathlib.Omega.{arith}
-use Rattle.cursor.proofs.Stretches.{fill-less}
+use Rattle.cursor.proofs.Fills.{fill-less}
 use borrow.Author.Needs.{needs}
 use Rattle.cursor.proofs.batch.fill_stretch.Statement.{statement}
 use Rattle.cursor.proofs.batch.fill_stretch.Tie as tie

@@ -1,7 +1,7 @@
 use mathlib.Core.Path.{_≡_, sym, _∙_}
 use native.Mathlib.Omega.{arith}
 use Rattle.cursor.specs.Cursor.{add32}
-use Rattle.cursor.proofs.Stretches.{along-cells}
+use Rattle.cursor.proofs.Fills.{along-cells}
 use borrow.Author.Needs.{needs}
 use Rattle.cursor.proofs.batch.moved_along.Statement.{statement}
 use Rattle.cursor.proofs.batch.moved_along.Tie as tie

@@ -4,7 +4,7 @@ use native.Mathlib.Omega.{arith}
 use lib.ListN.{length}
 use Rattle.cursor.specs.Cursor.{pagedNext}
 use Rattle.cursor.proofs.Batches.{Partly, batch-start, batch-end}
-use Rattle.cursor.proofs.Stretches.{stretch-turn, paged-along}
+use Rattle.cursor.proofs.Fills.{stretch-turn, paged-along}
 use borrow.Author.Needs.{needs}
 use Rattle.cursor.proofs.batch.paged_positions.Statement.{statement}
 use Rattle.cursor.proofs.batch.paged_positions.Tie as tie

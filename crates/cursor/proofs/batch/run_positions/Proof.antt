@@ -4,7 +4,7 @@ use native.Mathlib.Omega.{arith}
 use lib.ListN.{length}
 use Rattle.cursor.specs.Cursor.{runNext}
 use Rattle.cursor.proofs.Batches.{Partly, batch-start, batch-end}
-use Rattle.cursor.proofs.Stretches.{stretch-turn, run-along}
+use Rattle.cursor.proofs.Fills.{stretch-turn, run-along}
 use borrow.Author.Needs.{needs}
 use Rattle.cursor.proofs.batch.run_positions.Statement.{statement}
 use Rattle.cursor.proofs.batch.run_positions.Tie as tie
