@@ -14,7 +14,7 @@ use Rattle.format.specs.Tools.{range}
 use Rattle.laws.proofs.Tools.{cases, range-snoc}
 use Rattle.cursor.specs.declared.Cursor.{Cursor}
 use Rattle.cursor.specs.Cursor.{add32, alongRun, runNext, pagedNext, walkedAs, steppedAs}
-use Rattle.cursor.specs.Stretch.{Filled}
+use Rattle.cursor.specs.Stretch.{Filled, Stretch}
 use Rattle.cursor.proofs.Steps.{add32-small}
 use Rattle.cursor.proofs.Batches.{Partly, walked-as-add, stepped-as-add}
 
@@ -80,10 +80,12 @@ module _ (f : Cursor → Cursor) (same : (c : Cursor) → c .at < c .last → f 
       ap (λ (l : List ℕ). c .at ∷ l) (rw (same c (omega arith)) (walked-along k (alongRun c) (omega arith) ∙ rw (add-one (c .at))))
 
   -- a loop's turn that takes m steps
-  pub stretch-turn : (c₀ : Cursor) (n : ℕ) (c d : Cursor) (out after : List ℕ) (i m : ℕ) → 1 ≤ m → i + m ≤ n → m ≤ 1 + (c .last - c .at)
-      → c .at + m ≤ 2 ^ 32 → Filled (c .at) i m out after → d ≡ f (steppedAs alongRun c (m - 1)) → Partly f c₀ n c out i
-      → Partly f c₀ n d after (i + m)
-  stretch-turn c₀ n c d out after i m one fits run small x s p =
+  pub stretch-turn : (c₀ : Cursor) (n : ℕ) (c d : Cursor) (out after : List ℕ) (i m : ℕ) → length out ≡ n → Stretch c i m out after
+      → d ≡ f (steppedAs alongRun c (m - 1)) → Partly f c₀ n c out i → Partly f c₀ n d after (i + m)
+  stretch-turn c₀ n c d out after i m size z s p =
+      let one = z .some in
+      let fits = z .room in
+      let run = z .inside in
       let j : m ≡ suc (m - 1) = omega arith in
       let j2 : m ≡ (m - 1) + 1 = omega arith in
       let q : n - i ≡ m + (n - (i + m)) = omega arith in
@@ -95,7 +97,7 @@ module _ (f : Cursor → Cursor) (same : (c : Cursor) → c .at < c .last → f 
       record {
         cursor = sym (ap (λ (y : Cursor). steppedAs f y (n - (i + m))) g) ∙ sym (stepped-as-add f c m (n - (i + m))) ∙ rw q at (p .cursor);
         positions =
-            rw (x .front m (omega arith) small) (append-assoc (take i out) (range (c .at) m) (walkedAs f d (n - (i + m))))
+            rw (z .filled .front m (omega arith) (z .small)) (append-assoc (take i out) (range (c .at) m) (walkedAs f d (n - (i + m))))
             ∙ sym (ap (λ (l : List ℕ). take i out ++ l) a)
             ∙ rw q at (p .positions);
       }

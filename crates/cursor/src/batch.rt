@@ -12,21 +12,16 @@ ghost use mathlib.Core.Path.{_≡_};
 ghost use Prim.Native.Nat.{_+_, _-_, _≤_, _^_};
 ghost use lib.ListN.{length};
 ghost use Rattle.cursor.specs.Cursor.{alongRun, runNext, positionNext, basedNext, jumpNext, pagedNext, nextOf, walked, steppedBy, steppedAs, Batch};
-ghost use Rattle.cursor.specs.Stretch.{Filled};
+ghost use Rattle.cursor.specs.Stretch.{Filled, Stretch};
 
-// The cells from the cursor to the end of its run, at most `left`; 1 where it stands past the end.
-fn cells_ahead(c: Cursor, left: usize) -> usize
-    requires { ⌜ 1 ≤ left ⌝ }
-    ensures { λ r. ⌜ (1 ≤ r) × (r ≤ left) × (r ≤ 1 + (c .last - c .at)) × (c .at + r ≤ 2 ^ 32) ⌝ }
+// The cells from the cursor to the end of its run; 1 where it stands past the end.
+fn cells_ahead(c: Cursor) -> usize
+    ensures { λ r. ⌜ (1 ≤ r) × (r ≤ 1 + (c .last - c .at)) × (c .at + r ≤ 2 ^ 32) ⌝ }
 {
-    let mut m: usize = 1;
     if c.at < c.last {
-        m = (c.last - c.at) as usize + 1;
+        return (c.last - c.at) as usize + 1;
     }
-    if left < m {
-        return left;
-    }
-    m
+    1
 }
 
 // The cursor k cells on in its run.
@@ -53,19 +48,26 @@ fn fill_from(out: &mut [u32], from: usize, n: usize, p: u32)
     }
 }
 
-// The positions of a stretch of m cells. A short one fills 8 elements where there is room, without a branch on its length: those past it are for
-// the next stretch.
-fn fill_stretch(out: &mut [u32], from: usize, m: usize, p: u32)
-    requires { ⌜ from + m ≤ length (now out) ⌝ }
-    ensures { λ _. ⌜ Filled p from m (now (out .entry)) (now (out .exit)) ⌝ }
+// The positions from the cursor to the end of its run, as far as there is room, and how many they are. A short run fills 8 elements, without a
+// branch on its length: those past it are for the next run.
+fn fill_run(out: &mut [u32], from: usize, c: Cursor) -> usize
+    requires { ⌜ 1 + from ≤ length (now out) ⌝ }
+    ensures { λ r. ⌜ Stretch c from r (now (out .entry)) (now (out .exit)) ⌝ }
 {
+    let left = out.len() - from;
+    let m = cells_ahead(c);
     if m <= 8 {
-        if 8 <= out.len() - from {
-            fill_from(out, from, 8, p);
-            return;
+        if 8 <= left {
+            fill_from(out, from, 8, c.at);
+            return m;
         }
     }
-    fill_from(out, from, m, p);
+    if left < m {
+        fill_from(out, from, left, c.at);
+        return left;
+    }
+    fill_from(out, from, m, c.at);
+    m
 }
 
 // Kind 1.
@@ -74,8 +76,7 @@ fn run_positions(file: &[u8], mut c: Cursor, out: &mut [u32]) -> Cursor
 {
     let mut i: usize = 0;
     while i < out.len() {
-        let m = cells_ahead(c, out.len() - i);
-        fill_stretch(out, i, m, c.at);
+        let m = fill_run(out, i, c);
         c = next_run(file, moved_along(c, m - 1));
         i += m;
     }
@@ -127,8 +128,7 @@ fn paged_positions(file: &[u8], v: View, mut c: Cursor, out: &mut [u32]) -> Curs
 {
     let mut i: usize = 0;
     while i < out.len() {
-        let m = cells_ahead(c, out.len() - i);
-        fill_stretch(out, i, m, c.at);
+        let m = fill_run(out, i, c);
         c = next_paged(file, v, moved_along(c, m - 1));
         i += m;
     }
