@@ -62,13 +62,26 @@ module _ (b : List ℕ) (v : View) (f : Cursor → Cursor) (same : (c : Cursor) 
 
 -- ---- m steps, then n
 
+module _ (f : Cursor → Cursor) where
+  pub walked-as-add : (c : Cursor) (m n : ℕ) → walkedAs f c (m + n) ≡ walkedAs f c m ++ walkedAs f (steppedAs f c m) n
+  unfolding walkedAs steppedAs
+  walked-as-add c zero n = rw zero-add
+  walked-as-add c (suc m) n =
+      let e : suc m + n ≡ suc (m + n) = omega arith in
+      rw e (ap (λ (l : List ℕ). c .at ∷ l) (walked-as-add (f c) m n))
+
+  pub stepped-as-add : (c : Cursor) (m n : ℕ) → steppedAs f c (m + n) ≡ steppedAs f (steppedAs f c m) n
+  unfolding steppedAs
+  stepped-as-add c zero n = rw zero-add
+  stepped-as-add c (suc m) n =
+      let e : suc m + n ≡ suc (m + n) = omega arith in
+      rw e (stepped-as-add (f c) m n)
+
 module _ (b : List ℕ) (v : View) where
   pub walked-add : (c : Cursor) (m n : ℕ) → walked b v c (m + n) ≡ walked b v c m ++ walked b v (steppedBy b v c m) n
-  unfolding walked steppedBy
-  walked-add c zero n = rw zero-add
-  walked-add c (suc m) n =
-      let e : suc m + n ≡ suc (m + n) = omega arith in
-      rw e (ap (λ (l : List ℕ). c .at ∷ l) (walked-add (nextOf b v c) m n))
+  walked-add c m n =
+      let w = walked-as b v (nextOf b v) (λ d. refl) in
+      sym (w c (m + n)) ∙ walked-as-add (nextOf b v) c m n ∙ rw (w c m, stepped-as b v (nextOf b v) (λ d. refl) c m, w (steppedBy b v c m) n)
 
   pub length-walked : (c : Cursor) (n : ℕ) → length (walked b v c n) ≡ n
   unfolding walked

@@ -8,3 +8,4 @@ pub mod Begin
 pub mod Walks
 pub mod Batches
 pub mod Stretches
+pub mod Fills

@@ -7,9 +7,68 @@ use super::ranks::next_position;
 use super::runs::next_paged;
 use super::runs::next_run;
 use format::View;
+use std::num::wrapping_add_u32;
 ghost use mathlib.Core.Path.{_≡_};
+ghost use Prim.Native.Nat.{_+_, _-_, _≤_, _^_};
 ghost use lib.ListN.{length};
-ghost use Rattle.cursor.specs.Cursor.{runNext, positionNext, basedNext, jumpNext, pagedNext, nextOf, walked, steppedBy, Batch};
+ghost use Rattle.cursor.specs.Cursor.{alongRun, runNext, positionNext, basedNext, jumpNext, pagedNext, nextOf, walked, steppedBy, steppedAs, Batch};
+ghost use Rattle.cursor.specs.Stretch.{Filled, Stretch};
+
+// The cells from the cursor to the end of its run; 1 where it stands past the end.
+fn cells_ahead(c: Cursor) -> usize
+    ensures { λ r. ⌜ (1 ≤ r) × (r ≤ 1 + (c .last - c .at)) × (c .at + r ≤ 2 ^ 32) ⌝ }
+{
+    if c.at < c.last {
+        return (c.last - c.at) as usize + 1;
+    }
+    1
+}
+
+// The cursor k cells on in its run.
+fn moved_along(mut c: Cursor, k: usize) -> Cursor
+    requires { ⌜ k ≤ c .last - c .at ⌝ }
+    ensures { λ r. ⌜ r ≡ steppedAs alongRun c k ⌝ }
+{
+    c.rank = wrapping_add_u32(c.rank, k as u32);
+    c.at += k as u32;
+    c
+}
+
+// n consecutive positions from p on, in the elements from an index on.
+fn fill_from(out: &mut [u32], from: usize, n: usize, p: u32)
+    requires { ⌜ from + n ≤ length (now out) ⌝ }
+    ensures { λ _. ⌜ Filled p from n (now (out .entry)) (now (out .exit)) ⌝ }
+{
+    let mut q = p;
+    let mut t: usize = 0;
+    while t < n {
+        out[from + t] = q;
+        q = wrapping_add_u32(q, 1);
+        t += 1;
+    }
+}
+
+// The positions from the cursor to the end of its run, as far as there is room, and how many they are. A short run fills 8 elements, without a
+// branch on its length: those past it are for the next run.
+fn fill_run(out: &mut [u32], from: usize, c: Cursor) -> usize
+    requires { ⌜ 1 + from ≤ length (now out) ⌝ }
+    ensures { λ r. ⌜ Stretch c from r (now (out .entry)) (now (out .exit)) ⌝ }
+{
+    let left = out.len() - from;
+    let m = cells_ahead(c);
+    if m <= 8 {
+        if 8 <= left {
+            fill_from(out, from, 8, c.at);
+            return m;
+        }
+    }
+    if left < m {
+        fill_from(out, from, left, c.at);
+        return left;
+    }
+    fill_from(out, from, m, c.at);
+    m
+}
 
 // Kind 1.
 fn run_positions(file: &[u8], mut c: Cursor, out: &mut [u32]) -> Cursor
@@ -17,9 +76,9 @@ fn run_positions(file: &[u8], mut c: Cursor, out: &mut [u32]) -> Cursor
 {
     let mut i: usize = 0;
     while i < out.len() {
-        out[i] = c.at;
-        c = next_run(file, c);
-        i += 1;
+        let m = fill_run(out, i, c);
+        c = next_run(file, moved_along(c, m - 1));
+        i += m;
     }
     c
 }
@@ -69,9 +128,9 @@ fn paged_positions(file: &[u8], v: View, mut c: Cursor, out: &mut [u32]) -> Curs
 {
     let mut i: usize = 0;
     while i < out.len() {
-        out[i] = c.at;
-        c = next_paged(file, v, c);
-        i += 1;
+        let m = fill_run(out, i, c);
+        c = next_paged(file, v, moved_along(c, m - 1));
+        i += m;
     }
     c
 }

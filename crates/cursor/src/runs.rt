@@ -5,35 +5,30 @@ use format::View;
 use std::num::wrapping_add_u32;
 ghost use mathlib.Core.Path.{_≡_};
 ghost use Prim.Native.Nat.{_+_, _≤_, _<_};
-ghost use lib.Dec.{ltb};
-ghost use Rattle.format.specs.Tools.{pick};
-ghost use Rattle.cursor.specs.Cursor.{runNext, pageOf, pagedFrom, pagedNext, alongBy};
+ghost use Rattle.cursor.specs.Cursor.{runFrom, runNext, pageOf, pagedFrom, pagedNext, alongBy};
 
-// 1 at the last cell of a run, 0 before it.
-fn at_end(c: Cursor) -> u32
-    ensures { λ r. ⌜ r ≡ pick (ltb (c .at) (c .last)) 0 1 ⌝ }
-{
-    if c.at < c.last {
-        return 0;
-    }
-    1
-}
-
-// Kind 1. The position of a stored cell is its rank and the empty cells before it. The next pair is loaded at each step, so that no branch
-// depends on where a run ends.
-pub fn next_run(file: &[u8], mut c: Cursor) -> Cursor
-    ensures { λ r. ⌜ r ≡ runNext (now (file .entry)) c ⌝ }
+// The first stored cell of the next run. The position of a stored cell is its rank and the empty cells before it.
+fn enter_run(file: &[u8], mut c: Cursor) -> Cursor
+    ensures { λ r. ⌜ r ≡ runFrom (now (file .entry)) c ⌝ }
 {
     let run = load_pair(file, 52 + 8 * c.next as usize);
     c.rank = wrapping_add_u32(c.rank, 1);
-    c.next = wrapping_add_u32(c.next, at_end(c));
+    c.at = wrapping_add_u32(c.rank, run.second);
+    c.next = wrapping_add_u32(c.next, 1);
+    c.last = run.first;
+    c
+}
+
+// Kind 1.
+pub fn next_run(file: &[u8], mut c: Cursor) -> Cursor
+    ensures { λ r. ⌜ r ≡ runNext (now (file .entry)) c ⌝ }
+{
     if c.at < c.last {
+        c.rank = wrapping_add_u32(c.rank, 1);
         c.at += 1;
         return c;
     }
-    c.at = wrapping_add_u32(c.rank, run.second);
-    c.last = run.first;
-    c
+    enter_run(file, c)
 }
 
 // The page of the next entry: the same, or the one after the run where the cursor stands at the end.
