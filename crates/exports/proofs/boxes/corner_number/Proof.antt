@@ -1,6 +1,5 @@
-use mathlib.Core.Path.{sym, _∙_}
-use mathlib.Core.List.{List}
-use Rattle.format.specs.Signals.{BEYOND, orElse}
+use mathlib.Core.Path.{_≡_, sym, _∙_}
+use Rattle.format.specs.Signals.{BEYOND}
 use Rattle.format.specs.Accepted.{checkNumber}
 use Rattle.handed.proofs.Range.{first-refused}
 use borrow.Author.Needs.{needs}

@@ -12,10 +12,10 @@ use Rattle.exports.proofs.coordinates.put_numbers.Reads as reads
 use Rattle.exports.proofs.coordinates.put_numbers.Lts as lts
 
 abbrev Inv-loop : tie.InvT-loop
-Inv-loop numbers dst₀ i₀ dst i = (i ≤ length (numbers .now)) × (length dst ≡ length dst₀) × (dst ≡ take i (numbers .now) ++ drop i dst₀)
+Inv-loop numbers dst₀ i₀ dst i = (i ≤ length numbers) × (length dst ≡ length dst₀) × (dst ≡ take i numbers ++ drop i dst₀)
 
 abbrev μ-loop : tie.MeasureT-loop
-μ-loop numbers dst₀ i₀ dst i = length (numbers .now) - i
+μ-loop numbers dst₀ i₀ dst i = length numbers - i
 
 -- src/coordinates.rt:45:5
 loop-holds : tie.Need-loop-holds Inv-loop μ-loop
