@@ -50,7 +50,12 @@ fn put_numbers(numbers: &[u32], dst: &mut [u32])
 
 // The coordinates of a position, four numbers. Extents that are not four numbers are 4; a destination shorter than four is 10.
 #[no_mangle]
-pub extern "C" fn ra_position_coordinates(dims: u32, extents: &[u32], place: u32, dst: &mut [u32]) -> u32
+pub extern "C" fn ra_position_coordinates(
+    dims: u32,
+    extents: &[u32],
+    place: u32,
+    dst: &mut [u32],
+) -> u32
     ensures { λ r. ⌜ CoordinatesOut (dimensions dims (now (extents .entry))) place (now (dst .entry)) r (now (dst .exit)) ⌝ }
 {
     if extents.len() != 4 {

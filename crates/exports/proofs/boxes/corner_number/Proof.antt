@@ -5,19 +5,13 @@ use Rattle.handed.proofs.Range.{first-refused}
 use borrow.Author.Needs.{needs}
 use Rattle.exports.proofs.boxes.corner_number.Statement.{statement}
 use Rattle.exports.proofs.boxes.corner_number.Tie as tie
-use Rattle.exports.proofs.boxes.corner_number.Reads as reads
-use Rattle.exports.proofs.boxes.corner_number.Lts as lts
-use Rattle.archive.proofs.check.check.Reads as check-reads
 
--- src/boxes.rt:14:9
 check-requires : tie.Need-check-requires
 check-requires c κs = search needs
 
--- src/boxes.rt:16:9
 returns : tie.Need-returns
 returns c = first-refused (c .before .check .result) _ BEYOND (c .before .check .ensures .number) (c .if1 .taken)
 
--- src/boxes.rt:11:1
 returns-2 : tie.Need-returns-2
 returns-2 c =
     let z : checkNumber (c .before .before .before .args .file .now) ≡ 0 = sym (c .before .check .ensures .number) ∙ c .if1 .left in

@@ -2,49 +2,35 @@ use Rattle.exports.proofs.BoxCalls.{low-corner, high-corner, same-boxed
 use borrow.Author.Needs.{needs}
 use Rattle.exports.proofs.boxes.ra_box.Statement.{statement}
 use Rattle.exports.proofs.boxes.ra_box.Tie as tie
-use Rattle.exports.proofs.boxes.ra_box.Reads as reads
-use Rattle.exports.proofs.boxes.ra_box.Lts as lts
-use Rattle.archive.proofs.boxes.box_words.Reads as box-words-reads
-use Rattle.exports.proofs.boxes.corner_number.Reads as corner-number-reads
-use Rattle.exports.proofs.extents.four.Reads as four-reads
 
--- src/boxes.rt:27:9
 corner-number-requires : tie.Need-corner-number-requires
 corner-number-requires c κs = search needs
 
--- src/boxes.rt:27:9
 returns : tie.Need-returns
 returns c =
     let a = c .before .before .before .before .before .before .args in
     low-corner (a .file .now) (a .low .now) (a .high .now) (a .dst .now) _ (c .corner-number .ensures) (c .before .if1 .taken)
 
--- src/boxes.rt:30:9
 corner-number-requires-2 : tie.Need-corner-number-requires-2
 corner-number-requires-2 c κs = search needs
 
--- src/boxes.rt:30:9
 returns-2 : tie.Need-returns-2
 returns-2 c =
     let a = c .before .before .before .before .before .before .before .args in
     high-corner (a .file .now) (a .low .now) (a .high .now) (a .dst .now) _ (c .corner-number2 .ensures) (c .before .if2 .taken)
 
--- src/boxes.rt:32:21
 four-requires : tie.Need-four-requires
 four-requires c κs = search needs
 
--- src/boxes.rt:32:32
 four-requires-2 : tie.Need-four-requires-2
 four-requires-2 c κs = search needs
 
--- src/boxes.rt:32:5
 box-words-requires : tie.Need-box-words-requires
 box-words-requires c κs = search needs
 
--- src/boxes.rt:22:1
 same-length : tie.Need-same-length
 same-length c = search needs
 
--- src/boxes.rt:22:1
 returns-3 : tie.Need-returns-3
 returns-3 c =
     let a = c .before .before .before .before .before .before .before .before .before .before .before .before .args in

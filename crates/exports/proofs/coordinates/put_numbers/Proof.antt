@@ -8,8 +8,6 @@ use Rattle.exports.proofs.CoordinateCalls.{copy-turn}
 use borrow.Author.Needs.{needs}
 use Rattle.exports.proofs.coordinates.put_numbers.Statement.{statement}
 use Rattle.exports.proofs.coordinates.put_numbers.Tie as tie
-use Rattle.exports.proofs.coordinates.put_numbers.Reads as reads
-use Rattle.exports.proofs.coordinates.put_numbers.Lts as lts
 
 abbrev Inv-loop : tie.InvT-loop
 Inv-loop numbers dst₀ i₀ dst i = (i ≤ length numbers) × (length dst ≡ length dst₀) × (dst ≡ take i numbers ++ drop i dst₀)
@@ -17,35 +15,27 @@ Inv-loop numbers dst₀ i₀ dst i = (i ≤ length numbers) × (length dst ≡ l
 abbrev μ-loop : tie.MeasureT-loop
 μ-loop numbers dst₀ i₀ dst i = length numbers - i
 
--- src/coordinates.rt:45:5
 loop-holds : tie.Need-loop-holds Inv-loop μ-loop
 loop-holds c = search needs
 
--- src/coordinates.rt:46:18
 mul-dst : tie.Need-mul-dst Inv-loop μ-loop
 mul-dst c = search needs
 
--- src/coordinates.rt:46:18
 shared-slice-read-dst : tie.Need-shared-slice-read-dst Inv-loop μ-loop
 shared-slice-read-dst c = search needs
 
--- src/coordinates.rt:46:9
 mul-dst-2 : tie.Need-mul-dst-2 Inv-loop μ-loop
 mul-dst-2 c = search needs
 
--- src/coordinates.rt:46:9
 slice-write-dst : tie.Need-slice-write-dst Inv-loop μ-loop
 slice-write-dst c = search needs
 
--- src/coordinates.rt:47:9
 add-i : tie.Need-add-i Inv-loop μ-loop
 add-i c = search needs
 
--- src/coordinates.rt:45:5
 loop-less : tie.Need-loop-less Inv-loop μ-loop
 loop-less c = search needs
 
--- src/coordinates.rt:45:5
 loop-again : tie.Need-loop-again Inv-loop μ-loop
 loop-again c =
     let a = c .before .before .before .args in
@@ -58,11 +48,9 @@ loop-again c =
       ap (λ (d : List ℕ). set d (l .i) x) (l .inv .2) ∙ copy-turn (a .dst .now) (a .numbers .now) (l .i) (omega arith) (omega arith),
     )
 
--- src/coordinates.rt:40:1
 same-length : tie.Need-same-length Inv-loop μ-loop
 same-length c = search needs
 
--- src/coordinates.rt:40:1
 returns : tie.Need-returns Inv-loop μ-loop
 returns c =
     let l = c .before .loop in

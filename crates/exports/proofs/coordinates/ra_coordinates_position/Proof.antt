@@ -7,30 +7,19 @@ use Rattle.exports.proofs.CoordinateCalls.{no-count, position-not-four,
 use borrow.Author.Needs.{needs}
 use Rattle.exports.proofs.coordinates.ra_coordinates_position.Statement.{statement}
 use Rattle.exports.proofs.coordinates.ra_coordinates_position.Tie as tie
-use Rattle.exports.proofs.coordinates.ra_coordinates_position.Reads as reads
-use Rattle.exports.proofs.coordinates.ra_coordinates_position.Lts as lts
-use Rattle.exports.proofs.code.code_and_value.Reads as code-and-value-reads
-use Rattle.exports.proofs.code.position_code.Reads as position-code-reads
-use Rattle.exports.proofs.extents.four.Reads as four-reads
-use Rattle.header.proofs.coordinates.position_at.Reads as position-at-reads
-use Rattle.header.proofs.extents.cell_count.Reads as cell-count-reads
 
--- src/coordinates.rt:24:9
 code-and-value-requires : tie.Need-code-and-value-requires
 code-and-value-requires c κs = search needs
 
--- src/coordinates.rt:24:9
 returns : tie.Need-returns
 returns c =
     let a = c .before .before .before .before .args in
     let d = dimensions (a .dims) (a .extents .now) in
     record { answer = refused EXTENT; right = position-extent d (a .at .now) (no-count d (c .before .if1 .taken)); code = c .code-and-value .ensures }
 
--- src/coordinates.rt:28:18
 four-requires : tie.Need-four-requires
 four-requires c κs = search needs
 
--- src/coordinates.rt:30:8
 cell-count-requires : tie.Need-cell-count-requires
 cell-count-requires c κs = search needs
 
@@ -40,11 +29,9 @@ cells-counted c =
     let a = c .before .before .before .before .before .args in
     same-count (a .dims) _ (a .extents .now) (c .before .four .ensures) _ (c .cell-count .ensures .0)
 
--- src/coordinates.rt:31:9
 code-and-value-requires-2 : tie.Need-code-and-value-requires-2
 code-and-value-requires-2 c κs = search needs
 
--- src/coordinates.rt:31:9
 returns-2 : tie.Need-returns-2
 returns-2 c =
     let a = c .before .before .before .before .before .before .before .args in
@@ -54,11 +41,9 @@ returns-2 c =
       code = c .code-and-value2 .ensures;
     }
 
--- src/coordinates.rt:34:9
 code-and-value-requires-3 : tie.Need-code-and-value-requires-3
 code-and-value-requires-3 c κs = search needs
 
--- src/coordinates.rt:34:9
 returns-3 : tie.Need-returns-3
 returns-3 c =
     let a = c .before .before .before .before .before .before .before .before .args in
@@ -68,19 +53,15 @@ returns-3 c =
       code = c .code-and-value3 .ensures;
     }
 
--- src/coordinates.rt:36:34
 four-requires-2 : tie.Need-four-requires-2
 four-requires-2 c κs = search needs
 
--- src/coordinates.rt:36:19
 position-at-requires : tie.Need-position-at-requires
 position-at-requires c κs = search needs
 
--- src/coordinates.rt:36:5
 position-code-requires : tie.Need-position-code-requires
 position-code-requires c κs = search needs
 
--- src/coordinates.rt:19:1
 returns-4 : tie.Need-returns-4
 returns-4 c =
     let a = c .before .before .before .before .before .before .before .before .before .before .args in

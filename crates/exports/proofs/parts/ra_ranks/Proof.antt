@@ -11,35 +11,24 @@ use Rattle.exports.proofs.PartCalls.{ranks-refused, ranks-small, ranks-
 use borrow.Author.Needs.{needs}
 use Rattle.exports.proofs.parts.ra_ranks.Statement.{statement}
 use Rattle.exports.proofs.parts.ra_ranks.Tie as tie
-use Rattle.exports.proofs.parts.ra_ranks.Reads as reads
-use Rattle.exports.proofs.parts.ra_ranks.Lts as lts
-use Rattle.exports.proofs.code.code_and_value.Reads as code-and-value-reads
-use Rattle.handed.proofs.ranks.ranks_number.Reads as ranks-number-reads
-use Rattle.header.proofs.places.words_at.Reads as words-at-reads
-use Rattle.header.proofs.view.read_view.Reads as read-view-reads
 
--- src/parts.rt:18:9
 ranks-number-requires : tie.Need-ranks-number-requires
 ranks-number-requires c κs = search needs
 
--- src/parts.rt:20:9
 code-and-value-requires : tie.Need-code-and-value-requires
 code-and-value-requires c κs = search needs
 
--- src/parts.rt:20:9
 returns : tie.Need-returns
 returns c =
     let a = c .before .before .before .before .args in
     let n = c .before .before .ranks-number in
     c .code-and-value .ensures ∙ ranks-refused (a .file .now) (a .from) (a .to) (n .result) (n .ensures) (c .before .if1 .taken)
 
--- src/parts.rt:22:23
 read-view-requires : tie.Need-read-view-requires
 read-view-requires c κs =
     let a = c .before .before .before .args in
     header-there (a .file .now) (ranged (a .file .now) (a .from) (a .to) (sym (c .before .ranks-number .ensures) ∙ c .if1 .left) .accepted)
 
--- src/parts.rt:22:14
 words-at-requires : tie.Need-words-at-requires
 words-at-requires c κs = search needs
 
@@ -56,23 +45,18 @@ place-small c =
     let small : Below 256 (a .file .now) = below-elements 256 (a .file .now) (λ i. c .before .before .before .before .shared-slice-known .given i .fits) in
     rw (place-is c) (ranks-small (a .file .now) (a .from) (a .to) (n .result) (n .ensures) (c .before .before .if1 .left) small)
 
--- src/parts.rt:22:42
 mul-at : tie.Need-mul-at
 mul-at c = search needs
 
--- src/parts.rt:22:14
 add-at : tie.Need-add-at
 add-at c = search needs
 
--- src/parts.rt:23:23
 cast-code-and-value : tie.Need-cast-code-and-value
 cast-code-and-value c = record { fits = place-small c }
 
--- src/parts.rt:23:5
 code-and-value-requires-2 : tie.Need-code-and-value-requires-2
 code-and-value-requires-2 c κs = search needs
 
--- src/parts.rt:14:1
 returns-2 : tie.Need-returns-2
 returns-2 c =
     let a = c .before .before .before .before .before .before .args in

@@ -3,42 +3,31 @@ use Rattle.exports.proofs.PartCalls.{shorter-refused, second-shorter, f
 use borrow.Author.Needs.{needs}
 use Rattle.exports.proofs.parts.ra_shorter.Statement.{statement}
 use Rattle.exports.proofs.parts.ra_shorter.Tie as tie
-use Rattle.exports.proofs.parts.ra_shorter.Reads as reads
-use Rattle.exports.proofs.parts.ra_shorter.Lts as lts
-use Rattle.exports.proofs.code.code_and_value.Reads as code-and-value-reads
-use Rattle.handed.proofs.shorter.shorter_number.Reads as shorter-number-reads
 
--- src/parts.rt:31:9
 shorter-number-requires : tie.Need-shorter-number-requires
 shorter-number-requires c κs = search needs
 
--- src/parts.rt:33:9
 code-and-value-requires : tie.Need-code-and-value-requires
 code-and-value-requires c κs = search needs
 
--- src/parts.rt:33:9
 returns : tie.Need-returns
 returns c =
     let a = c .before .before .before .before .before .args in
     let n = c .before .before .shorter-number in
     c .code-and-value .ensures ∙ shorter-refused (a .first .now) (a .second .now) (n .result) (n .ensures) (c .before .if1 .taken)
 
--- src/parts.rt:36:9
 code-and-value-requires-2 : tie.Need-code-and-value-requires-2
 code-and-value-requires-2 c κs = search needs
 
--- src/parts.rt:36:9
 returns-2 : tie.Need-returns-2
 returns-2 c =
     let a = c .before .before .before .before .before .before .args in
     let n = c .before .before .before .shorter-number in
     c .code-and-value2 .ensures ∙ second-shorter (a .first .now) (a .second .now) (n .result) (n .ensures) (c .before .before .if1 .left) (c .before .if2 .taken)
 
--- src/parts.rt:38:5
 code-and-value-requires-3 : tie.Need-code-and-value-requires-3
 code-and-value-requires-3 c κs = search needs
 
--- src/parts.rt:27:1
 returns-3 : tie.Need-returns-3
 returns-3 c =
     let a = c .before .before .before .before .before .before .args in
