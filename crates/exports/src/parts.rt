@@ -6,7 +6,6 @@ use handed::shorter::shorter_number;
 use header::places::words_at;
 use header::view::read_view;
 ghost use mathlib.Core.Path.{_≡_};
-ghost use lib.ListN.{length};
 ghost use Rattle.exports.specs.Code.{coded};
 ghost use Rattle.exports.specs.Handed.{ranksAnswer, shorterAnswer};
 

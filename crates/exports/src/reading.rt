@@ -9,7 +9,6 @@ use archive::lookup::position;
 use archive::lookup::rank;
 use format::Position;
 use format::Rank;
-ghost use mathlib.Core.Path.{_≡_};
 ghost use Rattle.format.specs.Accepted.{Checked};
 ghost use Rattle.format.specs.Calls.{Expanded};
 ghost use Rattle.format.specs.Lookups.{CellFound, RankFound, PositionFound};

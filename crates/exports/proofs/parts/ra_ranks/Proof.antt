@@ -1,7 +1,5 @@
 use Prim.Native.Nat.{ℕ, _+_, _*_, _^_, _<_}
 use mathlib.Core.Path.{_≡_, sym, ap, _∙_}
-use native.Mathlib.Omega.{arith}
-use Rattle.format.specs.declared.View.{View}
 use Rattle.format.specs.Tools.{Below}
 use Rattle.format.specs.Opened.{viewOf}
 use Rattle.header.specs.View.{wordsPlace}
