@@ -1,5 +1,5 @@
--- Four numbers, and what a wrong number of extents answers. Assumes nothing.
-use Prim.Native.Nat.{ℕ}
+-- Four numbers, and what a wrong number of extents or coordinates answers. Assumes nothing.
+use Prim.Native.Nat.{ℕ, zero, suc}
 use mathlib.Core.Path.{_≡_, refl, sym, ap, subst, _∙_}
 use mathlib.Core.Bool.{false}
 use mathlib.Core.List.{List, [], _∷_}
@@ -10,7 +10,8 @@ use Rattle.format.specs.declared.Dimensions.{Dimensions}
 use Rattle.format.specs.declared.Setting.{Setting}
 use Rattle.format.specs.Tools.{within}
 use Rattle.format.specs.Signals.{EXTENT, orElse}
-use Rattle.format.specs.Picture.{dimensionsAllowed, mostDimensions}
+use Rattle.format.specs.Answers.{leaves}
+use Rattle.format.specs.Picture.{dimensionsAllowed, mostDimensions, inside}
 use Rattle.format.specs.Calls.{settingNumber, Made}
 use Rattle.exports.specs.Extents.{dimensions}
 use Rattle.archive.specs.Known.{pictureNumber}
@@ -48,3 +49,13 @@ module _ (s : Setting) (d : Dimensions) (E : ℕ) (ws before : List ℕ) (h : le
 pub same-made : (s : Setting) (c : ℕ) (es fs : List ℕ) → es ≡ fs → (E : ℕ) (ws before : List ℕ) (n : ℕ) (after : List ℕ)
     → Made s (dimensions c es) E ws before n after → Made s (dimensions c fs) E ws before n after
 same-made s c es fs e E ws before n after m = subst (λ (t : List ℕ). Made s (dimensions c t) E ws before n after) e m
+
+-- another number of coordinates lies not inside
+pub not-inside : (d : Dimensions) (cs : List ℕ) → (length cs ≡ 4 → ⊥) → inside d cs ≡ false
+unfolding inside
+not-inside d cs h = rw (ne-eqb (length cs) mostDimensions h)
+
+-- a refusal alters nothing
+pub unaltered : (n : ℕ) (out before : List ℕ) → (n ≡ 0 → ⊥) → before ≡ leaves n out before
+unaltered zero out before h = absurd (h refl)
+unaltered (suc n) out before h = refl

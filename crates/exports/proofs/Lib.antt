@@ -1,2 +1,5 @@
 pub mod Answered
 pub mod Four
+pub mod CoordinateCalls
+pub mod PartCalls
+pub mod BoxCalls

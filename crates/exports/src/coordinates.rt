@@ -36,20 +36,26 @@ pub extern "C" fn ra_coordinates_position(dims: u32, extents: &[u32], at: &[u32]
     position_code(position_at(d, four(at)))
 }
 
-// Four numbers into a destination's first elements.
-fn put_four(numbers: [u32; 4], dst: &mut [u32])
-    requires { ⌜ 4 ≤ length (now dst) ⌝ }
-    ensures { λ _. ⌜ now (dst .exit) ≡ numbers ++ drop 4 (now (dst .entry)) ⌝ }
+// Numbers into a destination's first elements.
+fn put_numbers(numbers: &[u32], dst: &mut [u32])
+    requires { ⌜ length (now numbers) ≤ length (now dst) ⌝ }
+    ensures { λ _. ⌜ now (dst .exit) ≡ now (numbers .entry) ++ drop (length (now (numbers .entry))) (now (dst .entry)) ⌝ }
 {
-    dst[0] = numbers[0];
-    dst[1] = numbers[1];
-    dst[2] = numbers[2];
-    dst[3] = numbers[3];
+    let mut i: usize = 0;
+    while i < numbers.len() {
+        dst[i] = numbers[i];
+        i += 1;
+    }
 }
 
 // The coordinates of a position, four numbers. Extents that are not four numbers are 4; a destination shorter than four is 10.
 #[no_mangle]
-pub extern "C" fn ra_position_coordinates(dims: u32, extents: &[u32], place: u32, dst: &mut [u32]) -> u32
+pub extern "C" fn ra_position_coordinates(
+    dims: u32,
+    extents: &[u32],
+    place: u32,
+    dst: &mut [u32],
+) -> u32
     ensures { λ r. ⌜ CoordinatesOut (dimensions dims (now (extents .entry))) place (now (dst .entry)) r (now (dst .exit)) ⌝ }
 {
     if extents.len() != 4 {
@@ -66,6 +72,7 @@ pub extern "C" fn ra_position_coordinates(dims: u32, extents: &[u32], place: u32
     if dst.len() < 4 {
         return 10;
     }
-    put_four(c.at, dst);
+    let at = c.at;
+    put_numbers(&at, dst);
     0
 }
