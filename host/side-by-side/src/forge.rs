@@ -70,6 +70,28 @@ pub fn set_field(file: &mut [u8], at: usize, value: u32) {
 
 /// One damaged or forged file from an accepted one.
 pub fn any(file: &[u8], says: &Parsed, random: &mut Random) -> Forged {
+    loop {
+        let forged = any_of_all(file, says, random);
+        if !costly(&forged.1) || random.once_in(64) {
+            return forged;
+        }
+    }
+}
+
+/// Whether a file claims so many cells, and allowed ones, that a reader of whole pictures takes long.
+fn costly(file: &[u8]) -> bool {
+    if file.len() < 52 {
+        return false;
+    }
+    let cells: u128 = [4, 8, 12, 16]
+        .iter()
+        .map(|&at| u128::from(field(file, at)))
+        .product();
+    (300_000..=16_777_216).contains(&cells)
+}
+
+/// One damaged or forged file, of whatever number of cells.
+fn any_of_all(file: &[u8], says: &Parsed, random: &mut Random) -> Forged {
     match random.below(12) {
         0 => header_byte(file, random),
         1 | 2 => header_field(file, says, random),
@@ -85,7 +107,12 @@ pub fn any(file: &[u8], says: &Parsed, random: &mut Random) -> Forged {
 /// One byte of the header.
 fn header_byte(file: &[u8], random: &mut Random) -> Forged {
     let mut copy = file.to_vec();
-    let at = random.below(52);
+    // The kind, the dimension count, the width and the step as often as all other bytes together.
+    let at = if random.once_in(2) {
+        random.below(4)
+    } else {
+        random.below(52)
+    };
     copy[at] = copy[at].wrapping_add(random.within(1, 255) as u8);
     (format!("header byte {at}"), copy)
 }

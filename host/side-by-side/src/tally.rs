@@ -130,10 +130,13 @@ impl Tally {
                 missing.push(format!("no picture of texture {name}"));
             }
         }
-        for setting in settings::all() {
-            if !self.settings.contains(&setting) {
-                missing.push(format!("no file of setting {setting:?}"));
-            }
+        let all = settings::all();
+        let unmet = all
+            .iter()
+            .filter(|setting| !self.settings.contains(*setting));
+        let unmet: Vec<&Setting> = unmet.collect();
+        if !unmet.is_empty() {
+            missing.push(format!("no file of settings {unmet:?}"));
         }
         missing
     }

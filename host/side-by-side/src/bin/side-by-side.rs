@@ -13,8 +13,8 @@ use side_by_side::tally::Tally;
 use side_by_side::{cases, lists, settings};
 
 const SEED: u64 = 20_020_401;
-const PICTURES: usize = 7_200;
-const LISTS: usize = 2_400;
+const PICTURES: usize = 3_600;
+const LISTS: usize = 4_000;
 const THREADS: usize = 2;
 
 /// The cases of one thread: every picture and list whose number is the thread's, each from its own seed.
