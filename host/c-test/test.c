@@ -245,6 +245,33 @@ static void refusals_of_make(void)
     EQUAL(ra_make(1, 0, 0, 1, LINE_12, 4, 0, SAMPLE, 12, NULL, 0), 10);
 }
 
+/* The numbers of write and change on an accepted file, in the order in which they are tested. */
+static void refusals_of_write_and_change(void)
+{
+    uint8_t file[200], dst[200];
+    uint32_t words[300] = {0};
+    size_t len = sample(2, file);
+    EQUAL(ra_write(file, len, 12, 1, dst, 0), 8);
+    EQUAL(ra_write(file, len, 11, 1, dst, 0), 10);
+    EQUAL(ra_change(file, len, 0, 9, 9, dst, 0), 2);
+    EQUAL(ra_change(file, len, 257, 0, 0, dst, 200), 2);
+    EQUAL(ra_change(file, len, 3, 0, 1, dst, 0), 3);
+    EQUAL(ra_change(file, len, 3, 257, 1, dst, 200), 3);
+    EQUAL(ra_change(file, len, 5, 0, 258, dst, 200), 3);
+    EQUAL(ra_change(file, len, 1, 0, 0, dst, 91), 10);
+    words[2] = 7;
+    EQUAL(make_line(SETTINGS[2], words, 300, file, 200), 0);
+    len = field(file, 48);
+    EQUAL(ra_write(file, len, 258, 1, dst, 0), 9);
+    EQUAL(ra_write(file, len, 257, 1, dst, 200), 0);
+    words[258] = 8;
+    EQUAL(make_line(SETTINGS[1], words, 300, file, 200), 0);
+    len = field(file, 48);
+    EQUAL(ra_change(file, len, 3, 1, 2, dst, 0), 9);
+    EQUAL(ra_change(file, len, 3, 2, 2, dst, 0), 10);
+    EQUAL(ra_change(file, len, 3, 2, 2, dst, 200), 0);
+}
+
 /* The numbers 1 to 6 of a file in every call, before all others. */
 static void refusals_of_files(void)
 {
@@ -370,6 +397,7 @@ static void parts_of_files(void)
                         wanted[size++] = words[4 * r + c];
                 if (a[0] > b[0] || a[1] > b[1]) {
                     EQUAL(ra_box(file, len, a, 4, b, 4, boxed, 13), 8);
+                    EQUAL(ra_box(file, len, a, 4, b, 4, boxed, 0), 8);
                     continue;
                 }
                 boxed[size] = 77;
@@ -529,6 +557,7 @@ int main(void)
     sample_files();
     sample_bounds();
     refusals_of_make();
+    refusals_of_write_and_change();
     refusals_of_files();
     nothing_lent();
     destinations();

@@ -3,8 +3,8 @@
 //! Arguments: the seed, the pictures and the lists for all threads together. The last line is `N passed, M failed`: each case counts,
 //! each disagreement and each count that is missing fails.
 
+use std::panic::{catch_unwind, AssertUnwindSafe};
 use std::process::ExitCode;
-use std::sync::Arc;
 use std::thread;
 use std::time::Instant;
 
@@ -17,21 +17,38 @@ const PICTURES: usize = 3_600;
 const LISTS: usize = 4_000;
 const THREADS: usize = 2;
 
-/// The cases of one thread: every picture and list whose number is the thread's, each from its own seed.
-fn run(seed: u64, thread: usize, pictures: usize, count: usize) -> Tally {
+/// What one thread has met, and how many of its pictures and lists showed a disagreement.
+#[derive(Default)]
+struct Outcome {
+    tally: Tally,
+    failed: u64,
+}
+
+impl Outcome {
+    /// The cases of one picture or list from its own seed. A disagreement ends it and is written to the standard error.
+    fn one(&mut self, name: &str, seed: u64, cases: impl FnOnce(&mut Sides)) {
+        let mut sides = Sides::new(seed);
+        if catch_unwind(AssertUnwindSafe(|| cases(&mut sides))).is_err() {
+            eprintln!("side by side: {name} of seed {seed} failed");
+            self.failed += 1;
+        }
+        self.tally.add(&sides.tally);
+    }
+}
+
+/// The pictures and lists whose number is the thread's.
+fn run(seed: u64, thread: usize, pictures: usize, count: usize) -> Outcome {
     let all = settings::all();
-    let mut tally = Tally::default();
+    let mut outcome = Outcome::default();
     for index in (thread..pictures).step_by(THREADS) {
-        let mut sides = Sides::new(seed.wrapping_add(index as u64));
-        cases::picture(&mut sides, index, &all);
-        tally.add(&sides.tally);
+        let own = seed.wrapping_add(index as u64);
+        outcome.one("a picture", own, |sides| cases::picture(sides, index, &all));
     }
     for index in (thread..count).step_by(THREADS) {
-        let mut sides = Sides::new(!seed.wrapping_add(index as u64));
-        lists::one(&mut sides);
-        tally.add(&sides.tally);
+        let own = !seed.wrapping_add(index as u64);
+        outcome.one("a list", own, lists::one);
     }
-    tally
+    outcome
 }
 
 fn main() -> ExitCode {
@@ -43,18 +60,17 @@ fn main() -> ExitCode {
     let seed = next(SEED);
     let (pictures, count) = (next(PICTURES as u64) as usize, next(LISTS as u64) as usize);
     println!("side by side: seed {seed}, {pictures} pictures, {count} lists");
-    let seed = Arc::new(seed);
     let threads: Vec<_> = (0..THREADS)
-        .map(|thread| {
-            let seed = Arc::clone(&seed);
-            thread::spawn(move || run(*seed, thread, pictures, count))
-        })
+        .map(|thread| thread::spawn(move || run(seed, thread, pictures, count)))
         .collect();
     let mut tally = Tally::default();
     let mut failed = 0;
     for thread in threads {
         match thread.join() {
-            Ok(met) => tally.add(&met),
+            Ok(outcome) => {
+                tally.add(&outcome.tally);
+                failed += outcome.failed;
+            }
             Err(_) => failed += 1,
         }
     }
