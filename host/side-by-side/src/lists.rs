@@ -116,16 +116,16 @@ fn step(
     let number = |answer: Result<usize, radar_archive::Refusal>| {
         answer.err().map_or(0, |refusal| refusal.number())
     };
-    let what = || format!("{request:?} in a list, file {file:?}");
+    let what = || format!("{request:?}, file {file:?}");
     match request {
         Request::Write(position, word) => {
             let engine = |dst: &mut [u8]| number(calls::write(file, Position(position), word, dst));
-            sides.put_out_in("write", wanted, room, engine, what)
+            sides.put_out_in("write in a list", wanted, room, engine, what)
         }
         Request::Change(setting) => {
             let engine =
                 |dst: &mut [u8]| number(calls::change(file, settings::engine(setting), dst));
-            sides.put_out_in("change", wanted, room, engine, what)
+            sides.put_out_in("change in a list", wanted, room, engine, what)
         }
     }
 }

@@ -9,7 +9,7 @@ use crate::settings::{self, Setting};
 pub const EMPTY: u32 = 255;
 
 /// Every call with the numbers it may give; 0 is accepted.
-const CALLS: [(&str, &[u32]); 16] = [
+const CALLS: [(&str, &[u32]); 18] = [
     ("check", &[0, 1, 2, 3, 4, 5, 6]),
     ("make", &[0, 2, 3, 4, 7, 9, 10]),
     ("write", &[0, 1, 2, 3, 4, 5, 6, 8, 9, 10]),
@@ -26,6 +26,8 @@ const CALLS: [(&str, &[u32]); 16] = [
     ("opened_cell", &[0, 8]),
     ("opened_rank", &[0, 8, EMPTY]),
     ("opened_position", &[0, 8]),
+    ("write in a list", &[0, 8, 9, 10]),
+    ("change in a list", &[0, 2, 3, 9, 10]),
 ];
 
 /// How often each number of each call has to be met.

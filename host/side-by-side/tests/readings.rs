@@ -488,9 +488,9 @@ fn e_among_the_stored_words_is_6_and_a_stored_0_is_not() {
     for numbers in SAMPLE_SETTINGS {
         let file = sample(numbers);
         let words_at = field(&file, 44) as usize;
-        for rank in 0..4 {
+        for (rank, word) in WORDS.into_iter().enumerate() {
             assert_eq!(checked(&with_field(&file, words_at + 4 * rank, 0)), 6);
-            assert_eq!(checked(&with_field(&file, 20, WORDS[rank])), 6);
+            assert_eq!(checked(&with_field(&file, 20, word)), 6);
         }
         let mut sides = Sides::new(1);
         let words = [9, 0, 9, 9, 0, 7, 0, 0, 9, 9, 9, 0];
