@@ -5,9 +5,11 @@
 #![deny(warnings, missing_docs)]
 #![forbid(unsafe_code)]
 
+pub mod agreeing;
 pub mod cases;
 pub mod forge;
 pub mod lists;
+pub mod lookups;
 pub mod random;
 pub mod settings;
 pub mod sides;

@@ -1,11 +1,11 @@
 //! One call on both sides.
 
-use radar_archive::{calls, Position, Rank};
+use radar_archive::{calls, Position};
 use reader::Parsed;
 
 use crate::random::Random;
 use crate::settings::{self, Setting};
-use crate::tally::{Tally, EMPTY};
+use crate::tally::Tally;
 
 /// Elements before and after a destination that no call may change.
 const GUARD: usize = 16;
@@ -41,7 +41,7 @@ pub struct Sides {
 }
 
 /// The number of an engine's answer.
-fn number<T>(answer: &Result<T, radar_archive::Refusal>) -> u32 {
+pub(crate) fn number<T>(answer: &Result<T, radar_archive::Refusal>) -> u32 {
     match answer {
         Ok(_) => 0,
         Err(refusal) => refusal.number(),
@@ -49,12 +49,12 @@ fn number<T>(answer: &Result<T, radar_archive::Refusal>) -> u32 {
 }
 
 /// The reader's answer with its number.
-fn read<T>(answer: Result<T, reader::Refusal>) -> Result<T, u32> {
+pub(crate) fn read<T>(answer: Result<T, reader::Refusal>) -> Result<T, u32> {
     answer.map_err(|refusal| refusal.number())
 }
 
 /// The engine's answer with its number.
-fn told<T>(answer: Result<T, radar_archive::Refusal>) -> Result<T, u32> {
+pub(crate) fn told<T>(answer: Result<T, radar_archive::Refusal>) -> Result<T, u32> {
     answer.map_err(|refusal| refusal.number())
 }
 
@@ -64,7 +64,7 @@ pub fn parsed(file: &[u8]) -> Result<Parsed, u32> {
 }
 
 /// Bytes for a message, cut if they are many.
-fn shown(file: &[u8]) -> String {
+pub(crate) fn shown(file: &[u8]) -> String {
     format!("{} bytes {:?}", file.len(), &file[..file.len().min(400)])
 }
 
@@ -78,7 +78,7 @@ impl Sides {
     }
 
     /// Compares one answer and counts it.
-    fn same<T: PartialEq + std::fmt::Debug>(
+    pub(crate) fn same<T: PartialEq + std::fmt::Debug>(
         &mut self,
         call: &'static str,
         engine: Result<T, u32>,
@@ -95,7 +95,7 @@ impl Sides {
     }
 
     /// Makes a call with destinations of some lengths: none, one too short, exact, larger. `engine` gives the number.
-    fn put_out<T: Element>(
+    pub(crate) fn put_out<T: Element>(
         &mut self,
         call: &'static str,
         wanted: &Wanted<T>,
@@ -244,170 +244,5 @@ impl Sides {
             |dst: &mut [u32]| number(&calls::expand(file, dst)),
             || shown(file),
         );
-    }
-
-    /// Cell at a position.
-    pub fn cell(&mut self, file: &[u8], parsed: &Result<Parsed, u32>, position: u32) {
-        let wanted = parsed.as_ref().map_err(|&number| number);
-        let wanted = wanted.and_then(|says| read(says.cell(reader::Position(position))));
-        let engine = told(calls::cell(file, Position(position)));
-        self.same("cell", engine, wanted, || {
-            format!("at {position} of {}", shown(file))
-        });
-    }
-
-    /// Rank at a position.
-    pub fn rank(&mut self, file: &[u8], parsed: &Result<Parsed, u32>, position: u32) {
-        let wanted = parsed.as_ref().map_err(|&number| number);
-        let wanted = wanted.and_then(|says| ranked(says, position));
-        let engine = told(calls::rank(file, Position(position)));
-        self.same("rank", flat(engine), wanted, || {
-            format!("at {position} of {}", shown(file))
-        });
-    }
-
-    /// Position of a rank.
-    pub fn position(&mut self, file: &[u8], parsed: &Result<Parsed, u32>, rank: u32) {
-        let wanted = parsed.as_ref().map_err(|&number| number);
-        let wanted = wanted
-            .and_then(|says| read(says.position(reader::Rank(rank))))
-            .map(|p| p.0);
-        let engine = told(calls::position(file, Rank(rank))).map(|p| p.0);
-        self.same("position", engine, wanted, || {
-            format!("of rank {rank} of {}", shown(file))
-        });
-    }
-
-    /// The three lookups of an opened file that is accepted.
-    pub fn opened(&mut self, file: &[u8], says: &Parsed, position: u32, rank: u32) {
-        let what = || format!("position {position}, rank {rank} of {}", shown(file));
-        let engine = told(calls::opened_cell(file, Position(position)));
-        self.same(
-            "opened_cell",
-            engine,
-            read(says.cell(reader::Position(position))),
-            what,
-        );
-        let engine = told(calls::opened_rank(file, Position(position)));
-        self.same("opened_rank", flat(engine), ranked(says, position), what);
-        let engine = told(calls::opened_position(file, Rank(rank))).map(|p| p.0);
-        let wanted = read(says.position(reader::Rank(rank))).map(|p| p.0);
-        self.same("opened_position", engine, wanted, what);
-    }
-
-    /// The three lookups over bytes that are refused: each ends with an answer in range.
-    pub fn opened_over_any(&mut self, file: &[u8], position: u32, rank: u32) {
-        let what = || format!("position {position}, rank {rank} of {}", shown(file));
-        let field =
-            |at: usize| u32::from_le_bytes([file[at], file[at + 1], file[at + 2], file[at + 3]]);
-        let (stored, cells) = if file.len() < 52 {
-            (0, 0)
-        } else {
-            (
-                field(24),
-                [4, 8, 12, 16]
-                    .iter()
-                    .map(|&at| u128::from(field(at)))
-                    .product(),
-            )
-        };
-        let answer = told(calls::opened_cell(file, Position(position)));
-        let right = matches!(answer, Err(8)) || answer.is_ok() && file.len() >= 52;
-        assert!(right, "opened_cell: {answer:?}; {}", what());
-        self.tally.answer("opened_cell", answer.err().unwrap_or(0));
-        let answer = flat(told(calls::opened_rank(file, Position(position))));
-        let right = match answer {
-            Ok(rank) => rank < stored,
-            Err(number) => number == 8 || number == EMPTY && file.len() >= 52,
-        };
-        assert!(right, "opened_rank: {answer:?}; {}", what());
-        self.tally.answer("opened_rank", answer.err().unwrap_or(0));
-        let answer = told(calls::opened_position(file, Rank(rank))).map(|p| p.0);
-        let right = match answer {
-            Ok(position) => u128::from(position) < cells,
-            Err(number) => number == 8,
-        };
-        assert!(right, "opened_position: {answer:?}; {}", what());
-        self.tally
-            .answer("opened_position", answer.err().unwrap_or(0));
-    }
-
-    /// Box, with destinations of several lengths.
-    pub fn box_words(
-        &mut self,
-        file: &[u8],
-        parsed: &Result<Parsed, u32>,
-        low: &[u32],
-        high: &[u32],
-    ) {
-        let wanted = parsed.as_ref().map_err(|&number| number);
-        let wanted = wanted.and_then(|says| read(says.box_words(low, high)));
-        let engine = |dst: &mut [u32]| number(&calls::box_words(file, low, high, dst));
-        self.put_out("box", &wanted, engine, || {
-            format!("{low:?} to {high:?} of {}", shown(file))
-        });
-    }
-
-    /// The stored bytes of a range of ranks.
-    pub fn ranks(&mut self, file: &[u8], parsed: &Result<Parsed, u32>, from: u32, to: u32) {
-        let wanted = parsed.as_ref().map_err(|&number| number);
-        let wanted =
-            wanted.and_then(|says| read(says.rank_range(reader::Rank(from), reader::Rank(to))));
-        let part = told(calls::ranks(file, Rank(from), Rank(to)));
-        let engine = part.map(|part| (part.as_ptr() as usize - file.as_ptr() as usize, part.len()));
-        self.same("ranks", engine, wanted, || {
-            format!("{from} to {to} of {}", shown(file))
-        });
-    }
-
-    /// The shorter of two files, which do not overlap.
-    pub fn shorter(&mut self, first: &[u8], second: &[u8]) {
-        let wanted = read(reader::shorter(first, second))
-            .map(|which| [first, second][which as usize].as_ptr());
-        let engine = told(calls::shorter(first, second)).map(|file| file.as_ptr());
-        self.same("shorter", engine, wanted, || {
-            format!("{} and {}", shown(first), shown(second))
-        });
-    }
-
-    /// Coordinates to position.
-    pub fn coordinates_position(&mut self, dimensions: u32, extents: &[u32], at: &[u32]) {
-        let wanted = read(reader::coordinates_position(dimensions, extents, at)).map(|p| p.0);
-        let engine = told(calls::coordinates_position(dimensions, extents, at)).map(|p| p.0);
-        let what = || format!("{dimensions} {extents:?} at {at:?}");
-        self.same("coordinates_position", engine, wanted, what);
-    }
-
-    /// Position to coordinates, with destinations of several lengths.
-    pub fn position_coordinates(&mut self, dimensions: u32, extents: &[u32], position: u32) {
-        let at = reader::Position(position);
-        let wanted =
-            read(reader::position_coordinates(dimensions, extents, at, 4)).map(|at| at.to_vec());
-        let engine = |dst: &mut [u32]| {
-            number(&calls::position_coordinates(
-                dimensions,
-                extents,
-                Position(position),
-                dst,
-            ))
-        };
-        let what = || format!("{dimensions} {extents:?} of {position}");
-        self.put_out("position_coordinates", &wanted, engine, what);
-    }
-}
-
-/// The reader's rank, with the code of an empty cell as a number.
-fn ranked(says: &Parsed, position: u32) -> Result<u32, u32> {
-    match read(says.rank(reader::Position(position)))? {
-        Some(rank) => Ok(rank.0),
-        None => Err(EMPTY),
-    }
-}
-
-/// The engine's rank, with the code of an empty cell as a number.
-fn flat(answer: Result<Option<Rank>, u32>) -> Result<u32, u32> {
-    match answer? {
-        Some(rank) => Ok(rank.0),
-        None => Err(EMPTY),
     }
 }
