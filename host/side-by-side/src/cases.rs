@@ -1,0 +1,342 @@
+//! The cases of one picture: every call on its files, on damaged ones and on wrong arguments.
+
+use reader::Parsed;
+
+use crate::forge;
+use crate::settings::{self, Setting};
+use crate::sides::Sides;
+use crate::textures::{any_extents, Sketch, NAMES};
+
+/// The cases of picture number `index`; `all` are the allowed settings, met in turn.
+pub fn picture(sides: &mut Sides, index: usize, all: &[Setting]) {
+    let large = "gaps of 65,534 to 65,537";
+    let name = NAMES[index % NAMES.len()];
+    // A picture of that texture takes as long as hundreds of others.
+    let name = if name == large && !index.is_multiple_of(8) {
+        "gaps of 254 to 257"
+    } else {
+        name
+    };
+    let sketch = Sketch::of(name, &mut sides.random);
+    sides.tally.texture(name);
+    let mut chosen: Vec<Setting> = (1..=5).map(|kind| of_kind(kind, sides)).collect();
+    chosen.push(all[index % all.len()]);
+    for setting in chosen {
+        let made = sides.make(
+            setting,
+            sketch.dimensions,
+            &sketch.extents,
+            sketch.empty,
+            &sketch.words,
+        );
+        if let Some(file) = made {
+            file_cases(sides, &sketch, &file);
+        }
+    }
+    wrong_make(sides, &sketch);
+    coordinates(sides, &sketch);
+}
+
+/// A setting of a kind.
+fn of_kind(kind: u32, sides: &mut Sides) -> Setting {
+    loop {
+        let setting = settings::any(&mut sides.random);
+        if setting[0] == kind {
+            return setting;
+        }
+    }
+}
+
+/// Make with one argument wrong, or several.
+fn wrong_make(sides: &mut Sides, sketch: &Sketch) {
+    for _ in 0..4 {
+        let random = &mut sides.random;
+        let mut setting = settings::any(random);
+        let (mut dimensions, mut extents) = (sketch.dimensions, sketch.extents.to_vec());
+        let mut words = sketch.words.clone();
+        if random.once_in(2) {
+            setting = settings::wrong(random);
+        }
+        if random.once_in(3) {
+            (dimensions, extents) = wrong_extents(sides, sketch);
+        }
+        let random = &mut sides.random;
+        match random.below(5) {
+            0 => words.push(sketch.empty),
+            1 => {
+                words.pop();
+            }
+            2 => words.clear(),
+            _ => {}
+        }
+        sides.make(setting, dimensions, &extents, sketch.empty, &words);
+    }
+}
+
+/// Dimensions of which something is mostly wrong.
+fn wrong_extents(sides: &mut Sides, sketch: &Sketch) -> (u32, Vec<u32>) {
+    let random = &mut sides.random;
+    let mut dimensions = sketch.dimensions;
+    let mut extents = sketch.extents.to_vec();
+    let word = random.word();
+    match random.below(6) {
+        0 => dimensions = random.one_of(&[0, 5, 257, 260, u32::MAX, dimensions - 1]),
+        1 => {
+            extents.pop();
+        }
+        2 => extents.push(1),
+        3 => {
+            extents = random
+                .one_of(&[
+                    [65_536; 4],
+                    [1 << 31, 2, 1, 1],
+                    [1 << 24, 1, 1, 2],
+                    [65_536, 65_536, 0, 1],
+                ])
+                .to_vec()
+        }
+        _ => {
+            let at = random.below(4);
+            extents[at] = random.one_of(&[0, 2, 16_777_216, 16_777_217, 1 << 31, u32::MAX, word]);
+        }
+    }
+    (dimensions, extents)
+}
+
+/// Coordinates both ways, with right and wrong arguments.
+fn coordinates(sides: &mut Sides, sketch: &Sketch) {
+    for _ in 0..4 {
+        let (dimensions, extents) = match sides.random.below(3) {
+            0 => wrong_extents(sides, sketch),
+            1 => {
+                let cells = sides.random.one_of(&[1, 2, 60_060, 16_777_216, 16_777_215]);
+                let (dimensions, extents) = any_extents(cells, &mut sides.random);
+                (dimensions, extents.to_vec())
+            }
+            _ => (sketch.dimensions, sketch.extents.to_vec()),
+        };
+        let at = corner(sides, &extents);
+        sides.coordinates_position(dimensions, &extents, &at);
+        let cells = extents
+            .iter()
+            .fold(1u32, |cells, &extent| cells.wrapping_mul(extent))
+            .max(1);
+        let random = &mut sides.random;
+        let (inside, word) = (random.below(cells as usize) as u32, random.word());
+        let position = random.one_of(&[inside, inside, 0, cells - 1, cells, word, u32::MAX]);
+        sides.position_coordinates(dimensions, &extents, position);
+    }
+}
+
+/// Coordinates mostly inside some extents.
+fn corner(sides: &mut Sides, extents: &[u32]) -> Vec<u32> {
+    let random = &mut sides.random;
+    let mut at: Vec<u32> = extents
+        .iter()
+        .map(|&extent| random.below(extent.max(1) as usize) as u32)
+        .collect();
+    match random.below(12) {
+        0 => {
+            let index = random.below(at.len().max(1));
+            let word = random.word();
+            if let Some(number) = at.get_mut(index) {
+                *number = random.one_of(&[
+                    extents[index],
+                    extents[index].wrapping_add(1),
+                    u32::MAX,
+                    word,
+                ]);
+            }
+        }
+        1 => {
+            at.pop();
+        }
+        2 => at.push(0),
+        _ => {}
+    }
+    at
+}
+
+/// A position: of a stored cell, beside one, anywhere, or outside.
+fn any_position(sides: &mut Sides, says: &Parsed) -> u32 {
+    let cells = says.cells() as u32;
+    let random = &mut sides.random;
+    let at = random.below(cells as usize) as u32;
+    if random.once_in(8) {
+        let word = random.word();
+        return random.one_of(&[cells, cells + 1, u32::MAX, word, 1 << 24]);
+    }
+    if says.stored() == 0 || random.once_in(3) {
+        return random.one_of(&[at, 0, cells - 1]);
+    }
+    let stored = says.positions[random.below(says.stored())];
+    random.one_of(&[stored, stored + 1, stored.saturating_sub(1)])
+}
+
+/// A rank, mostly below N.
+fn any_rank(sides: &mut Sides, says: &Parsed) -> u32 {
+    let stored = says.stored();
+    let random = &mut sides.random;
+    let rank = random.below(stored + 1) as u32;
+    let last = (stored as u32).saturating_sub(1);
+    random.one_of(&[
+        rank,
+        rank,
+        rank,
+        0,
+        last,
+        stored as u32,
+        stored as u32 + 1,
+        u32::MAX,
+    ])
+}
+
+/// All calls on an accepted file, and on files damaged from it.
+fn file_cases(sides: &mut Sides, sketch: &Sketch, file: &[u8]) {
+    let checked = sides.check(file);
+    let Ok(says) = &checked else {
+        panic!("a made file is refused: {file:?}");
+    };
+    let large = sketch.cells() > 60_000;
+    for _ in 0..12 {
+        let position = any_position(sides, says);
+        let rank = any_rank(sides, says);
+        sides.opened(file, says, position, rank);
+        if sides.random.once_in(3) {
+            sides.cell(file, &checked, position);
+            sides.rank(file, &checked, position);
+            sides.position(file, &checked, rank);
+        }
+    }
+    sides.expand(file, &checked);
+    for _ in 0..3 {
+        read_parts(sides, sketch, file, &checked, says);
+    }
+    for _ in 0..if large { 2 } else { 4 } {
+        write_and_change(sides, sketch, file, says);
+    }
+    two_files(sides, sketch, file, says);
+    for _ in 0..if large { 3 } else { 10 } {
+        damaged(sides, sketch, file, says);
+    }
+}
+
+/// A box and a range of ranks.
+fn read_parts(
+    sides: &mut Sides,
+    sketch: &Sketch,
+    file: &[u8],
+    checked: &Result<Parsed, u32>,
+    says: &Parsed,
+) {
+    let mut low = corner(sides, &sketch.extents);
+    let mut high = corner(sides, &sketch.extents);
+    if !sides.random.once_in(5) {
+        for (low, high) in low.iter_mut().zip(high.iter_mut()) {
+            if low > high {
+                std::mem::swap(low, high);
+            }
+        }
+    }
+    sides.box_words(file, checked, &low, &high);
+    let (mut from, mut to) = (any_rank(sides, says), any_rank(sides, says));
+    if from > to && !sides.random.once_in(4) {
+        std::mem::swap(&mut from, &mut to);
+    }
+    sides.ranks(file, checked, from, to);
+}
+
+/// A write and a change, each sometimes wrong.
+fn write_and_change(sides: &mut Sides, sketch: &Sketch, file: &[u8], says: &Parsed) {
+    let position = any_position(sides, says);
+    let random = &mut sides.random;
+    let there = sketch
+        .words
+        .get(position as usize)
+        .copied()
+        .unwrap_or(sketch.empty);
+    let other = crate::textures::any_word(sketch.empty, random);
+    let word = random.one_of(&[there, sketch.empty, other, other]);
+    sides.write(file, position, word);
+    let wrong = sides.random.once_in(4);
+    let setting = if wrong {
+        settings::wrong(&mut sides.random)
+    } else {
+        settings::any(&mut sides.random)
+    };
+    sides.change(file, setting);
+}
+
+/// The shorter of two files: of one picture, or of pictures that differ in one thing.
+fn two_files(sides: &mut Sides, sketch: &Sketch, file: &[u8], says: &Parsed) {
+    let mut other = sketch.clone();
+    let random = &mut sides.random;
+    let setting = settings::any(random);
+    match random.below(6) {
+        0 => {
+            let at = random.below(other.words.len());
+            other.words[at] = crate::textures::any_word(sketch.empty, random);
+        }
+        1 => (other.dimensions, other.extents) = any_extents(sketch.cells(), random),
+        2 => other.empty = crate::textures::any_empty(random),
+        3 => {
+            let at = random.below(other.words.len());
+            other.words.swap(0, at);
+        }
+        _ => {}
+    }
+    let wanted = settings::reader(setting);
+    let second = reader::make(
+        wanted,
+        other.dimensions,
+        &other.extents,
+        other.empty,
+        &other.words,
+        usize::MAX,
+    );
+    let second = second.unwrap_or_else(|_| file.to_vec());
+    sides.shorter(file, &second);
+    sides.shorter(&second, file);
+    let (_, bad) = forge::any(file, says, &mut sides.random);
+    let (_, worse) = forge::any(file, says, &mut sides.random);
+    sides.shorter(file, &bad);
+    sides.shorter(&bad, &worse);
+}
+
+/// A damaged or forged file: the check, two other calls, and the lookups of an opening that nobody checked.
+fn damaged(sides: &mut Sides, sketch: &Sketch, file: &[u8], says: &Parsed) {
+    let (place, mut bad) = forge::any(file, says, &mut sides.random);
+    sides.tally.damaged(&place);
+    if sides.random.once_in(10) && !bad.is_empty() {
+        let at = sides.random.below(bad.len());
+        bad[at] = sides.random.word() as u8;
+    }
+    let checked = sides.check(&bad);
+    let (position, rank) = (any_position(sides, says), any_rank(sides, says));
+    if checked.is_err() {
+        sides.opened_over_any(&bad, position, rank);
+    }
+    for _ in 0..2 {
+        match sides.random.below(8) {
+            0 => sides.expand(&bad, &checked),
+            1 => sides.cell(&bad, &checked, position),
+            2 => sides.rank(&bad, &checked, position),
+            3 => sides.position(&bad, &checked, rank),
+            4 => {
+                sides.write(&bad, position, rank);
+            }
+            5 => {
+                let setting = settings::wrong(&mut sides.random);
+                sides.change(&bad, setting);
+            }
+            6 => {
+                let (low, high) = (
+                    corner(sides, &sketch.extents),
+                    corner(sides, &sketch.extents),
+                );
+                sides.box_words(&bad, &checked, &low, &high);
+            }
+            _ => sides.ranks(&bad, &checked, 0, rank),
+        }
+    }
+}

@@ -1,0 +1,68 @@
+//! Settings.
+
+use crate::random::Random;
+
+/// Kind, width and step.
+pub type Setting = [u32; 3];
+
+/// All 577 settings that are allowed.
+pub fn all() -> Vec<Setting> {
+    let mut all = vec![[1, 0, 0], [2, 0, 0], [4, 1, 0], [4, 2, 0]];
+    for width in 1..=2 {
+        all.extend((1..=255).map(|step| [3, width, step]));
+    }
+    all.extend((2..=64).map(|step| [5, 0, step]));
+    all
+}
+
+/// An allowed setting, each kind as often as another.
+pub fn any(random: &mut Random) -> Setting {
+    let width = random.within(1, 2) as u32;
+    match random.below(5) {
+        0 => [1, 0, 0],
+        1 => [2, 0, 0],
+        2 if random.once_in(2) => [3, width, random.within(1, 4) as u32],
+        2 => [3, width, random.within(1, 255) as u32],
+        3 => [4, width, 0],
+        _ if random.once_in(2) => [5, 0, random.within(2, 4) as u32],
+        _ => [5, 0, random.within(2, 64) as u32],
+    }
+}
+
+/// Three numbers that are mostly no setting.
+pub fn wrong(random: &mut Random) -> Setting {
+    let mut setting = any(random);
+    let at = random.below(3);
+    let word = random.word();
+    setting[at] = random.one_of(&[
+        0,
+        1,
+        2,
+        3,
+        6,
+        7,
+        64,
+        65,
+        255,
+        256,
+        257,
+        258,
+        259,
+        260,
+        261,
+        1 << 31,
+        u32::MAX,
+        word,
+    ]);
+    setting
+}
+
+/// The setting as the engine's crate takes it.
+pub fn engine(setting: Setting) -> radar_archive::Setting {
+    radar_archive::Setting::of(setting[0], setting[1], setting[2])
+}
+
+/// The setting as the reader takes it.
+pub fn reader(setting: Setting) -> reader::Setting {
+    reader::Setting::new(setting[0], setting[1], setting[2])
+}

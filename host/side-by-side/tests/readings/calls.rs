@@ -1,0 +1,130 @@
+//! Calls.
+
+use radar_archive::{calls, Refusal};
+use side_by_side::sides::Sides;
+
+use crate::common::*;
+use crate::{POSITIONS, RUNS, WORDS};
+
+#[test]
+fn e_among_the_stored_words_is_6_and_a_stored_0_is_not() {
+    for numbers in SAMPLE_SETTINGS {
+        let file = sample(numbers);
+        let words_at = field(&file, 44) as usize;
+        for (rank, word) in WORDS.into_iter().enumerate() {
+            assert_eq!(checked(&with_field(&file, words_at + 4 * rank, 0)), 6);
+            assert_eq!(checked(&with_field(&file, 20, word)), 6);
+        }
+        let mut sides = Sides::new(1);
+        let words = [9, 0, 9, 9, 0, 7, 0, 0, 9, 9, 9, 0];
+        let file = sides.make(numbers, 1, &[12, 1, 1, 1], 9, &words).unwrap();
+        reads_as(&file, &words, 9);
+        // A written E is no stored word.
+        let emptied = sides.write(&file, 5, 9).unwrap();
+        assert_eq!(field(&emptied, 24), 5);
+    }
+}
+
+#[test]
+fn make_says_7_for_too_few_and_too_many_words() {
+    let extents = [300, 1, 1, 1];
+    let unfit = stored_at(300, &[2, 258]);
+    for numbers in [RUNS, POSITIONS, [3, 1, 2], [4, 1, 0], [5, 0, 2]] {
+        for words in [&unfit[..299], &[&unfit[..], &[0]].concat(), &[]] {
+            let made = calls::make(setting(numbers), 1, &extents, 0, words, &mut []);
+            assert_eq!(made, Err(Refusal::Picture));
+        }
+    }
+    let made = calls::make(setting([3, 1, 2]), 1, &extents, 0, &unfit, &mut []);
+    assert_eq!(made, Err(Refusal::Unfit));
+}
+
+#[test]
+fn the_second_files_number_comes_only_if_the_first_has_none() {
+    let file = sample(RUNS);
+    let bad = [
+        file[..51].to_vec(),
+        with_byte(&file, 0, 6),
+        with_byte(&file, 3, 1),
+        with_field(&file, 4, 0),
+        with_field(&file, 48, 91),
+        with_field(&file, 52, 4),
+    ];
+    let mut sides = Sides::new(1);
+    for (one, first) in (1..).zip(&bad) {
+        assert_eq!(number(calls::shorter(first, &file)), one);
+        assert_eq!(number(calls::shorter(&file, first)), one);
+        for second in &bad {
+            assert_eq!(number(calls::shorter(first, second)), one);
+            sides.shorter(first, second);
+        }
+    }
+}
+
+#[test]
+fn shorter_hands_back_the_first_on_equal_length() {
+    let same = |one: &[u8], two: &[u8]| std::ptr::eq(one, two);
+    let (one, two) = (sample([5, 0, 3]), sample([5, 0, 4]));
+    assert_eq!(one.len(), two.len());
+    assert!(same(calls::shorter(&one, &two).unwrap(), &one));
+    assert!(same(calls::shorter(&two, &one).unwrap(), &two));
+    let copy = one.clone();
+    assert!(same(calls::shorter(&copy, &one).unwrap(), &copy));
+    let jumps = sample([4, 1, 0]);
+    assert!(same(calls::shorter(&one, &jumps).unwrap(), &jumps));
+    assert!(same(calls::shorter(&jumps, &one).unwrap(), &jumps));
+}
+
+#[test]
+fn change_gives_the_files_number_before_the_settings() {
+    let file = sample(RUNS);
+    let mut room = [0; 200];
+    for wrong in [
+        [0, 0, 0],
+        [6, 0, 0],
+        [257, 0, 0],
+        [3, 0, 1],
+        [3, 257, 1],
+        [5, 0, 258],
+    ] {
+        let own = if (1..=5).contains(&wrong[0]) { 3 } else { 2 };
+        assert_eq!(number(calls::change(&file, setting(wrong), &mut room)), own);
+        assert_eq!(
+            number(calls::change(&file[..51], setting(wrong), &mut room)),
+            1
+        );
+        assert_eq!(
+            number(calls::change(
+                &with_byte(&file, 0, 9),
+                setting(wrong),
+                &mut room
+            )),
+            2
+        );
+        assert_eq!(
+            number(calls::change(
+                &with_field(&file, 4, 0),
+                setting(wrong),
+                &mut room
+            )),
+            4
+        );
+        assert_eq!(
+            number(calls::change(
+                &with_field(&file, 48, 0),
+                setting(wrong),
+                &mut room
+            )),
+            5
+        );
+        assert_eq!(
+            number(calls::change(
+                &with_field(&file, 52, 4),
+                setting(wrong),
+                &mut room
+            )),
+            6
+        );
+    }
+    assert_eq!(room, [0; 200]);
+}
