@@ -76,6 +76,22 @@ impl Parts {
         file
     }
 
+    /// Makes the counts agree that the layout fixes by N or by level 0.
+    fn match_counts(&mut self, setting: &reader::Setting) {
+        let (stored, step) = (self.words.len(), setting.step as usize);
+        let (_, second_size) = sizes(setting.kind, setting.width);
+        match setting.kind {
+            2 => self.first.resize(stored, vec![0; 4]),
+            3 => {
+                self.first.resize(stored.div_ceil(step), vec![0; 4]);
+                self.second.resize(stored, vec![0; second_size]);
+            }
+            4 => self.second.resize(stored, vec![1; second_size]),
+            5 => self.match_levels(step),
+            _ => {}
+        }
+    }
+
     /// Makes the number of upper entries the one that level 0 gives.
     fn match_levels(&mut self, step: usize) {
         let mut level = self.second.len();
@@ -127,12 +143,8 @@ fn remove(entries: &mut Vec<Vec<u8>>, random: &mut Random) {
 /// A file with more or fewer entries or words, whose counts, offsets and length agree with each other.
 pub fn any(file: &[u8], says: &Parsed, random: &mut Random) -> Forged {
     let mut parts = Parts::of(file, says);
-    let (kind, width, step) = (
-        says.setting.kind,
-        says.setting.width,
-        says.setting.step as usize,
-    );
-    let (first_size, second_size) = sizes(kind, width);
+    let kind = says.setting.kind;
+    let (first_size, second_size) = sizes(kind, says.setting.width);
     let choice = random.below(AGREEING.len());
     match choice {
         0 => add(&mut parts.first, first_size, random),
@@ -157,18 +169,7 @@ pub fn any(file: &[u8], says: &Parsed, random: &mut Random) -> Forged {
     }
     // Where the layout fixes a count, mostly let it agree too, so that the parts are looked at.
     if !random.once_in(4) {
-        match kind {
-            2 => parts.first.resize(parts.words.len(), vec![0; 4]),
-            3 => {
-                parts
-                    .first
-                    .resize(parts.words.len().div_ceil(step), vec![0; 4]);
-                parts.second.resize(parts.words.len(), vec![0; second_size]);
-            }
-            4 => parts.second.resize(parts.words.len(), vec![1; second_size]),
-            5 => parts.match_levels(step),
-            _ => {}
-        }
+        parts.match_counts(&says.setting);
     }
     (
         format!("agreeing counts: {}", AGREEING[choice]),

@@ -2,6 +2,7 @@
 
 use reader::Parsed;
 
+use crate::arguments::{any_position, any_rank, corner, wrong_extents};
 use crate::forge;
 use crate::settings::{self, Setting};
 use crate::sides::Sides;
@@ -17,9 +18,12 @@ pub fn picture(sides: &mut Sides, index: usize, all: &[Setting]) {
     } else {
         name
     };
-    let sketch = Sketch::of(name, &mut sides.random);
     sides.tally.texture(name);
-    let mut chosen: Vec<Setting> = (1..=5).map(|kind| of_kind(kind, sides)).collect();
+    let random = &mut sides.random;
+    let sketch = Sketch::of(name, random);
+    let mut chosen: Vec<Setting> = (1..=5)
+        .map(|kind| settings::any_of_kind(kind, random))
+        .collect();
     chosen.push(all[index % all.len()]);
     for setting in chosen {
         let made = sides.make(
@@ -37,16 +41,6 @@ pub fn picture(sides: &mut Sides, index: usize, all: &[Setting]) {
     coordinates(sides, &sketch);
 }
 
-/// A setting of a kind.
-fn of_kind(kind: u32, sides: &mut Sides) -> Setting {
-    loop {
-        let setting = settings::any(&mut sides.random);
-        if setting[0] == kind {
-            return setting;
-        }
-    }
-}
-
 /// Make with one argument wrong, or several.
 fn wrong_make(sides: &mut Sides, sketch: &Sketch) {
     for _ in 0..4 {
@@ -58,9 +52,8 @@ fn wrong_make(sides: &mut Sides, sketch: &Sketch) {
             setting = settings::wrong(random);
         }
         if random.once_in(3) {
-            (dimensions, extents) = wrong_extents(sides, sketch);
+            (dimensions, extents) = wrong_extents(sketch, random);
         }
-        let random = &mut sides.random;
         match random.below(5) {
             0 => words.push(sketch.empty),
             1 => {
@@ -73,41 +66,11 @@ fn wrong_make(sides: &mut Sides, sketch: &Sketch) {
     }
 }
 
-/// Dimensions of which something is mostly wrong.
-fn wrong_extents(sides: &mut Sides, sketch: &Sketch) -> (u32, Vec<u32>) {
-    let random = &mut sides.random;
-    let mut dimensions = sketch.dimensions;
-    let mut extents = sketch.extents.to_vec();
-    let word = random.word();
-    match random.below(6) {
-        0 => dimensions = random.one_of(&[0, 5, 257, 260, u32::MAX, dimensions - 1]),
-        1 => {
-            extents.pop();
-        }
-        2 => extents.push(1),
-        3 => {
-            extents = random
-                .one_of(&[
-                    [65_536; 4],
-                    [1 << 31, 2, 1, 1],
-                    [1 << 24, 1, 1, 2],
-                    [65_536, 65_536, 0, 1],
-                ])
-                .to_vec()
-        }
-        _ => {
-            let at = random.below(4);
-            extents[at] = random.one_of(&[0, 2, 16_777_216, 16_777_217, 1 << 31, u32::MAX, word]);
-        }
-    }
-    (dimensions, extents)
-}
-
 /// Coordinates both ways, with right and wrong arguments.
 fn coordinates(sides: &mut Sides, sketch: &Sketch) {
     for _ in 0..4 {
         let (dimensions, extents) = match sides.random.below(3) {
-            0 => wrong_extents(sides, sketch),
+            0 => wrong_extents(sketch, &mut sides.random),
             1 => {
                 let cells = sides.random.one_of(&[1, 2, 60_060, 16_777_216, 16_777_215]);
                 let (dimensions, extents) = any_extents(cells, &mut sides.random);
@@ -115,7 +78,7 @@ fn coordinates(sides: &mut Sides, sketch: &Sketch) {
             }
             _ => (sketch.dimensions, sketch.extents.to_vec()),
         };
-        let at = corner(sides, &extents);
+        let at = corner(&extents, &mut sides.random);
         sides.coordinates_position(dimensions, &extents, &at);
         let cells = extents
             .iter()
@@ -128,69 +91,6 @@ fn coordinates(sides: &mut Sides, sketch: &Sketch) {
     }
 }
 
-/// Coordinates mostly inside some extents.
-fn corner(sides: &mut Sides, extents: &[u32]) -> Vec<u32> {
-    let random = &mut sides.random;
-    let mut at: Vec<u32> = extents
-        .iter()
-        .map(|&extent| random.below(extent.max(1) as usize) as u32)
-        .collect();
-    match random.below(12) {
-        0 => {
-            let index = random.below(at.len().max(1));
-            let word = random.word();
-            if let Some(number) = at.get_mut(index) {
-                *number = random.one_of(&[
-                    extents[index],
-                    extents[index].wrapping_add(1),
-                    u32::MAX,
-                    word,
-                ]);
-            }
-        }
-        1 => {
-            at.pop();
-        }
-        2 => at.push(0),
-        _ => {}
-    }
-    at
-}
-
-/// A position: of a stored cell, beside one, anywhere, or outside.
-fn any_position(sides: &mut Sides, says: &Parsed) -> u32 {
-    let cells = says.cells() as u32;
-    let random = &mut sides.random;
-    let at = random.below(cells as usize) as u32;
-    if random.once_in(8) {
-        let word = random.word();
-        return random.one_of(&[cells, cells + 1, u32::MAX, word, 1 << 24]);
-    }
-    if says.stored() == 0 || random.once_in(3) {
-        return random.one_of(&[at, 0, cells - 1]);
-    }
-    let stored = says.positions[random.below(says.stored())];
-    random.one_of(&[stored, stored + 1, stored.saturating_sub(1)])
-}
-
-/// A rank, mostly below N.
-fn any_rank(sides: &mut Sides, says: &Parsed) -> u32 {
-    let stored = says.stored();
-    let random = &mut sides.random;
-    let rank = random.below(stored + 1) as u32;
-    let last = (stored as u32).saturating_sub(1);
-    random.one_of(&[
-        rank,
-        rank,
-        rank,
-        0,
-        last,
-        stored as u32,
-        stored as u32 + 1,
-        u32::MAX,
-    ])
-}
-
 /// All calls on an accepted file, and on files damaged from it.
 fn file_cases(sides: &mut Sides, sketch: &Sketch, file: &[u8]) {
     let checked = sides.check(file);
@@ -199,8 +99,8 @@ fn file_cases(sides: &mut Sides, sketch: &Sketch, file: &[u8]) {
     };
     let large = sketch.cells() > 60_000;
     for _ in 0..12 {
-        let position = any_position(sides, says);
-        let rank = any_rank(sides, says);
+        let random = &mut sides.random;
+        let (position, rank) = (any_position(says, random), any_rank(says, random));
         sides.opened(file, says, position, rank);
         if sides.random.once_in(3) {
             sides.cell(file, &checked, position);
@@ -229,9 +129,10 @@ fn read_parts(
     checked: &Result<Parsed, u32>,
     says: &Parsed,
 ) {
-    let mut low = corner(sides, &sketch.extents);
-    let mut high = corner(sides, &sketch.extents);
-    if !sides.random.once_in(5) {
+    let random = &mut sides.random;
+    let mut low = corner(&sketch.extents, random);
+    let mut high = corner(&sketch.extents, random);
+    if !random.once_in(5) {
         for (low, high) in low.iter_mut().zip(high.iter_mut()) {
             if low > high {
                 std::mem::swap(low, high);
@@ -239,8 +140,9 @@ fn read_parts(
         }
     }
     sides.box_words(file, checked, &low, &high);
-    let (mut from, mut to) = (any_rank(sides, says), any_rank(sides, says));
-    if from > to && !sides.random.once_in(4) {
+    let random = &mut sides.random;
+    let (mut from, mut to) = (any_rank(says, random), any_rank(says, random));
+    if from > to && !random.once_in(4) {
         std::mem::swap(&mut from, &mut to);
     }
     sides.ranks(file, checked, from, to);
@@ -248,8 +150,8 @@ fn read_parts(
 
 /// A write and a change, each sometimes wrong.
 fn write_and_change(sides: &mut Sides, sketch: &Sketch, file: &[u8], says: &Parsed) {
-    let position = any_position(sides, says);
     let random = &mut sides.random;
+    let position = any_position(says, random);
     let there = sketch
         .words
         .get(position as usize)
@@ -312,31 +214,42 @@ fn damaged(sides: &mut Sides, sketch: &Sketch, file: &[u8], says: &Parsed) {
         bad[at] = sides.random.word() as u8;
     }
     let checked = sides.check(&bad);
-    let (position, rank) = (any_position(sides, says), any_rank(sides, says));
+    let random = &mut sides.random;
+    let (position, rank) = (any_position(says, random), any_rank(says, random));
     if checked.is_err() {
         sides.opened_over_any(&bad, position, rank);
     }
     for _ in 0..2 {
-        match sides.random.below(8) {
-            0 => sides.expand(&bad, &checked),
-            1 => sides.cell(&bad, &checked, position),
-            2 => sides.rank(&bad, &checked, position),
-            3 => sides.position(&bad, &checked, rank),
-            4 => {
-                sides.write(&bad, position, rank);
-            }
-            5 => {
-                let setting = settings::wrong(&mut sides.random);
-                sides.change(&bad, setting);
-            }
-            6 => {
-                let (low, high) = (
-                    corner(sides, &sketch.extents),
-                    corner(sides, &sketch.extents),
-                );
-                sides.box_words(&bad, &checked, &low, &high);
-            }
-            _ => sides.ranks(&bad, &checked, 0, rank),
+        any_call(sides, sketch, &bad, &checked, position, rank);
+    }
+}
+
+/// One of the calls on a file, with arguments that may be wrong.
+fn any_call(
+    sides: &mut Sides,
+    sketch: &Sketch,
+    file: &[u8],
+    checked: &Result<Parsed, u32>,
+    position: u32,
+    rank: u32,
+) {
+    match sides.random.below(8) {
+        0 => sides.expand(file, checked),
+        1 => sides.cell(file, checked, position),
+        2 => sides.rank(file, checked, position),
+        3 => sides.position(file, checked, rank),
+        4 => {
+            sides.write(file, position, rank);
         }
+        5 => {
+            let setting = settings::wrong(&mut sides.random);
+            sides.change(file, setting);
+        }
+        6 => {
+            let (random, extents) = (&mut sides.random, &sketch.extents);
+            let (low, high) = (corner(extents, random), corner(extents, random));
+            sides.box_words(file, checked, &low, &high);
+        }
+        _ => sides.ranks(file, checked, 0, rank),
     }
 }

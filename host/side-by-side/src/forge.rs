@@ -195,6 +195,24 @@ fn part_byte(file: &[u8], says: &Parsed, random: &mut Random) -> Forged {
     )
 }
 
+/// A number beside one that stands there or beside another, or far from both.
+fn any_number(before: u32, another: u32, cells: u32, random: &mut Random) -> u32 {
+    let word = random.word();
+    random.one_of(&[
+        0,
+        before.wrapping_add(1),
+        before.wrapping_sub(1),
+        another,
+        another.wrapping_add(1),
+        another.wrapping_sub(1),
+        cells,
+        cells - 1,
+        u32::MAX,
+        u32::MAX - 1,
+        word,
+    ])
+}
+
 /// One number of a part, or two.
 fn part_number(file: &[u8], says: &Parsed, random: &mut Random) -> Forged {
     let Some((start, end, size, name)) = any_part(file, says, random) else {
@@ -212,20 +230,7 @@ fn part_number(file: &[u8], says: &Parsed, random: &mut Random) -> Forged {
     let index = random.below(count);
     let other = random.below(count);
     let (before, another) = (number(&copy, index), number(&copy, other));
-    let word = random.word();
-    let value = random.one_of(&[
-        0,
-        before.wrapping_add(1),
-        before.wrapping_sub(1),
-        another,
-        another.wrapping_add(1),
-        another.wrapping_sub(1),
-        says.cells() as u32,
-        says.cells() as u32 - 1,
-        u32::MAX,
-        u32::MAX - 1,
-        word,
-    ]);
+    let value = any_number(before, another, says.cells() as u32, random);
     let mut put = |index: usize, value: u32| {
         let at = start + size * index;
         copy[at..at + size].copy_from_slice(&value.to_le_bytes()[..size]);

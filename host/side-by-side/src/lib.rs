@@ -6,6 +6,7 @@
 #![forbid(unsafe_code)]
 
 pub mod agreeing;
+pub mod arguments;
 pub mod cases;
 pub mod forge;
 pub mod lists;

@@ -29,6 +29,16 @@ pub fn any(random: &mut Random) -> Setting {
     }
 }
 
+/// Any allowed setting of a kind.
+pub fn any_of_kind(kind: u32, random: &mut Random) -> Setting {
+    loop {
+        let setting = any(random);
+        if setting[0] == kind {
+            return setting;
+        }
+    }
+}
+
 /// Three numbers that are mostly no setting.
 pub fn wrong(random: &mut Random) -> Setting {
     let mut setting = any(random);

@@ -145,6 +145,30 @@ impl Tally {
 
     /// The counts as text.
     pub fn text(&self) -> String {
+        let mut text = self.table();
+        // Writing to a string can't fail.
+        let _ = writeln!(
+            text,
+            "settings made: {} of {}",
+            self.settings.len(),
+            settings::all().len()
+        );
+        let pictures: u64 = self.textures.values().sum();
+        let _ = writeln!(text, "pictures: {pictures}; textures: {:?}", self.textures);
+        let files: u64 = self.damage.values().sum();
+        let least = self.damage.values().min().copied().unwrap_or(0);
+        let places = self.damage.len();
+        let _ = writeln!(
+            text,
+            "damaged and forged files: {files} at {places} places, each at least {least} times"
+        );
+        let _ = writeln!(text, "lists: {}, steps: {}", self.lists, self.steps);
+        let _ = writeln!(text, "cases: {}", self.cases());
+        text
+    }
+
+    /// How often each call gave each number, and all calls together.
+    fn table(&self) -> String {
         let mut text = String::new();
         // Writing to a string can't fail.
         let _ = write!(text, "{:22}", "call");
@@ -171,23 +195,6 @@ impl Tally {
             let _ = write!(text, "{:>9}", self.number(number));
         }
         text.push('\n');
-        let _ = writeln!(
-            text,
-            "settings made: {} of {}",
-            self.settings.len(),
-            settings::all().len()
-        );
-        let pictures: u64 = self.textures.values().sum();
-        let _ = writeln!(text, "pictures: {pictures}; textures: {:?}", self.textures);
-        let files: u64 = self.damage.values().sum();
-        let least = self.damage.values().min().copied().unwrap_or(0);
-        let places = self.damage.len();
-        let _ = writeln!(
-            text,
-            "damaged and forged files: {files} at {places} places, each at least {least} times"
-        );
-        let _ = writeln!(text, "lists: {}, steps: {}", self.lists, self.steps);
-        let _ = writeln!(text, "cases: {}", self.cases());
         text
     }
 }

@@ -94,49 +94,44 @@ fn stored(name: &str, random: &mut Random) -> Vec<bool> {
             shape[random.one_of(&[0, at, cells - 1])] = true;
         }
         "edges" => {
-            let (start, end) = (
-                random.below(cells.min(4) + 1),
-                random.below(cells.min(4) + 1),
-            );
+            let most = cells.min(4);
+            let (start, end) = (random.below(most + 1), random.below(most + 1));
             shape[..start].fill(true);
             shape[cells - end..].fill(true);
         }
         "every other cell" => {
-            let start = random.below(2);
-            shape
-                .iter_mut()
-                .skip(start)
-                .step_by(2)
-                .for_each(|cell| *cell = true);
+            for at in (random.below(2)..cells).step_by(2) {
+                shape[at] = true;
+            }
         }
         "scattered" => {
             let once = random.one_of(&[2, 4, 10, 50]);
-            shape
-                .iter_mut()
-                .for_each(|cell| *cell = random.once_in(once));
+            shape.fill_with(|| random.once_in(once));
         }
-        "runs" => {
-            let longest = random.one_of(&[2, 3, 10, 300]);
-            shape.clear();
-            for _ in 0..random.within(1, 70) {
-                let (empties, cells) = (random.within(0, longest), random.within(1, longest));
-                shape.resize(shape.len() + empties, false);
-                shape.resize(shape.len() + cells, true);
-            }
-            let trailing = random.within(0, 3);
-            shape.resize(shape.len() + trailing, false);
-        }
+        "runs" => return runs(random),
         "gaps of 254 to 257" => {
-            shape = gaps(&[254, 255, 256, 257, 1, 2], random.within(1, 12), random)
+            let count = random.within(1, 12);
+            return gaps(&[254, 255, 256, 257, 1, 2], count, random);
         }
         _ => {
-            shape = gaps(
-                &[65_534, 65_535, 65_536, 65_537, 1],
-                random.within(1, 4),
-                random,
-            )
+            let count = random.within(1, 4);
+            return gaps(&[65_534, 65_535, 65_536, 65_537, 1], count, random);
         }
     }
+    shape
+}
+
+/// Runs of stored cells, each after some empty cells or none.
+fn runs(random: &mut Random) -> Vec<bool> {
+    let longest = random.one_of(&[2, 3, 10, 300]);
+    let mut shape = Vec::new();
+    for _ in 0..random.within(1, 70) {
+        let (empties, cells) = (random.within(0, longest), random.within(1, longest));
+        shape.resize(shape.len() + empties, false);
+        shape.resize(shape.len() + cells, true);
+    }
+    let trailing = random.within(0, 3);
+    shape.resize(shape.len() + trailing, false);
     shape
 }
 

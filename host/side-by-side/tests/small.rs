@@ -1,9 +1,9 @@
-//! All small pictures, all small faults, and the largest pictures.
+//! All small pictures and all small faults.
 
 mod common;
 
 use common::*;
-use radar_archive::{calls, Position, Rank};
+use radar_archive::calls;
 use side_by_side::settings;
 use side_by_side::sides::{parsed, Sides};
 
@@ -98,6 +98,18 @@ fn all_lookups_boxes_writes_and_changes_of_pictures_of_up_to_4_cells_agree() {
     println!("{} cases", sides.tally.cases());
 }
 
+/// The coordinates of a position; the first is too large if the position lies outside.
+fn coordinates(extents: [u32; 4], position: u32) -> [u32; 4] {
+    let mut rest = position;
+    let mut at = [0; 4];
+    for index in (1..4).rev() {
+        at[index] = rest % extents[index];
+        rest /= extents[index];
+    }
+    at[0] = rest;
+    at
+}
+
 /// Every call on a small file, with every argument that lies inside and the next ones that don't.
 fn every_call(sides: &mut Sides, file: &[u8], dimensions: u32, extents: [u32; 4]) {
     let checked = parsed(file);
@@ -118,16 +130,7 @@ fn every_call(sides: &mut Sides, file: &[u8], dimensions: u32, extents: [u32; 4]
         sides.change(file, setting);
     }
     let corners: Vec<[u32; 4]> = (0..=cells)
-        .map(|position| {
-            let mut rest = position;
-            let mut at = [0; 4];
-            for index in (1..4).rev() {
-                at[index] = rest % extents[index];
-                rest /= extents[index];
-            }
-            at[0] = rest;
-            at
-        })
+        .map(|position| coordinates(extents, position))
         .collect();
     for low in &corners {
         sides.coordinates_position(dimensions, &extents, low);
@@ -221,87 +224,4 @@ fn the_sample_files_are_the_papers() {
         fours(&[6, 3, 11, 7, 4, 2, 6, 3, 5, 4])
     );
     assert_eq!(line([1, 0, 0], &[7; 12]).unwrap()[52..60], fours(&[11, 0]));
-}
-
-#[test]
-fn the_largest_pictures_agree() {
-    let cells = 16_777_216;
-    let mut sides = Sides::new(6);
-    let stored = [
-        0, 1, 255, 256, 511, 65_791, 131_327, 131_328, 8_000_000, 16_777_214, 16_777_215,
-    ];
-    let words = stored_at(cells, &stored);
-    for setting in [
-        [1, 0, 0],
-        [2, 0, 0],
-        [3, 2, 1],
-        [4, 1, 0],
-        [4, 2, 0],
-        [5, 0, 2],
-    ] {
-        let file = reader::make(
-            settings::reader(setting),
-            1,
-            &[cells as u32, 1, 1, 1],
-            0,
-            &words,
-            usize::MAX,
-        )
-        .unwrap();
-        let mut made = vec![9; file.len()];
-        let answer = calls::make(
-            settings::engine(setting),
-            1,
-            &[cells as u32, 1, 1, 1],
-            0,
-            &words,
-            &mut made,
-        );
-        assert_eq!(answer, Ok(file.len()));
-        assert_eq!(made, file);
-        let checked = sides.check(&file);
-        let says = checked.as_ref().unwrap();
-        for (rank, &position) in stored.iter().enumerate() {
-            for beside in [
-                position as u32,
-                position as u32 + 1,
-                (position as u32).saturating_sub(1),
-            ] {
-                sides.opened(&file, says, beside, rank as u32);
-                sides.cell(&file, &checked, beside);
-                sides.rank(&file, &checked, beside);
-            }
-            assert_eq!(
-                calls::position(&file, Rank(rank as u32)),
-                Ok(Position(position as u32))
-            );
-        }
-        let mut expanded = vec![9; cells];
-        assert_eq!(calls::expand(&file, &mut expanded), Ok(()));
-        assert!(expanded == words);
-    }
-    let full: Vec<u32> = (1..=cells as u32).collect();
-    for setting in [[1, 0, 0], [3, 1, 255], [4, 1, 0], [5, 0, 64]] {
-        let file = reader::make(
-            settings::reader(setting),
-            2,
-            &[4_096, 4_096, 1, 1],
-            0,
-            &full,
-            usize::MAX,
-        )
-        .unwrap();
-        let mut made = vec![9; file.len()];
-        let answer = calls::make(
-            settings::engine(setting),
-            2,
-            &[4_096, 4_096, 1, 1],
-            0,
-            &full,
-            &mut made,
-        );
-        assert_eq!(answer, Ok(file.len()));
-        assert!(made == file);
-        assert_eq!(calls::check(&file), Ok(()));
-    }
 }

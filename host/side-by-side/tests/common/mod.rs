@@ -112,6 +112,15 @@ pub fn number<T>(answer: Result<T, Refusal>) -> u32 {
 
 /// Every lookup of a file, through all calls, against its words.
 pub fn reads_as(file: &[u8], words: &[u32], empty: u32) {
+    let stored = reads_inside(file, words, empty);
+    refuses_outside(file, words.len() as u32, stored);
+    let mut expanded = vec![0; words.len()];
+    assert_eq!(calls::expand(file, &mut expanded), Ok(()));
+    assert_eq!(expanded, words);
+}
+
+/// The lookups of every cell; gives the number of stored ones.
+fn reads_inside(file: &[u8], words: &[u32], empty: u32) -> u32 {
     let mut rank = 0;
     for (at, &word) in (0..).zip(words) {
         let wanted = (word != empty).then_some(Rank(rank));
@@ -134,7 +143,12 @@ pub fn reads_as(file: &[u8], words: &[u32], empty: u32) {
             rank += 1;
         }
     }
-    for beyond in [words.len() as u32, u32::MAX] {
+    rank
+}
+
+/// The lookups past the last cell and past the last rank.
+fn refuses_outside(file: &[u8], cells: u32, stored: u32) {
+    for beyond in [cells, u32::MAX] {
         assert_eq!(calls::cell(file, Position(beyond)), Err(Refusal::Beyond));
         assert_eq!(calls::rank(file, Position(beyond)), Err(Refusal::Beyond));
         assert_eq!(
@@ -146,14 +160,11 @@ pub fn reads_as(file: &[u8], words: &[u32], empty: u32) {
             Err(Refusal::Beyond)
         );
     }
-    for beyond in [rank, u32::MAX] {
+    for beyond in [stored, u32::MAX] {
         assert_eq!(calls::position(file, Rank(beyond)), Err(Refusal::Beyond));
         assert_eq!(
             calls::opened_position(file, Rank(beyond)),
             Err(Refusal::Beyond)
         );
     }
-    let mut expanded = vec![0; words.len()];
-    assert_eq!(calls::expand(file, &mut expanded), Ok(()));
-    assert_eq!(expanded, words);
 }

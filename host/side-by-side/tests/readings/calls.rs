@@ -78,6 +78,13 @@ fn shorter_hands_back_the_first_on_equal_length() {
 #[test]
 fn change_gives_the_files_number_before_the_settings() {
     let file = sample(RUNS);
+    let bad = [
+        (file[..51].to_vec(), 1),
+        (with_byte(&file, 0, 9), 2),
+        (with_field(&file, 4, 0), 4),
+        (with_field(&file, 48, 0), 5),
+        (with_field(&file, 52, 4), 6),
+    ];
     let mut room = [0; 200];
     for wrong in [
         [0, 0, 0],
@@ -89,42 +96,10 @@ fn change_gives_the_files_number_before_the_settings() {
     ] {
         let own = if (1..=5).contains(&wrong[0]) { 3 } else { 2 };
         assert_eq!(number(calls::change(&file, setting(wrong), &mut room)), own);
-        assert_eq!(
-            number(calls::change(&file[..51], setting(wrong), &mut room)),
-            1
-        );
-        assert_eq!(
-            number(calls::change(
-                &with_byte(&file, 0, 9),
-                setting(wrong),
-                &mut room
-            )),
-            2
-        );
-        assert_eq!(
-            number(calls::change(
-                &with_field(&file, 4, 0),
-                setting(wrong),
-                &mut room
-            )),
-            4
-        );
-        assert_eq!(
-            number(calls::change(
-                &with_field(&file, 48, 0),
-                setting(wrong),
-                &mut room
-            )),
-            5
-        );
-        assert_eq!(
-            number(calls::change(
-                &with_field(&file, 52, 4),
-                setting(wrong),
-                &mut room
-            )),
-            6
-        );
+        for (bad, wanted) in &bad {
+            let given = calls::change(bad, setting(wrong), &mut room);
+            assert_eq!(number(given), *wanted);
+        }
     }
     assert_eq!(room, [0; 200]);
 }

@@ -23,16 +23,8 @@ fn only_a_first_run_may_begin_without_empty_cells() {
 
 #[test]
 fn runs_that_no_picture_has_are_6() {
-    assert_eq!(
-        checked(&raw(
-            RUNS,
-            12,
-            pairs(&[[3, 2], [5, 3], [10, 7]]),
-            none(),
-            &WORDS
-        )),
-        0
-    );
+    let listed = |runs: &[[u32; 2]]| checked(&raw(RUNS, 12, pairs(runs), none(), &WORDS));
+    assert_eq!(listed(&[[3, 2], [5, 3], [10, 7]]), 0);
     for runs in [
         &[[3, 2], [5, 5], [10, 7]][..],      // a run without stored cells
         &[[3, 2], [5, 3], [10, 7], [11, 8]], // a pair for the trailing empty cells
@@ -44,12 +36,13 @@ fn runs_that_no_picture_has_are_6() {
         &[[3, 4], [5, 3], [10, 7]],          // more empty cells than cells
         &[],                                 // none
     ] {
-        assert_eq!(
-            checked(&raw(RUNS, 12, pairs(runs), none(), &WORDS)),
-            6,
-            "{runs:?}"
-        );
+        assert_eq!(listed(runs), 6, "{runs:?}");
     }
+    let paged = |level_0: &[[u32; 2]]| {
+        let file = raw([5, 0, 4], 12, none(), pairs(level_0), &WORDS);
+        checked(&file)
+    };
+    assert_eq!(paged(&[[4, 2], [6, 3], [11, 7]]), 0);
     for level_0 in [
         &[[4, 2], [6, 4], [11, 8]][..],
         &[[4, 2], [6, 3], [11, 7], [12, 8]],
@@ -60,22 +53,8 @@ fn runs_that_no_picture_has_are_6() {
         &[[4, 5], [6, 3], [11, 7]],
         &[],
     ] {
-        assert_eq!(
-            checked(&raw([5, 0, 4], 12, none(), pairs(level_0), &WORDS)),
-            6,
-            "{level_0:?}"
-        );
+        assert_eq!(paged(level_0), 6, "{level_0:?}");
     }
-    assert_eq!(
-        checked(&raw(
-            [5, 0, 4],
-            12,
-            none(),
-            pairs(&[[4, 2], [6, 3], [11, 7]]),
-            &WORDS
-        )),
-        0
-    );
 }
 
 #[test]

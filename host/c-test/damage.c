@@ -1,0 +1,78 @@
+/* Every sample file cut anywhere, and with any byte or field changed, against a page without access. */
+#include "files.h"
+#include "harness.h"
+#include "tests.h"
+
+#include <string.h>
+
+/* The calls on bytes that may be refused: one number for all, and lookups without a check that end in range. */
+static void any_bytes(const uint8_t *file, size_t len)
+{
+    static const uint32_t zero[4] = {0};
+    uint32_t number = ra_check(file, len), words[12];
+    uint8_t dst[1];
+    HOLDS(number <= 6);
+    if (number != 0) {
+        EQUAL(ra_cell(file, len, 3), refused(number));
+        EQUAL(ra_rank(file, len, 3), refused(number));
+        EQUAL(ra_position(file, len, 3), refused(number));
+        EQUAL(ra_expand(file, len, words, 12), number);
+        EQUAL(ra_write(file, len, 3, 3, dst, 1), number);
+        EQUAL(ra_change(file, len, 1, 0, 0, dst, 1), number);
+        EQUAL(ra_box(file, len, zero, 4, zero, 4, words, 12), number);
+        EQUAL(ra_ranks(file, len, 0, 0), refused(number));
+        EQUAL(ra_shorter(file, len, file, len), refused(number));
+    }
+    for (uint32_t n = 0; n < 13; n++) {
+        uint64_t cell = ra_opened_cell(file, len, n), rank = ra_opened_rank(file, len, n), at = ra_opened_position(file, len, n);
+        HOLDS(RA_CODE(cell) == 0 || cell == refused(8));
+        HOLDS(rank == refused(8) || RA_CODE(rank) == RA_EMPTY || (RA_CODE(rank) == 0 && RA_VALUE(rank) < field(file, 24)));
+        HOLDS(RA_CODE(at) == 0 || at == refused(8));
+    }
+}
+
+/* A file cut anywhere. */
+static void cut_files(const uint8_t *file, size_t len, enum side side)
+{
+    for (size_t cut = 0; cut < len; cut++) {
+        size_t count = lent_count();
+        const uint8_t *lent = input(file, cut, side);
+        EQUAL(ra_check(lent, cut), cut < 52 ? 1 : 5);
+        any_bytes(lent, cut);
+        release(count);
+    }
+}
+
+/* A file with any byte or field changed. */
+static void changed_files(const uint8_t *file, size_t len, enum side side)
+{
+    static const uint8_t changes[] = {1, 2, 127, 128, 255};
+    static const uint32_t values[] = {0, 1, 53, 255, 65536, 16777216, 0x20000000, 0x40000000, 0x7fffffff, 0x80000000, 0xffffffff};
+    size_t count = lent_count();
+    uint8_t *lent = lend(len, side);
+    for (size_t at = 0; at < len; at++) {
+        for (size_t k = 0; k < sizeof changes; k++) {
+            memcpy(lent, file, len);
+            lent[at] = (uint8_t)(lent[at] + changes[k]);
+            any_bytes(lent, len);
+        }
+        for (size_t k = 0; at % 4 == 0 && k < sizeof values / sizeof *values; k++) {
+            memcpy(lent, file, len);
+            set_field(lent, at, values[k]);
+            any_bytes(lent, len);
+        }
+    }
+    release(count);
+}
+
+void damaged_files(void)
+{
+    for (int i = 0; i < 5; i++) {
+        uint8_t file[200];
+        size_t len = sample(i, file);
+        for (int side = AT_END; side <= AT_START; side++) {
+            cut_files(file, len, (enum side)side);
+            changed_files(file, len, (enum side)side);
+        }
+    }
+}

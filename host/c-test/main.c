@@ -1,0 +1,25 @@
+/*
+ * Tests of include/radar_archive.h from C, over the engine's static library.
+ *
+ * The last line is 'N passed, M failed'; the status is 0 only if nothing failed.
+ */
+#include "harness.h"
+#include "tests.h"
+
+int main(void)
+{
+    sample_files();
+    sample_full();
+    sample_bounds();
+    refusals_of_make();
+    refusals_of_write_and_change();
+    refusals_of_files();
+    nothing_lent();
+    destinations();
+    coordinates();
+    boxes_and_ranks();
+    two_files();
+    writes_and_changes();
+    damaged_files();
+    return report();
+}

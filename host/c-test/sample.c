@@ -1,0 +1,64 @@
+/* The sample and its neighbours, M1 to M12. */
+#include "files.h"
+#include "harness.h"
+#include "tests.h"
+
+/* M1 to M8. */
+void sample_files(void)
+{
+    static const uint32_t first[5][6] = {{3, 2, 5, 3, 10, 7}, {2, 3, 5, 10}, {2, 5}, {2}, {6, 3, 11, 7}};
+    static const size_t first_count[5] = {6, 4, 2, 1, 4};
+    for (int i = 0; i < 5; i++) {
+        uint8_t file[200];
+        size_t len = sample(i, file);
+        for (size_t k = 0; k < first_count[i]; k++)
+            EQUAL(field(file, 52 + 4 * k), first[i][k]);
+        for (int side = AT_END; side <= AT_START; side++) {
+            size_t count = lent_count();
+            const uint8_t *lent = input(file, len, (enum side)side);
+            EQUAL(ra_check(lent, len), 0);
+            reads_as(lent, len, SAMPLE, 12);
+            release(count);
+        }
+    }
+}
+
+/* M10. */
+void sample_full(void)
+{
+    uint8_t file[200];
+    uint32_t full[12];
+    for (uint32_t p = 0; p < 12; p++)
+        full[p] = p + 1;
+    EQUAL(make_line(SETTINGS[0], full, 12, file, 200), 0);
+    EQUAL(field(file, 28), 1);
+    EQUAL(field(file, 52), 11);
+    EQUAL(field(file, 56), 0);
+}
+
+/* M9, M11, M12, and the bounds of step and extent. */
+void sample_bounds(void)
+{
+    uint8_t file[200];
+    uint32_t words[300] = {0};
+    EQUAL(make_line(SETTINGS[0], words, 12, file, 52), 0);
+    EQUAL(field(file, 48), 52);
+    words[2] = 7;
+    words[257] = 8;
+    EQUAL(make_line(SETTINGS[3], words, 300, file, 200), 0);
+    EQUAL(field(file, 28), 1);
+    EQUAL(file[57], 255);
+    words[257] = 0;
+    words[258] = 8;
+    EQUAL(make_line(SETTINGS[3], words, 300, file, 200), 0);
+    EQUAL(field(file, 28), 2);
+    EQUAL(field(file, 56), 258);
+    EQUAL(make_line(SETTINGS[2], words, 300, file, 200), 9);
+    EQUAL(make_line((struct setting){3, 1, 1}, words, 300, file, 200), 0);
+    EQUAL(make_line((struct setting){5, 0, 64}, words, 300, file, 200), 0);
+    EQUAL(make_line((struct setting){5, 0, 65}, words, 300, file, 200), 3);
+    set_field(file, 4, 16777216);
+    EQUAL(ra_check(file, field(file, 48)), 0);
+    set_field(file, 4, 16777217);
+    EQUAL(ra_check(file, field(file, 48)), 4);
+}

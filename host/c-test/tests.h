@@ -1,0 +1,30 @@
+/* The tests, in the order in which main runs them. */
+#ifndef TESTS_H
+#define TESTS_H
+
+/* sample.c */
+void sample_files(void);
+void sample_full(void);
+void sample_bounds(void);
+
+/* refusals.c */
+void refusals_of_make(void);
+void refusals_of_write_and_change(void);
+void refusals_of_files(void);
+void nothing_lent(void);
+
+/* destinations.c */
+void destinations(void);
+
+/* parts.c */
+void coordinates(void);
+void boxes_and_ranks(void);
+void two_files(void);
+
+/* list.c */
+void writes_and_changes(void);
+
+/* damage.c */
+void damaged_files(void);
+
+#endif
