@@ -33,7 +33,8 @@ def picture_by_chance(chance):
     empty = chance.choice((0, 0, 1, 300, TOP, chance.randrange(TOP)))
     words = [empty] * cells
     stretch = chance.choice((1, 3, 10))
-    starts = chance.choices(range(cells), k=chance.choice((0, 1, 3, 20, 60)))
+    few = cells > 65536  # so that differences of positions exceed two bytes
+    starts = chance.choices(range(cells), k=chance.choice((2, 3) if few else (0, 1, 3, 20, 60)))
     if cells <= 300 and chance.random() < 0.1:
         starts = range(cells)
     for start in starts:
