@@ -1,0 +1,48 @@
+"""The page's searches and readings of runs, written out as its sentences say them."""
+from counting import Together
+from layout import levels_of, runs_of
+
+
+def lookups(page):
+    """the page's searches and readings of runs, taken by the word"""
+    def rank_by_runs(runs, p):
+        for j, (L, V) in enumerate(runs):
+            if p <= L:
+                left = runs[j - 1] if j else (-1, 0)
+                return p - V if left[0] + V - left[1] < p else None
+        return None
+
+    def rank_by_levels(levels, b, p):
+        q, u, i = p, 0, 0
+        for level in reversed(levels):
+            page_at = i * b
+            found = [j for j in range(page_at, min(page_at + b, len(level))) if level[j][0] > q]
+            if not found:
+                return None
+            i = found[0]
+            left = level[i - 1] if i > page_at else (0, 0)
+            q, u = q - left[0], u + left[1]
+        e = levels[0][i][1] - left[1]
+        return None if q < e else p - (u + e)
+
+    def read_level0(level, b):
+        positions, last, empties = [], -1, 0
+        for j, (c, e) in enumerate(level):
+            if j % b == 0:
+                start_last, start_empties = last, empties
+            L, V = start_last + c, start_empties + e
+            positions += range(last + (V - empties) + 1, L + 1)
+            last, empties = L, V
+        return positions
+
+    with Together("kind 1") as in_runs, Together("kind 5, search") as in_levels, Together("kind 5, reading") as reading:
+        for mask in range(2048):
+            words = [mask >> p & 1 for p in range(11)]
+            at = [p for p in range(11) if words[p]]
+            ranks = [at.index(p) if words[p] else None for p in range(11)]
+            runs = runs_of(words, 0)
+            in_runs([rank_by_runs(runs, p) for p in range(11)] == ranks, words)
+            for b in (2, 3):
+                levels = levels_of(runs, b)
+                in_levels([rank_by_levels(levels, b, p) for p in range(11)] == ranks, "b", b, words)
+                reading(read_level0(levels[0], b) == at, "b", b, words)
