@@ -15,7 +15,7 @@ import beside_engine
 from body_errors import bodies
 from byte_changes import body_bytes, byte_changes, lengths
 from counting import Tally, failure
-from further_cases import named_cases, speed
+from further_cases import large_pictures, named_cases
 from header_errors import counts, extents, free_counts, kinds_and_settings, order
 from lister_output import lister
 from lookups import lookups
@@ -26,7 +26,7 @@ from small_pictures import all_patterns, small_bodies
 
 SECONDS = 120
 GROUPS = [hexadecimal, sample_files, byte_changes, body_bytes, lengths, kinds_and_settings, extents, counts, free_counts, bodies,
-          order, small_bodies, all_patterns, random_pictures, named_cases, lookups, lister, speed, beside_engine.files]
+          order, small_bodies, all_patterns, random_pictures, named_cases, lookups, lister, large_pictures, beside_engine.files]
 
 
 class OutOfTime(BaseException):
