@@ -28,6 +28,7 @@ use Rattle.encode.specs.Encoder.{begun, firsts, seconds}
 use Rattle.heading.specs.declared.Sizes.{Sizes}
 use Rattle.heading.specs.Counted.{countsIn}
 use Rattle.shape.specs.Shape.{measuredBy, sizesOf}
+use Rattle.shape.proofs.Measures.{as-itself}
 use Rattle.levels.specs.Levels.{LevelZero}
 use Rattle.assemble.specs.Assembled.{outOf, withUpper, Goes}
 use Rattle.assemble.proofs.WholeFile.{out-number, laidOut, Laid, laid-out}
@@ -168,4 +169,4 @@ module _ (s : Setting) (d : Dimensions) (E : ℕ) (ws : List ℕ) (p : pictureNu
   pub goes-by : (room : ℕ) → outOf s e room ≡ 0 → Goes s d E ws e room
   goes-by room o =
       let r = picture-right s d (length ws) p in
-      record { allowed = r .setting; four = r .four; few = r .few; encoder = m; number = o }
+      record { allowed = r .setting; four = r .four; few = r .few; encoder = as-itself e (measuredBy s (stored E ws)) m; number = o }

@@ -28,10 +28,10 @@ use Rattle.encode.specs.Encoder.{begun, firsts, seconds}
 use Rattle.encode.specs.Ready.{Apart}
 use Rattle.heading.specs.declared.Sizes.{Sizes}
 use Rattle.heading.specs.Counted.{countsIn, Fitting}
-use Rattle.shape.specs.Shape.{measuredBy, sizesOf, Small}
+use Rattle.shape.specs.Shape.{measuredBy, SizedAs, sizesOf}
 use Rattle.levels.specs.Levels.{LevelZero}
 use Rattle.assemble.specs.Assembled.{outOf, OutKnown, withUpper, Goes}
-use Rattle.assemble.proofs.WholeFile.{out-known, out-number, Laid}
+use Rattle.assemble.proofs.WholeFile.{out-same, known-same, out-known, out-number, Laid}
 use Rattle.rewrite.specs.declared.Edit.{Edit}
 use Rattle.rewrite.specs.Edit.{edited, overlaid, EditOf}
 use Rattle.archive.specs.Recoded.{wordsAfter, Recodes, Recoded}
@@ -72,16 +72,16 @@ module _ (b : List ℕ) (v : View) (o : ViewOf b v) (x : Edit) (w : ℕ) (r : Re
       let l = length-placed (emptyOf b) 0 (cells (dimensionsOf b)) (edited x (positionsOf b)) (overlaid x w (keptOf b)) in
       omega arith
 
-  module _ (e : Encoder) (m : e ≡ measuredBy s (edited x (positionsOf b))) where
-    by-words : e ≡ measuredBy s (stored (emptyOf b) ws)
-    by-words = m ∙ ap (measuredBy s) (sym (r .positions))
+  module _ (e : Encoder) (m : SizedAs e (measuredBy s (edited x (positionsOf b)))) where
+    by-words : SizedAs e (measuredBy s (stored (emptyOf b) ws))
+    by-words = subst (λ (t : List ℕ). SizedAs e (measuredBy s t)) (sym (r .positions)) m
 
     pub recode-known : OutKnown s e
-    recode-known = subst (OutKnown s) (sym by-words) (out-known s a (dimensionsOf b) four (emptyOf b) ws few)
+    recode-known = known-same s e (measuredBy s (stored (emptyOf b) ws)) by-words (out-known s a (dimensionsOf b) four (emptyOf b) ws few)
 
     pub recode-number : (room n : ℕ) → n ≡ outOf s e room → n ≡ outNumber s (dimensionsOf b) (emptyOf b) ws room
     recode-number room n f =
-        f ∙ ap (λ (t : Encoder). outOf s t room) by-words ∙ out-number s a (dimensionsOf b) four (emptyOf b) ws few room
+        f ∙ out-same s e (measuredBy s (stored (emptyOf b) ws)) by-words room ∙ out-number s a (dimensionsOf b) four (emptyOf b) ws few room
 
     pub recode-goes : (room : ℕ) → outOf s e room ≡ 0 → Goes s (dimensionsOf b) (emptyOf b) ws e room
     recode-goes room f = record { allowed = a; four = four; few = few; encoder = by-words; number = f }

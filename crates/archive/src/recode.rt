@@ -7,7 +7,7 @@ use format::View;
 use header::view::read_dimensions;
 use heading::put_header;
 use rewrite::Edit;
-use rewrite::parts::measure;
+use rewrite::counted::sized;
 use rewrite::parts::put_parts;
 use rewrite::words::put_words;
 use shape::sizes;
@@ -22,7 +22,7 @@ ghost use Rattle.header.specs.Search.{ViewOf};
 ghost use Rattle.assemble.specs.Assembled.{Goes};
 ghost use Rattle.archive.specs.Recoded.{wordsAfter, Recodes, Recoded};
 
-// The file of the edited cells, which e has measured.
+// The file of the edited cells, whose sizes e has.
 fn put_recoded(dst: &mut [u8], file: &[u8], v: View, x: Edit, word: u32, s: Setting, e: Encoder)
     requires { ⌜ ViewOf (now file) v × Recodes (now file) x word
         × Goes s (dimensionsOf (now file)) (emptyOf (now file)) (wordsAfter (now file) x word) e (length (now dst)) ⌝ }
@@ -42,7 +42,7 @@ pub fn recoded(file: &[u8], v: View, x: Edit, word: u32, s: Setting, dst: &mut [
     requires { ⌜ ViewOf (now file) v × Recodes (now file) x word × (settingAllowed s ≡ true) ⌝ }
     ensures { λ r. ⌜ Recoded (now (file .entry)) x word s (now (dst .entry)) r (now (dst .exit)) ⌝ }
 {
-    let e = measure(file, v, x, s);
+    let e = sized(file, v, x, s);
     let number = out_number(s, e, dst.len());
     if number != 0 {
         return number;

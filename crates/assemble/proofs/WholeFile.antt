@@ -28,11 +28,27 @@ use Rattle.encode.proofs.Encoded.{measured}
 use Rattle.heading.specs.declared.Sizes.{Sizes}
 use Rattle.heading.specs.Counted.{countsIn, Fitting}
 use Rattle.heading.proofs.Laws.{length-header}
-use Rattle.shape.specs.Shape.{measuredBy, Small, sizesOf, totalOf}
-use Rattle.shape.proofs.Measures.{Shaped, small, shaped}
+use Rattle.shape.specs.Shape.{measuredBy, SizedAs, Small, sizesOf, totalOf}
+use Rattle.shape.proofs.Measures.{Shaped, small, shaped, sizes-same, small-same}
 use Rattle.levels.specs.Levels.{LevelZero}
 use Rattle.assemble.specs.Assembled.{outOf, OutKnown, withUpper, Goes}
 use Rattle.assemble.proofs.Pieces.{apart, level-ready, assembled}
+
+-- an encoder with the sizes of another fits as it does
+module _ (s : Setting) (e m : Encoder) (z : SizedAs e m) where
+  pub out-same : (room : ℕ) → outOf s e room ≡ outOf s m room
+  unfolding outOf
+  out-same room =
+      ap (λ (t : Bool). refuse UNFIT (not t) (refuse SMALL (ltb room (totalOf (sizesOf s e))) 0)) (z .fits)
+      ∙ ap (λ (x : Sizes). refuse UNFIT (not (m .fits)) (refuse SMALL (ltb room (totalOf x)) 0)) (sizes-same s e m z)
+
+  pub known-same : OutKnown s m → OutKnown s e
+  known-same k =
+      record {
+        allowed = k .allowed;
+        small = λ t. small-same e m z (k .small (sym (z .fits) ∙ t));
+        fitting = λ t. subst Fitting (sym (sizes-same s e m z)) (k .fitting (sym (z .fits) ∙ t));
+      }
 
 -- the destination before kind 5's upper levels: header, the encoder's bytes and the words
 abbrev pub laidOut : Setting → Dimensions → ℕ → List ℕ → Sizes → List ℕ → List ℕ
@@ -180,12 +196,14 @@ pub laid-out : (s : Setting) (d : Dimensions) (E : ℕ) (ws before : List ℕ) (
 laid-out s d E ws before e z g q =
     let a = g .allowed in
     let m = measuredBy s (stored E ws) in
-    let o : outOf s m (length before) ≡ 0 = subst (λ (x : Encoder). outOf s x (length before) ≡ 0) (g .encoder) (g .number) in
+    let o : outOf s m (length before) ≡ 0 = sym (out-same s e m (g .encoder) (length before)) ∙ g .number in
     let r = room s a d (g .four) E ws (g .few) before o in
     let h = out-shape s a d (g .four) E ws (g .few) before o in
-    let base : Laid s d E ws before m (sizesOf s m) =
+    let base : Laid s d E ws before e (sizesOf s m) =
     record {
-      small = small s a (length ws) (stored E ws) (g .few) (rising s a d (g .four) E ws (g .few)) (unfit-false s a d (g .four) E ws (g .few) before o);
+      small =
+          small-same e m (g .encoder)
+          (small s a (length ws) (stored E ws) (g .few) (rising s a d (g .four) E ws (g .few)) (unfit-false s a d (g .four) E ws (g .few) before o));
       fitting = h .fits;
       long = omega arith;
       second-most = let f = h .fits in omega arith;
@@ -195,4 +213,4 @@ laid-out s d E ws before e z g q =
       file = out-file s a d (g .four) E ws (g .few) before o;
     }
     in
-    subst (λ (x : Sizes). Laid s d E ws before e x) (sym q) (subst (λ (x : Encoder). Laid s d E ws before x (sizesOf s x)) (sym (g .encoder)) base)
+    subst (λ (x : Sizes). Laid s d E ws before e x) (sym (q ∙ sizes-same s e m (g .encoder))) base

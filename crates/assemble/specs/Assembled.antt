@@ -17,7 +17,7 @@ use Rattle.stores.specs.Put.{put}
 use Rattle.encode.specs.declared.state.Encoder.{Encoder}
 use Rattle.heading.specs.declared.Sizes.{Sizes}
 use Rattle.heading.specs.Counted.{Fitting}
-use Rattle.shape.specs.Shape.{measuredBy, Small, sizesOf, totalOf}
+use Rattle.shape.specs.Shape.{measuredBy, SizedAs, Small, sizesOf, totalOf}
 use Rattle.levels.specs.Levels.{levelIn}
 
 -- 9 and 10, of what the encoder has measured
@@ -35,10 +35,10 @@ unfoldable pub withUpper : Setting → Sizes → List ℕ → List ℕ
 withUpper s z d =
     pick (eqb (s .kind) 5) (put d 52 (bytesOf 4 (flatSpans (upperLevels (s .step) (levelIn d (z .seconds) (52 + z .first)))))) d
 
--- e has measured the file of the words ws, and the file goes into `room` bytes
+-- e has the sizes of the file of the words ws, and the file goes into `room` bytes
 pub record Goes (s : Setting) (d : Dimensions) (E : ℕ) (ws : List ℕ) (e : Encoder) (room : ℕ) : Type 0 where
   pub allowed : settingAllowed s ≡ true
   pub four : length (d .extents) ≡ 4
   pub few : length ws ≤ 16777216
-  pub encoder : e ≡ measuredBy s (stored E ws)
+  pub encoder : SizedAs e (measuredBy s (stored E ws))
   pub number : outOf s e room ≡ 0

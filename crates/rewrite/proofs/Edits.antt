@@ -76,7 +76,7 @@ module _ (b : List ℕ) (h : checkNumber b ≡ 0) where
   -- nothing is changed
   pub keeps : (n p : ℕ) → n ≤ wordsCount b → EditOf b (keeping n p)
   keeps n p h =
-      record { ordered = omega arith; inside = h; rising = rw (keeping-positions n p (positionsOf b), ls-back) (rising ws refl) }
+      record { ordered = omega arith; near = omega arith; inside = h; rising = rw (keeping-positions n p (positionsOf b), ls-back) (rising ws refl) }
 
   module _ (p w : ℕ) (n : p < length ws) where
     abbrev pub k : ℕ
@@ -86,12 +86,12 @@ module _ (b : List ℕ) (h : checkNumber b ≡ 0) where
     pub rank-below : k ≡ countBelow p (positionsOf b)
     rank-below = rank-counts E p w ws n ∙ ap (countBelow p) (sym ls-back)
 
-    writes : (x : Edit) → x .before ≤ x .after → x .after ≤ wordsCount b
+    writes : (x : Edit) → x .before ≤ x .after → x .after ≤ x .before + 1 → x .after ≤ wordsCount b
         → edited x (stored E ws) ≡ stored E (set ws p w) → overlaid x w (kept E ws) ≡ kept E (set ws p w) → Writes b p w x
-    writes x o i e f =
+    writes x o k i e f =
         let q : edited x (positionsOf b) ≡ stored E (set ws p w) = ap (edited x) ls-back ∙ e in
         record {
-          edit = record { ordered = o; inside = i; rising = rw q (rising (set ws p w) (length-set ws p w)) };
+          edit = record { ordered = o; near = k; inside = i; rising = rw q (rising (set ws p w) (length-set ws p w)) };
           positions = q;
           words = ap (overlaid x w) vs-back ∙ f;
         }
@@ -101,7 +101,7 @@ module _ (b : List ℕ) (h : checkNumber b ≡ 0) where
     unfolding edited overlaid
     adds a c =
         let m = rank-most E p w ws n in
-        writes (adding k p) (omega arith) (omega (arith, size))
+        writes (adding k p) (omega arith) (omega arith) (omega (arith, size))
         (append-snoc (take k (stored E ws)) p (drop k (stored E ws)) ∙ sym (put-positions E p w ws n a c))
         (append-snoc (take k (kept E ws)) w (drop k (kept E ws)) ∙ sym (put-words E p w ws n a c))
 
@@ -110,7 +110,7 @@ module _ (b : List ℕ) (h : checkNumber b ≡ 0) where
     unfolding edited overlaid
     removes a c =
         let m = rank-there E p w ws n a in
-        writes (removing k p) (omega arith) (omega (arith, size))
+        writes (removing k p) (omega arith) (omega arith) (omega (arith, size))
         (rw (append-nil (take k (stored E ws))) (sym (removed-positions E p w ws n a c)))
         (rw (append-nil (take k (kept E ws))) (sym (removed-words E p w ws n a c)))
 
@@ -123,7 +123,7 @@ module _ (b : List ℕ) (h : checkNumber b ≡ 0) where
         = rw add-one (sym (rw (rank-position E p w ws n a) at (split-at (stored E ws) k 0 m))) in
         let s : set (kept E ws) k w ≡ take k (kept E ws) ++ w ∷ drop (k + 1) (kept E ws)
         = rw add-one (set-split (kept E ws) k w (omega (arith, kept-size))) in
-        writes (replacing k p) (omega arith) (omega (arith, size))
+        writes (replacing k p) (omega arith) (omega arith) (omega (arith, size))
         (append-snoc (take k (stored E ws)) p (drop (k + 1) (stored E ws)) ∙ l ∙ sym (other-positions E p w ws n a c))
         (append-snoc (take k (kept E ws)) w (drop (k + 1) (kept E ws)) ∙ sym s ∙ sym (other-words E p w ws n a c))
 

@@ -6,3 +6,6 @@ pub mod RunTurns
 pub mod Three
 pub mod Counting
 pub mod Halving
+pub mod RunCounts
+pub mod RunEdits
+pub mod RunSizes

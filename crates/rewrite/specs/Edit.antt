@@ -1,5 +1,5 @@
 -- One cell laid over a file: the stored positions and words after it. Assumes nothing.
-use Prim.Native.Nat.{ℕ, _+_, _≤_}
+use Prim.Native.Nat.{ℕ, _+_, _-_, _≤_}
 use mathlib.Core.Path.{_≡_}
 use mathlib.Core.List.{List, [], _∷_, _++_}
 use lib.ListN.{take, drop, set}
@@ -17,9 +17,14 @@ edited x ls = take (x .before) ls ++ pick (x .put) (x .position ∷ []) [] ++ dr
 unfoldable pub overlaid : Edit → ℕ → List ℕ → List ℕ
 overlaid x w vs = take (x .before) vs ++ pick (x .put) (w ∷ []) [] ++ drop (x .after) vs
 
--- an edit of the file b: the ranks are there, and the positions rise
+-- the ranks that the edit leaves out
+abbrev pub leftOut : Edit → List ℕ → List ℕ
+leftOut x ls = take (x .after - x .before) (drop (x .before) ls)
+
+-- an edit of the file b: the ranks are there, at most one is left out, and the positions rise
 pub record EditOf (b : List ℕ) (x : Edit) : Type 0 where
   pub ordered : x .before ≤ x .after
+  pub near : x .after ≤ x .before + 1
   pub inside : x .after ≤ wordsCount b
   pub rising : Rising 0 16777216 (edited x (positionsOf b))
 

@@ -1,2 +1,3 @@
 pub mod Edit
+pub mod RunCount
 pub mod Walk

@@ -25,7 +25,7 @@ use Rattle.encode.specs.declared.state.Encoder.{Encoder}
 use Rattle.encode.proofs.Encoded.{encoded, measured}
 use Rattle.heading.specs.declared.Sizes.{Sizes}
 use Rattle.heading.specs.Counted.{countsIn, Fitting}
-use Rattle.shape.specs.Shape.{measuredBy, Small, counted, paged, sizesBy, sizesOf}
+use Rattle.shape.specs.Shape.{measuredBy, SizedAs, Small, counted, paged, sizesBy, sizesOf}
 
 eight : (n c : ℕ) → n ≡ 8 * c → n / 8 ≡ c
 eight n c e = omega arith
@@ -153,3 +153,33 @@ module _ (s : Setting) (a : settingAllowed s ≡ true) (B : ℕ) (ls : List ℕ)
       let c1 = ap (λ (x : Counts). x .firstBytes) c in
       let c2 = ap (λ (x : Counts). x .secondBytes) c in
       record { counts = c; fits = omega arith }
+
+-- ---- an encoder with the same sizes
+
+counted-same : (e m : Encoder) (c d c2 d2 : ℕ) → SizedAs e m → c ≡ d → c2 ≡ d2 → counted e c c2 ≡ counted m d d2
+counted-same e m c d c2 d2 z p q = rw (z .rank, z .first, z .second, p, q)
+
+sizes-by : (k b : ℕ) (e m : Encoder) → SizedAs e m → sizesBy k b e ≡ sizesBy k b m
+sizes-by zero b e m z = counted-same e m _ _ _ _ z (ap (λ (x : ℕ). x / 4) (z .first)) (z .rank)
+sizes-by (suc zero) b e m z = counted-same e m _ _ _ _ z (ap (λ (x : ℕ). x / 8) (z .first)) refl
+sizes-by (suc (suc zero)) b e m z = counted-same e m _ _ _ _ z (ap (λ (x : ℕ). x / 4) (z .first)) refl
+sizes-by (suc (suc (suc zero))) b e m z = counted-same e m _ _ _ _ z (ap (λ (x : ℕ). x / 4) (z .first)) (z .rank)
+sizes-by (suc (suc (suc (suc zero)))) b e m z = counted-same e m _ _ _ _ z (ap (λ (x : ℕ). x / 4) (z .first)) (z .rank)
+sizes-by (suc (suc (suc (suc (suc zero))))) b e m z = rw (z .rank, z .second)
+sizes-by (suc (suc (suc (suc (suc (suc k)))))) b e m z = counted-same e m _ _ _ _ z (ap (λ (x : ℕ). x / 4) (z .first)) (z .rank)
+
+pub sizes-same : (s : Setting) (e m : Encoder) → SizedAs e m → sizesOf s e ≡ sizesOf s m
+unfolding sizesOf
+sizes-same s e m z = sizes-by (s .kind) (s .step) e m z
+
+pub small-same : (e m : Encoder) → SizedAs e m → Small m → Small e
+small-same e m z h = record { rank = rw (z .rank) (h .rank); first = rw (z .first) (h .first); second = rw (z .second) (h .second) }
+
+pub as-itself : (e m : Encoder) → e ≡ m → SizedAs e m
+as-itself e m p =
+    record {
+      rank = ap (λ (x : Encoder). x .rank) p;
+      first = ap (λ (x : Encoder). x .first) p;
+      second = ap (λ (x : Encoder). x .second) p;
+      fits = ap (λ (x : Encoder). x .fits) p;
+    }

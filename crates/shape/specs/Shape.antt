@@ -1,5 +1,6 @@
 -- What a file measures, by the encoder after all positions and the end, which began at 0 and 0. Assumes nothing.
 use Prim.Native.Nat.{ℕ, zero, suc, _+_, _*_, _/_, _≤_}
+use mathlib.Core.Path.{_≡_}
 use mathlib.Core.List.{List}
 use Rattle.format.specs.declared.Setting.{Setting}
 use Rattle.format.specs.PagedRuns.{upperEntries}
@@ -10,6 +11,13 @@ use Rattle.heading.specs.declared.Sizes.{Sizes}
 -- the encoder after all positions and the end
 abbrev pub measuredBy : Setting → List ℕ → Encoder
 measuredBy s ls = ended s (takenAll s (begun 0 0) ls)
+
+-- e has the count, the places and the fit of m: all that a file's sizes depend on
+pub record SizedAs (e m : Encoder) : Type 0 where
+  pub rank : e .rank ≡ m .rank
+  pub first : e .first ≡ m .first
+  pub second : e .second ≡ m .second
+  pub fits : e .fits ≡ m .fits
 
 -- no size passes 32 bits
 pub record Small (e : Encoder) : Type 0 where

@@ -7,32 +7,32 @@ use Rattle.archive.proofs.recode.recoded.Reads as reads
 use Rattle.archive.proofs.recode.recoded.Lts as lts
 use Rattle.archive.proofs.recode.put_recoded.Reads as put-recoded-reads
 use Rattle.assemble.proofs.out_number.Reads as out-number-reads
-use Rattle.rewrite.proofs.parts.measure.Reads as measure-reads
+use Rattle.rewrite.proofs.counted.sized.Reads as sized-reads
 
 -- src/recode.rt:45:9
-measure-requires : tie.Need-measure-requires
-measure-requires c κs = search needs
+sized-requires : tie.Need-sized-requires
+sized-requires c κs = search needs
 
 -- src/recode.rt:46:9
 out-number-requires : tie.Need-out-number-requires
 out-number-requires c κs =
     let g = c .before .before .before .args in
     let w = c .before .before .before .pre in
-    recode-known (g .file .now) (g .v) (w .0) (g .x) (g .word) (w .1) (g .s) (w .2) _ (c .measure .ensures)
+    recode-known (g .file .now) (g .v) (w .0) (g .x) (g .word) (w .1) (g .s) (w .2) _ (c .sized .ensures)
 
 -- src/recode.rt:48:9
 returns : tie.Need-returns
 returns c =
     let g = c .before .before .before .before .before .args in
     let w = c .before .before .before .before .before .pre in
-    recode-refused (g .file .now) (g .x) (g .word) (g .s) (g .dst .now) _ (recode-number (g .file .now) (g .v) (w .0) (g .x) (g .word) (w .1) (g .s) (w .2) _ (c .before .before .measure .ensures) _ _ (c .before .out-number .ensures)) (c .if1 .taken)
+    recode-refused (g .file .now) (g .x) (g .word) (g .s) (g .dst .now) _ (recode-number (g .file .now) (g .v) (w .0) (g .x) (g .word) (w .1) (g .s) (w .2) _ (c .before .before .sized .ensures) _ _ (c .before .out-number .ensures)) (c .if1 .taken)
 
 -- src/recode.rt:50:5
 put-recoded-requires : tie.Need-put-recoded-requires
 put-recoded-requires c κs =
     let g = c .before .before .before .before .before .before .args in
     let w = c .before .before .before .before .before .before .pre in
-    (w .0, w .1, recode-goes (g .file .now) (g .v) (w .0) (g .x) (g .word) (w .1) (g .s) (w .2) _ (c .before .before .before .measure .ensures) _ (sym (c .before .before .out-number .ensures) ∙ c .before .if1 .left))
+    (w .0, w .1, recode-goes (g .file .now) (g .v) (w .0) (g .x) (g .word) (w .1) (g .s) (w .2) _ (c .before .before .before .sized .ensures) _ (sym (c .before .before .out-number .ensures) ∙ c .before .if1 .left))
 
 -- src/recode.rt:41:1
 same-length : tie.Need-same-length
@@ -44,7 +44,7 @@ returns-2 c =
     let g = c .before .before .before .before .before .before .before .before .before .args in
     let w = c .before .before .before .before .before .before .before .before .before .pre in
     record {
-      number = sym (c .before .before .before .before .if1 .left) ∙ recode-number (g .file .now) (g .v) (w .0) (g .x) (g .word) (w .1) (g .s) (w .2) _ (c .before .before .before .before .before .before .measure .ensures) _ _ (c .before .before .before .before .before .out-number .ensures);
+      number = sym (c .before .before .before .before .if1 .left) ∙ recode-number (g .file .now) (g .v) (w .0) (g .x) (g .word) (w .1) (g .s) (w .2) _ (c .before .before .before .before .before .before .sized .ensures) _ _ (c .before .before .before .before .before .out-number .ensures);
       left = c .before .before .put-recoded .ensures;
     }
 
@@ -52,7 +52,7 @@ pub recoded-spec : {M : Type 1} → statement M
 recoded-spec =
     tie.close
     (tie.spec
-    measure-requires
+    sized-requires
     out-number-requires
     returns
     put-recoded-requires

@@ -1,0 +1,282 @@
+-- The runs of an accepted file's positions after an edit. Assumes nothing.
+use Prim.Native.Nat.{ℕ, zero, suc, _+_, _-_, _*_, _≤_, _<_}
+use mathlib.Core.Path.{_≡_, refl, sym, ap, subst, _∙_}
+use mathlib.Core.Logic.{_⊎_, ⊎-elim}
+use mathlib.Core.Bool.{Bool, true, false}
+use mathlib.Core.List.{List, [], _∷_, _++_, append-assoc}
+use native.Mathlib.Numerals.{add-one}
+use native.Mathlib.Omega.{arith}
+use lib.Arith.{lt-of-le-ne}
+use lib.ListN.{length, getD, take, drop, take-append-drop, drop-of-length-le}
+use lib.Seq.{drop-cons, drop-drop}
+use lib.Dec.{eqb}
+use borrow.Author.Tests.{eq-eqb, ne-eqb}
+use types.Run.{OneOf}
+use denote.Enum.Declared.{tagOf}
+use Rattle.format.proofs.PositionAnswer.{the-type}
+use Rattle.format.specs.declared.View.{View}
+use Rattle.format.specs.declared.PositionAnswer.{PositionAnswer}
+use Rattle.format.specs.declared.PositionAnswer.the-variants as pa
+use Rattle.format.specs.Tools.{pick, Below}
+use Rattle.format.specs.Answers.{Answer, refused, empty, given, positionSays}
+use Rattle.format.specs.Stored.{stored}
+use Rattle.format.specs.Kinds.{codec, codecOf}
+use Rattle.format.specs.File.{HasFile}
+use Rattle.format.specs.Runs.{runs, spans, runsKind, runParts}
+use Rattle.format.specs.PagedRuns.{pagesKind, pagedParts}
+use Rattle.format.specs.Picture.{cells}
+use Rattle.format.specs.Accepted.{settingOf, dimensionsOf, emptyOf, wordsCount, positionsOf, wordsOf}
+use Rattle.format.specs.Opened.{viewOf}
+use Rattle.header.proofs.CellCount.{cells-least}
+use Rattle.laws.proofs.Stored.{Rising}
+use Rattle.laws.proofs.Bounds.{below-rising, below-getD, length-runs, length-spansFrom}
+use Rattle.laws.proofs.Files.{positions-back, first-count-back, second-count-back}
+use Rattle.laws.proofs.Limits.{small-dims}
+use Rattle.laws.proofs.Acceptance.{accepted-has-file}
+use Rattle.header.specs.Search.{ViewOf, PositionSearched}
+use Rattle.positions.proofs.Lookup.{positions-rising, positions-size, position-inside}
+use Rattle.encode.specs.Batch.{storesRuns}
+use Rattle.rewrite.specs.declared.Edit.{Edit}
+use Rattle.rewrite.specs.Edit.{edited, leftOut, EditOf}
+use Rattle.rewrite.specs.RunCount.{begins, runCount, endAfter, firstBegins, joint}
+use Rattle.rewrite.proofs.RunCounts.{count-runs, count-replaced, end-take}
+
+-- ---- one cell
+
+pub begins-at : (q l : ℕ) → (q ≡ 0 → ⊥) → l ≡ q → (0 ≡ begins q l) × (0 ≤ 1)
+begins-at zero l h e = absurd (h refl)
+begins-at (suc q) l h e = (rw (eq-eqb l (suc q) e), omega arith)
+
+pub begins-not : (q l : ℕ) → (q ≡ 0 → ⊥) → (l ≡ q → ⊥) → (1 ≡ begins q l) × (1 ≤ 1)
+begins-not zero l h e = absurd (h refl)
+begins-not (suc q) l h e = (rw (ne-eqb l (suc q) e), omega arith)
+
+abbrev value : Answer → ℕ
+value (refused n) = 0
+value empty = 0
+value (given q) = q
+
+abbrev sort : Answer → ℕ
+sort (refused n) = 0
+sort empty = 1
+sort (given q) = 2
+
+-- ---- one rank of an accepted file
+
+module _ (b : List ℕ) (v : View) (o : ViewOf b v) where
+  abbrev ls : List ℕ
+  ls = positionsOf b
+
+  size : length ls ≡ v .words
+  size = positions-size b v o
+
+  cells-is : v .cells ≡ cells (dimensionsOf b)
+  unfolding viewOf
+  cells-is = ap (λ (t : View). t .cells) (o .view) ∙ rw (accepted-has-file b (o .accepted) .dims)
+
+  few : v .cells ≤ 16777216
+  few = let m = small-dims (dimensionsOf b) (accepted-has-file b (o .accepted) .dims) .most in let c = cells-is in omega arith
+
+  some : 0 < v .cells
+  some = let m = cells-least (dimensionsOf b) (accepted-has-file b (o .accepted) .dims) in let c = cells-is in omega arith
+
+  module _ (r : ℕ) (h : r < v .words) where
+    small : getD ls r 0 < 16777216
+    small = let k = below-getD (v .cells) ls r some (below-rising 0 (v .cells) ls (positions-rising b v o)) in let f = few in omega arith
+
+    found : (a : Answer) → PositionSearched b v r a → a ≡ given (getD ls r 0)
+    found a s = s .right o ∙ position-inside b v o r h
+
+    pub position-given : (q : ℕ) → PositionSearched b v r (given q) → (q ≡ getD ls r 0) × (q < 16777216)
+    position-given q s = let e : q ≡ getD ls r 0 = ap value (found (given q) s) in let k = small in (e, omega arith)
+
+    pub position-refused : (a : PositionAnswer) → OneOf (1 ∷ []) (tagOf the-type a) → PositionSearched b v r (positionSays a)
+        → (0 ≡ getD ls r 0) × (0 < 16777216)
+    position-refused (pa.Position q) t s = absurd (omega arith)
+    position-refused (pa.Refused n) t s = absurd (let e : 0 ≡ 2 = ap sort (found (refused n) s) in omega arith)
+
+    pub first-there : (q x t : ℕ) → x ≡ getD ls r 0 → (t ≡ begins q x) × (t ≤ 1) → (t ≡ firstBegins q (drop r ls)) × (t ≤ 1)
+    unfolding firstBegins
+    first-there q x t e k = let s = size in (rw (drop-cons ls r 0 (omega arith)) (k .0 ∙ ap (begins q) e), k .1)
+
+    pub end-there : (k x : ℕ) → k ≡ r + 1 → x ≡ getD ls r 0 → x + 1 ≡ endAfter 0 (take k ls)
+    end-there k x m e =
+        let s = size in
+        rw (m, add-one r) (add-one x ∙ ap suc e ∙ sym (end-take 0 r ls (omega arith)))
+
+  pub first-none : (q r : ℕ) → r ≡ v .words → (0 ≡ firstBegins q (drop r ls)) × (0 ≤ 1)
+  unfolding firstBegins
+  first-none q r e = let s = size in (rw (drop-of-length-le ls {i = r} (omega arith)), omega arith)
+
+pub end-none : (k : ℕ) (ls : List ℕ) → k ≡ 0 → 0 ≡ endAfter 0 (take k ls)
+unfolding endAfter
+end-none k ls e = rw e
+
+-- ---- a cell and the rank behind it
+
+pub joint-there : (q p x y : ℕ) (t : Bool) (ys : List ℕ) → t ≡ true → x ≡ begins q p → y ≡ firstBegins (p + 1) ys → x ≤ 1 → y ≤ 1
+    → (x + y ≡ joint q (pick t (p ∷ []) []) ys) × (x + y ≤ 2)
+unfolding joint runCount endAfter
+joint-there q p x y t ys e a b c d = (rw (e, a, b, add-one) (omega arith), omega arith)
+
+pub joint-none : (q p y : ℕ) (t : Bool) (ys : List ℕ) → t ≡ false → y ≡ firstBegins q ys → y ≤ 1
+    → (y ≡ joint q (pick t (p ∷ []) []) ys) × (y ≤ 2)
+unfolding joint runCount endAfter
+joint-none q p y t ys e a b = (rw (e, a) (omega arith), omega arith)
+
+-- ---- the whole edit
+
+below-front : (B : ℕ) (xs ys : List ℕ) → Below B (xs ++ ys) → Below B xs
+below-front B [] ys h = tt
+below-front B (x ∷ xs) ys h = (h .0, below-front B xs ys (h .1))
+
+below-back : (B : ℕ) (xs ys : List ℕ) → Below B (xs ++ ys) → Below B ys
+below-back B [] ys h = h
+below-back B (x ∷ xs) ys h = below-back B xs ys (h .1)
+
+pub put-small : (b : List ℕ) (x : Edit) → EditOf b x → x .put ≡ true → x .position < 16777216
+unfolding edited
+put-small b x d e =
+    let ls = positionsOf b in
+    let r : Below 16777216 (take (x .before) ls ++ (x .position ∷ []) ++ drop (x .after) ls)
+    = subst (λ (t : Bool). Below 16777216 (take (x .before) ls ++ pick t (x .position ∷ []) [] ++ drop (x .after) ls)) e (below-rising 0 16777216 (take (x .before) ls ++ pick (x .put) (x .position ∷ []) [] ++ drop (x .after) ls) (d .rising)) in
+    below-back 16777216 (take (x .before) ls) (x .position ∷ []) (below-front 16777216 (take (x .before) ls ++ (x .position ∷ [])) (drop (x .after) ls) r) .0
+
+pub none-left : (x : Edit) (ls : List ℕ) → x .before ≡ x .after → [] ≡ leftOut x ls
+none-left x ls e = let z : x .after - x .before ≡ 0 = omega arith in rw z
+
+pub one-left : (x : Edit) (ls : List ℕ) → x .before < x .after → x .after ≤ x .before + 1 → x .before < length ls → getD ls (x .before) 0 ∷ [] ≡ leftOut x ls
+one-left x ls h k l = let z : x .after - x .before ≡ 1 = omega arith in rw (z, drop-cons ls (x .before) 0 l)
+
+whole : (x : Edit) (ls : List ℕ) → x .before ≤ x .after → take (x .before) ls ++ leftOut x ls ++ drop (x .after) ls ≡ ls
+whole x ls h =
+    let n : x .before + (x .after - x .before) ≡ x .after = omega arith in
+    let e : drop (x .after - x .before) (drop (x .before) ls) ≡ drop (x .after) ls
+    = drop-drop (x .after - x .before) (x .before) ls ∙ ap (λ (k : ℕ). drop k ls) n in
+    append-assoc (take (x .before) ls) (leftOut x ls) (drop (x .after) ls)
+    ∙ ap (λ (t : List ℕ). take (x .before) ls ++ (leftOut x ls ++ t)) (sym e)
+    ∙ ap (λ (t : List ℕ). take (x .before) ls ++ t) (take-append-drop (x .after - x .before) (drop (x .before) ls))
+    ∙ take-append-drop (x .before) ls
+
+pub runs-edited : (x : Edit) (ls : List ℕ) → x .before ≤ x .after → (total lost won : ℕ) → total ≡ length (runs ls)
+    → lost ≡ joint (endAfter 0 (take (x .before) ls)) (leftOut x ls) (drop (x .after) ls)
+    → won ≡ joint (endAfter 0 (take (x .before) ls)) (pick (x .put) (x .position ∷ []) []) (drop (x .after) ls)
+    → total + won ≡ length (runs (edited x ls)) + lost
+unfolding edited
+runs-edited x ls h total lost won t l w =
+    let n = pick (x .put) (x .position ∷ []) [] in
+    let c = count-replaced (take (x .before) ls) (leftOut x ls) n (drop (x .after) ls) in
+    let d = ap (runCount 0) (whole x ls h) in
+    let e = count-runs ls in
+    let f = count-runs (take (x .before) ls ++ n ++ drop (x .after) ls) in
+    omega arith
+
+-- ---- the runs of an accepted file
+
+module _ (b : List ℕ) (v : View) (o : ViewOf b v) where
+  file : HasFile (settingOf b) (dimensionsOf b) (emptyOf b) (wordsOf b) b
+  file = accepted-has-file b (o .accepted)
+
+  kind-is : v .kind ≡ settingOf b .kind
+  unfolding viewOf
+  kind-is = ap (λ (t : View). t .kind) (o .view)
+
+  stored-is : positionsOf b ≡ stored (emptyOf b) (wordsOf b)
+  stored-is = positions-back (settingOf b) (dimensionsOf b) (emptyOf b) (wordsOf b) b file
+
+  firsts-is : v .kind ≡ 1 → v .firsts ≡ length (runs (positionsOf b))
+  unfolding viewOf codec runsKind runParts
+  firsts-is k =
+      ap (λ (t : View). t .firsts) (o .view)
+      ∙ first-count-back (settingOf b) (dimensionsOf b) (emptyOf b) (wordsOf b) b file
+      ∙ ap (λ (n : ℕ). codecOf n (settingOf b .width) (settingOf b .step) .parts (stored (emptyOf b) (wordsOf b)) .firstCount) (sym kind-is ∙ k)
+      ∙ ap (λ (t : List ℕ). length (runs t)) (sym stored-is)
+
+  seconds-is : v .kind ≡ 5 → v .seconds ≡ length (runs (positionsOf b))
+  unfolding viewOf codec pagesKind pagedParts spans
+  seconds-is k =
+      ap (λ (t : View). t .seconds) (o .view)
+      ∙ second-count-back (settingOf b) (dimensionsOf b) (emptyOf b) (wordsOf b) b file
+      ∙ ap (λ (n : ℕ). codecOf n (settingOf b .width) (settingOf b .step) .parts (stored (emptyOf b) (wordsOf b)) .secondCount) (sym kind-is ∙ k)
+      ∙ length-spansFrom 0 0 (runs (stored (emptyOf b) (wordsOf b)))
+      ∙ ap (λ (t : List ℕ). length (runs t)) (sym stored-is)
+
+  pub total-runs : (n : ℕ) → n ≡ pick (eqb (v .kind) 1) (v .firsts) (v .seconds) → storesRuns (v .kind) → n ≡ length (runs (positionsOf b))
+  total-runs n e h =
+      ⊎-elim (λ k. e ∙ rw (eq-eqb (v .kind) 1 k) (firsts-is k)) (λ k. e ∙ rw (ne-eqb (v .kind) 1 (λ z. omega arith)) (seconds-is k)) h
+
+  pub words-is : v .words ≡ wordsCount b
+  unfolding viewOf
+  words-is = ap (λ (t : View). t .words) (o .view)
+
+  module _ (x : Edit) (d : EditOf b x) where
+    pub ranks-there : (x .before ≤ v .words) × (x .after ≤ v .words)
+    ranks-there = let w = words-is in let i = d .inside in let k = d .ordered in (omega arith, omega arith)
+
+    pub lost-none : (q t : ℕ) → x .before ≡ x .after → (t ≡ joint q [] (drop (x .after) (positionsOf b))) × (t ≤ 2)
+        → (t ≡ joint q (leftOut x (positionsOf b)) (drop (x .after) (positionsOf b))) × (t ≤ 2)
+    lost-none q t e h = (h .0 ∙ ap (λ (m : List ℕ). joint q m (drop (x .after) (positionsOf b))) (none-left x (positionsOf b) e), h .1)
+
+    before-there : (x .before ≡ x .after → ⊥) → x .before < x .after
+    before-there h = lt-of-le-ne (d .ordered) h
+
+    pub left-there : (x .before ≡ x .after → ⊥) → x .before < v .words
+    left-there h = let k = before-there h in let r = ranks-there .1 in omega arith
+
+    pub lost-one : (q t m : ℕ) → (x .before ≡ x .after → ⊥) → m ≡ getD (positionsOf b) (x .before) 0
+        → (t ≡ joint q (m ∷ []) (drop (x .after) (positionsOf b))) × (t ≤ 2)
+        → (t ≡ joint q (leftOut x (positionsOf b)) (drop (x .after) (positionsOf b))) × (t ≤ 2)
+    lost-one q t m h e k =
+        let n = left-there h in
+        let s = positions-size b v o in
+        let l = ap (λ (y : ℕ). y ∷ []) e ∙ one-left x (positionsOf b) (before-there h) (d .near) (omega arith) in
+        (k .0 ∙ ap (λ (ms : List ℕ). joint q ms (drop (x .after) (positionsOf b))) l, k .1)
+
+rising-few : (a B : ℕ) (ls : List ℕ) → a ≤ B → Rising a B ls → a + length ls ≤ B
+rising-few a B [] h r = omega arith
+rising-few a B (l ∷ ls) h r = let n = rising-few (suc l) B ls (omega arith) (r .2) in omega (arith, r .0)
+
+pub few-words : (b : List ℕ) (v : View) → ViewOf b v → v .words ≤ 16777216
+few-words b v o =
+    let f = few b v o in
+    let g = rising-few 0 (v .cells) (positionsOf b) (omega arith) (positions-rising b v o) in
+    let s = positions-size b v o in
+    omega arith
+
+-- what the runs after an edit are found by
+pub record RunsFound (R total lost won : ℕ) : Type 0 where
+  pub equation : total + won ≡ R + lost
+  pub most : R ≤ 16777216
+  pub total-most : total ≤ 16777216
+
+pub runs-found : (b : List ℕ) (v : View) → ViewOf b v → (x : Edit) → EditOf b x → storesRuns (v .kind) → (total lost won q : ℕ)
+    → total ≡ pick (eqb (v .kind) 1) (v .firsts) (v .seconds) → q ≡ endAfter 0 (take (x .before) (positionsOf b))
+    → lost ≡ joint q (leftOut x (positionsOf b)) (drop (x .after) (positionsOf b))
+    → won ≡ joint q (pick (x .put) (x .position ∷ []) []) (drop (x .after) (positionsOf b))
+    → RunsFound (length (runs (edited x (positionsOf b)))) total lost won
+runs-found b v o x d k total lost won q t e l w =
+    let n = total-runs b v o total t k in
+    let f = few b v o in
+    let g = rising-few 0 (v .cells) (positionsOf b) (omega arith) (positions-rising b v o) in
+    let h = length-runs (positionsOf b) in
+    let i = rising-few 0 16777216 (edited x (positionsOf b)) (omega arith) (d .rising) in
+    let j = length-runs (edited x (positionsOf b)) in
+    record {
+      equation = runs-edited x (positionsOf b) (d .ordered) total lost won n (l ∙ ap (λ (y : ℕ). joint y (leftOut x (positionsOf b)) (drop (x .after) (positionsOf b))) e)
+          (w ∙ ap (λ (y : ℕ). joint y (pick (x .put) (x .position ∷ []) []) (drop (x .after) (positionsOf b))) e);
+      most = omega arith;
+      total-most = omega arith;
+    }
+
+-- the tests of the code
+pub total-one : (v : View) → v .kind ≡ 1 → v .firsts ≡ pick (eqb (v .kind) 1) (v .firsts) (v .seconds)
+total-one v e = choose (v .firsts) (v .seconds) (eqb (v .kind) 1) (eq-eqb (v .kind) 1 e)
+  where
+    choose : (x y : ℕ) (t : Bool) → t ≡ true → x ≡ pick t x y
+    choose x y t e = rw e
+
+pub total-other : (v : View) → (v .kind ≡ 1 → ⊥) → v .seconds ≡ pick (eqb (v .kind) 1) (v .firsts) (v .seconds)
+total-other v e = choose (v .firsts) (v .seconds) (eqb (v .kind) 1) (ne-eqb (v .kind) 1 e)
+  where
+    choose : (x y : ℕ) (t : Bool) → t ≡ false → y ≡ pick t x y
+    choose x y t e = rw e
