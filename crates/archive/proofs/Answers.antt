@@ -1,31 +1,30 @@
 -- What a right or a refused check says of each call. Assumes nothing.
 use Prim.Native.Nat.{ℕ, zero, suc, _+_, _*_, _≤_, _<_}
-use mathlib.Core.Path.{_≡_, refl, sym, ap, ap₂, _∙_}
-use mathlib.Core.Bool.{Bool, true, false, not}
-use mathlib.Core.List.{List, [], _∷_, _++_}
+use mathlib.Core.Path.{_≡_, refl, sym, ap, _∙_}
+use mathlib.Core.Bool.{true, false, not}
+use mathlib.Core.List.{List, _++_}
 use native.Mathlib.Omega.{arith}
 use lib.ListN.{length, getD, drop}
 use lib.Dec.{eqb, ltb}
 use borrow.Author.Tests.{lt-ltb, le-ltb}
 use Rattle.format.specs.declared.View.{View}
-use Rattle.format.specs.Tools.{Below, both, every}
-use Rattle.format.specs.Signals.{BODY, SMALL, refuse, orElse}
-use Rattle.format.specs.Answers.{Answer, refused, answered, leaves}
+use Rattle.format.specs.Tools.{both, every}
+use Rattle.format.specs.Signals.{BODY, SMALL, refuse}
+use Rattle.format.specs.Answers.{Answer, refused, answered}
 use Rattle.format.specs.Picture.{cells}
 use Rattle.format.specs.Stored.{placed}
 use Rattle.format.specs.Bytes.{numbersOf}
-use Rattle.format.specs.Accepted.{settingOf, dimensionsOf, emptyOf, wordsCount, wordsAt, positionsOf, keptOf, wordsOf, bodyRight, headerNumber, checkNumber, Checked}
+use Rattle.format.specs.Accepted.{settingOf, dimensionsOf, emptyOf, wordsCount, positionsOf, keptOf, wordsOf, bodyRight, headerNumber, checkNumber, Checked}
 use Rattle.format.specs.Calls.{expandNumber, Expanded}
 use Rattle.format.specs.Lookups.{cellIn, rankIn, positionIn, cellAnswer, rankAnswer, positionAnswer, CellFound, RankFound, PositionFound}
 use Rattle.format.specs.Opened.{viewOf}
-use Rattle.laws.proofs.Tools.{cases}
 use Rattle.laws.proofs.Stored.{length-placed}
 use Rattle.laws.proofs.Limits.{small-setting}
 use Rattle.laws.proofs.Acceptance.{accepted, header-right}
 use Rattle.header.specs.Body.{partsRight, wordsRight}
 use Rattle.header.specs.View.{wordsPlace}
 use Rattle.header.specs.Search.{ViewOf, CellSearched, RankSearched, PositionSearched}
-use Rattle.header.proofs.Frame.{Framed, framed}
+use Rattle.header.proofs.Frame.{framed}
 use Rattle.header.proofs.Body.{body-split, below-elements}
 use Rattle.archive.specs.Known.{HeaderKnown}
 

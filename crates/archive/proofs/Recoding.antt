@@ -13,8 +13,8 @@ use Rattle.format.specs.Bytes.{bytesOf}
 use Rattle.format.specs.Picture.{cells}
 use Rattle.format.specs.Stored.{stored, kept, placed}
 use Rattle.format.specs.Kinds.{settingAllowed}
-use Rattle.format.specs.File.{HasFile, header, layout}
-use Rattle.format.specs.Accepted.{settingOf, dimensionsOf, emptyOf, positionsOf, keptOf, wordsOf, checkNumber}
+use Rattle.format.specs.File.{header, layout}
+use Rattle.format.specs.Accepted.{dimensionsOf, emptyOf, positionsOf, keptOf, wordsOf, checkNumber}
 use Rattle.format.specs.Calls.{outNumber}
 use Rattle.format.specs.Opened.{viewOf}
 use Rattle.laws.proofs.Limits.{small-dims}
@@ -27,7 +27,7 @@ use Rattle.encode.specs.declared.state.Encoder.{Encoder}
 use Rattle.encode.specs.Encoder.{begun, firsts, seconds}
 use Rattle.encode.specs.Ready.{Apart}
 use Rattle.heading.specs.declared.Sizes.{Sizes}
-use Rattle.heading.specs.Counted.{countsIn, Fitting}
+use Rattle.heading.specs.Counted.{countsIn}
 use Rattle.shape.specs.Shape.{measuredBy, SizedAs, sizesOf}
 use Rattle.levels.specs.Levels.{LevelZero}
 use Rattle.assemble.specs.Assembled.{outOf, OutKnown, withUpper, Goes}

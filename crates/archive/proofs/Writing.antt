@@ -22,21 +22,20 @@ use Rattle.format.specs.Answers.{Answer, refused, empty, given, rankSays, leave
 use Rattle.format.specs.Picture.{cells}
 use Rattle.format.specs.Stored.{stored, kept, rankAt}
 use Rattle.format.specs.Kinds.{codec, settingAllowed}
-use Rattle.format.specs.File.{HasFile, layout}
+use Rattle.format.specs.File.{layout}
 use Rattle.format.specs.Accepted.{settingOf, dimensionsOf, emptyOf, wordsCount, positionsOf, keptOf, wordsOf, checkNumber, Checked}
 use Rattle.format.specs.Calls.{outNumber, settingNumber, writeSignal, changeSignal, writeNumber, changeNumber, writtenFile, changedFile, Wrote, Changed}
 use Rattle.format.specs.Lookups.{rankIn}
 use Rattle.format.specs.Opened.{viewOf, Free, number}
 use Rattle.laws.proofs.Tools.{cases, both-true}
 use Rattle.laws.proofs.Settings.{setting}
-use Rattle.laws.proofs.Acceptance.{accepted, header-right, accepted-has-file}
+use Rattle.laws.proofs.Acceptance.{accepted, accepted-has-file}
 use Rattle.laws.proofs.Files.{positions-back, kept-back}
-use Rattle.laws.proofs.Calls.{setting-zero}
 use Rattle.header.specs.Search.{ViewOf, RankSearched}
 use Rattle.stores.specs.Put.{put}
 use Rattle.stores.proofs.Laws.{put-front}
 use Rattle.rewrite.specs.declared.Edit.{Edit}
-use Rattle.rewrite.specs.Edit.{edited, overlaid, EditOf, Writes, countBelow}
+use Rattle.rewrite.specs.Edit.{edited, overlaid, Writes, countBelow}
 use Rattle.rewrite.proofs.Edits.{keeping, keeping-positions, keeping-words, keeps, rank-below, adds, removes, replaces, same-word}
 use Rattle.archive.specs.Recoded.{wordsAfter, Recodes, Recoded, Copied, sameSetting}
 use Rattle.archive.proofs.Making.{setting-later}

@@ -1,17 +1,16 @@
 -- Header, parts and words put one after the other are the file. Assumes nothing.
 use Prim.Native.Nat.{ℕ, _+_, _*_, _≤_}
 use mathlib.Core.Path.{_≡_, refl, sym, ap, subst, _∙_}
-use mathlib.Core.Bool.{Bool, true, false, not}
-use mathlib.Core.List.{List, [], _∷_, _++_}
+use mathlib.Core.Bool.{true, false, not}
+use mathlib.Core.List.{List, _++_}
 use native.Mathlib.Omega.{arith}
 use lib.ListN.{length, take, drop, length-append}
-use lib.Dec.{eqb, ltb}
+use lib.Dec.{eqb}
 use borrow.Author.Tests.{eq-eqb, eqb-true, eqb-false}
 use Rattle.format.specs.declared.Setting.{Setting}
-use Rattle.format.specs.Tools.{pick}
-use Rattle.format.specs.Codec.{Codec, Parts}
+use Rattle.format.specs.Codec.{Parts}
 use Rattle.format.specs.Kinds.{codec, codecOf, settingAllowed}
-use Rattle.format.specs.File.{Counts, countsOf}
+use Rattle.format.specs.File.{Counts}
 use Rattle.format.specs.Runs.{runs, spans}
 use Rattle.format.specs.PagedRuns.{pagesKind, pagedParts}
 use Rattle.laws.proofs.Tools.{cases}
@@ -22,7 +21,6 @@ use Rattle.encode.specs.Encoder.{begun, firsts, seconds}
 use Rattle.encode.specs.Ready.{Apart}
 use Rattle.encode.proofs.Encoded.{Encoded, encoded}
 use Rattle.heading.specs.declared.Sizes.{Sizes}
-use Rattle.heading.specs.Counted.{countsIn}
 use Rattle.shape.specs.Shape.{totalOf}
 use Rattle.shape.proofs.Measures.{Shaped}
 use Rattle.levels.specs.Levels.{LevelZero}

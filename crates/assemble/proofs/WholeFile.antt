@@ -1,8 +1,8 @@
 -- A measured file is the layout's, and its pieces, put one after the other, are the layout. Assumes nothing.
-use Prim.Native.Nat.{ℕ, _+_, _*_, _≤_, _<_}
+use Prim.Native.Nat.{ℕ, _+_, _*_, _≤_}
 use mathlib.Core.Path.{_≡_, sym, ap, subst, _∙_}
 use mathlib.Core.Bool.{Bool, true, false, not}
-use mathlib.Core.List.{List, [], _∷_, _++_}
+use mathlib.Core.List.{List, _++_}
 use native.Mathlib.Omega.{arith}
 use lib.ListN.{length, drop, length-append}
 use lib.Dec.{ltb}
@@ -12,7 +12,6 @@ use Rattle.format.specs.declared.Dimensions.{Dimensions}
 use Rattle.format.specs.Signals.{UNFIT, SMALL, refuse}
 use Rattle.format.specs.Bytes.{bytesOf}
 use Rattle.format.specs.Stored.{stored, kept}
-use Rattle.format.specs.Codec.{Parts}
 use Rattle.format.specs.Kinds.{codec, settingAllowed}
 use Rattle.format.specs.File.{Counts, header, countsOf, fileFrom, layout}
 use Rattle.format.specs.Calls.{outNumber}

@@ -6,9 +6,7 @@ use levels::put_levels;
 use shape::sizes;
 use shape::total;
 ghost use mathlib.Core.Path.{_≡_};
-ghost use mathlib.Core.Bool.{true};
 ghost use Prim.Native.Nat.{_+_};
-ghost use Rattle.format.specs.Kinds.{settingAllowed};
 ghost use Rattle.levels.specs.Levels.{LevelZero};
 ghost use Rattle.assemble.specs.Assembled.{outOf, OutKnown, withUpper};
 

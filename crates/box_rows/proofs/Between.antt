@@ -16,8 +16,8 @@ use Rattle.format.specs.Box.{boxAllowed, boxFrom, boxPositions}
 use Rattle.laws.proofs.Tools.{cases, both-true}
 use Rattle.laws.proofs.Stored.{Rising, rising-weaken}
 use Rattle.box_rows.specs.Bounds.{bounded}
-use Rattle.box_rows.proofs.Counted.{allowed-as}
-use Rattle.box_rows.proofs.Turns.{product-bounded}
+use Rattle.box_rows.proofs.Counted.{allowed-as, range-append}
+use Rattle.box_rows.proofs.Turns.{product-bounded, joined-same}
 
 -- each coordinate lies between low and high
 unfoldable pub between : List ℕ → List ℕ → List ℕ → Bool
@@ -30,14 +30,6 @@ selected f [] = []
 selected f (x ∷ xs) = unless (not (f x)) x (selected f xs)
 
 -- ---- ranges
-
-range-append : (a m n : ℕ) → range a (m + n) ≡ range a m ++ range (a + m) n
-unfolding range
-range-append a zero n = rw (zero-add n, add-zero a)
-range-append a (suc m) n =
-    let e : suc m + n ≡ suc (m + n) = omega arith in
-    let k : a + suc m ≡ suc a + m = omega arith in
-    rw (e, k) (ap (λ (l : List ℕ). a ∷ l) (range-append (suc a) m n))
 
 joined-append : (f : ℕ → List ℕ) (xs ys : List ℕ) → joined f (xs ++ ys) ≡ joined f xs ++ joined f ys
 joined-append f [] ys = refl
@@ -163,10 +155,6 @@ module _ (e : ℕ) (es low high : List ℕ) (p : ℕ) (some : 0 < product es) wh
       ∙ ap₂ (λ (x y : List ℕ). x ++ y) (one a (omega arith)) (several (suc a) n (omega arith)))
 
 -- ---- the box
-
-joined-same : (f g : ℕ → List ℕ) (xs : List ℕ) → ((c : ℕ) → f c ≡ g c) → joined f xs ≡ joined g xs
-joined-same f g [] h = refl
-joined-same f g (x ∷ xs) h = ap₂ (λ (a b : List ℕ). a ++ b) (h x) (joined-same f g xs h)
 
 box-selected : (p : ℕ) (es low high : List ℕ) → bounded es low high ≡ true
     → boxFrom p es low high ≡ selected (lies es low high) (range (p * product es) (product es))

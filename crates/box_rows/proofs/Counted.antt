@@ -2,8 +2,8 @@
 use Prim.Native.Nat.{ℕ, zero, suc, _+_, _-_, _*_, _≤_, _<_}
 use mathlib.Core.Path.{_≡_, refl, sym, ap, _∙_}
 use mathlib.Core.Bool.{Bool, true, false}
-use mathlib.Core.List.{List, [], _∷_}
-use native.Mathlib.Nat.{mul-one, one-mul, mul-assoc, mul-le-mul, mul-le-mul-left, one-le-mul, le-mul-of-pos-right, le-refl}
+use mathlib.Core.List.{List, [], _∷_, _++_}
+use native.Mathlib.Nat.{add-zero, zero-add, mul-one, one-mul, mul-assoc, mul-le-mul, mul-le-mul-left, one-le-mul, le-mul-of-pos-right, le-refl}
 use native.Mathlib.Numerals.{add-one}
 use native.Mathlib.Omega.{arith}
 use lib.ListN.{length, getD, drop, drop-of-length-le, length-append}
@@ -117,6 +117,14 @@ pub length-range : (a n : ℕ) → length (range a n) ≡ n
 unfolding range
 length-range a zero = refl
 length-range a (suc n) = ap suc (length-range (suc a) n)
+
+pub range-append : (a m n : ℕ) → range a (m + n) ≡ range a m ++ range (a + m) n
+unfolding range
+range-append a zero n = rw (zero-add n, add-zero a)
+range-append a (suc m) n =
+    let e : suc m + n ≡ suc (m + n) = omega arith in
+    let k : a + suc m ≡ suc a + m = omega arith in
+    rw (e, k) (ap (λ (l : List ℕ). a ∷ l) (range-append (suc a) m n))
 
 length-joined : (f : ℕ → List ℕ) (m : ℕ) (xs : List ℕ) → ((x : ℕ) → length (f x) ≡ m) → length (joined f xs) ≡ length xs * m
 length-joined f m [] h = sym (native.Mathlib.Nat.zero-mul m)

@@ -1,6 +1,6 @@
 -- A box dimension by dimension: what is left of it gives the whole. Assumes nothing.
 use Prim.Native.Nat.{ℕ, zero, suc, _+_, _-_, _*_, _≤_, _<_}
-use mathlib.Core.Path.{_≡_, refl, sym, ap, _∙_}
+use mathlib.Core.Path.{_≡_, refl, sym, ap, ap₂, _∙_}
 use mathlib.Core.Bool.{true}
 use mathlib.Core.List.{List, [], _∷_, _++_}
 use native.Mathlib.Nat.{mul-one, mul-assoc, suc-mul, mul-le-mul-right, one-le-mul, le-mul-of-pos-right, le-refl, add-zero}
@@ -27,7 +27,7 @@ use Rattle.box_rows.proofs.Counted.{length-range}
 
 -- ---- lists
 
-words-append : (b xs ys : List ℕ) → wordsOn b (xs ++ ys) ≡ wordsOn b xs ++ wordsOn b ys
+pub words-append : (b xs ys : List ℕ) → wordsOn b (xs ++ ys) ≡ wordsOn b xs ++ wordsOn b ys
 unfolding wordsOn
 words-append b [] ys = refl
 words-append b (x ∷ xs) ys = ap (λ (l : List ℕ). getD (wordsOf b) x 0 ∷ l) (words-append b xs ys)
@@ -36,8 +36,12 @@ pub length-words-on : (b ps : List ℕ) → length (wordsOn b ps) ≡ length ps
 unfolding wordsOn
 length-words-on b ps = length-map ps _
 
+pub joined-same : (f g : ℕ → List ℕ) (xs : List ℕ) → ((c : ℕ) → f c ≡ g c) → joined f xs ≡ joined g xs
+joined-same f g [] h = refl
+joined-same f g (x ∷ xs) h = ap₂ (λ (a b : List ℕ). a ++ b) (h x) (joined-same f g xs h)
+
 -- one position for each coordinate: a row
-joined-row : (q a n : ℕ) → joined (λ c. (q + c) ∷ []) (range a n) ≡ range (q + a) n
+pub joined-row : (q a n : ℕ) → joined (λ c. (q + c) ∷ []) (range a n) ≡ range (q + a) n
 unfolding range
 joined-row q a zero = refl
 joined-row q a (suc n) = ap (λ (l : List ℕ). (q + a) ∷ l) (joined-row q (suc a) n ∙ ap (λ (x : ℕ). range x n) (omega arith))

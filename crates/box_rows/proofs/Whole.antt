@@ -17,24 +17,34 @@ use Rattle.header.specs.Search.{ViewOf}
 use Rattle.cursor.specs.declared.Cursor.{Cursor}
 use Rattle.cursor.specs.Cursor.{startOf}
 use Rattle.box_rows.specs.declared.Filled.{Filled}
+use Rattle.box_rows.specs.declared.region.Region.{Region}
 use Rattle.box_rows.specs.Bounds.{boxCount}
 use Rattle.box_rows.specs.Filling.{wordsOn, BoxGoes, BoxFilled}
+use Rattle.box_rows.specs.Region.{Placed, SameCells}
 use Rattle.box_rows.proofs.Counted.{allowed-as, length-box}
-use Rattle.box_rows.proofs.Resumed.{cells-seen, ready-start}
+use Rattle.box_rows.proofs.Resumed.{cells-seen, cells-few, ready-start}
 use Rattle.box_rows.proofs.Turns.{length-words-on}
 
 module _ (b : List ℕ) (v : View) (d : Dimensions) (low high : List ℕ) (o : ViewOf b v) (e : d ≡ dimensionsOf b) where
-  pub box-goes : (c : Cursor) (room : ℕ) → c ≡ startOf b v → length low ≡ 4 → length high ≡ 4 → boxAllowed d low high ≡ true
-      → boxCount (d .extents) low high ≤ room → BoxGoes b v (d .extents) low high 0 (record { cursor = c; words = 0 }) room
+  abbrev region : Region
+  region = record { extents = d .extents; low = low; high = high }
+
+  cells-all : product (d .extents) ≡ v .cells
   unfolding cells
-  box-goes c room s l h a k =
-      let m : product (d .extents) ≡ v .cells = ap cells e ∙ sym (cells-seen b v o) in
+  cells-all = ap cells e ∙ sym (cells-seen b v o)
+
+  pub box-placed : length low ≡ 4 → length high ≡ 4 → boxAllowed d low high ≡ true → Placed region
+  box-placed l h a = record { bounds = sym (allowed-as d low high l h) ∙ a; few = rw cells-all (cells-few b v o) }
+
+  pub box-goes : (r : Region) → SameCells region r → (c : Cursor) (room : ℕ) → c ≡ startOf b v → boxCount (d .extents) low high ≤ room
+      → BoxGoes b v (r .extents) (r .low) (r .high) 0 (record { cursor = c; words = 0 }) room
+  box-goes r s c room z k =
       record {
         view = o;
-        bounds = sym (allowed-as d low high l h) ∙ a;
-        ready = rw (zero-mul (product (d .extents))) (ready-start b v o c s);
-        inside = rw (one-mul (product (d .extents)), m) (le-refl (v .cells));
-        fits = rw (zero-add (length (boxFrom 0 (d .extents) low high)), length-box 0 (d .extents) low high) k;
+        bounds = s .bounds;
+        ready = rw (zero-mul (product (r .extents))) (ready-start b v o c z);
+        inside = rw (one-mul (product (r .extents)), s .product, cells-all) (le-refl (v .cells));
+        fits = rw (s .positions, zero-add (length (boxFrom 0 (d .extents) low high)), length-box 0 (d .extents) low high) k;
       }
 
   box-words : boxWords b low high ≡ wordsOn b (boxFrom 0 (d .extents) low high)
@@ -45,8 +55,8 @@ module _ (b : List ℕ) (v : View) (d : Dimensions) (low high : List ℕ) (o : V
   length-box-words =
       ap length box-words ∙ length-words-on b (boxFrom 0 (d .extents) low high) ∙ length-box 0 (d .extents) low high
 
-  pub box-done : (c : Cursor) (before : List ℕ) (r : Filled) (after : List ℕ) → boxCount (d .extents) low high ≤ length before
-      → BoxFilled b v (d .extents) low high 0 (record { cursor = c; words = 0 }) before r after → after ≡ leaves 0 (boxWords b low high) before
-  box-done c before r after k f =
+  pub box-done : (g : Region) → SameCells region g → (c : Cursor) (before : List ℕ) (r : Filled) (after : List ℕ) → boxCount (d .extents) low high ≤ length before
+      → BoxFilled b v (g .extents) (g .low) (g .high) 0 (record { cursor = c; words = 0 }) before r after → after ≡ leaves 0 (boxWords b low high) before
+  box-done g s c before r after k f =
       let n : length (boxWords b low high) ≤ length before = rw length-box-words k in
-      f .put ∙ ap (put before 0) (sym box-words) ∙ put-front before (boxWords b low high) n
+      f .put ∙ ap (put before 0) (ap (wordsOn b) (s .positions) ∙ sym box-words) ∙ put-front before (boxWords b low high) n

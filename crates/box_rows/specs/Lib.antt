@@ -1,3 +1,4 @@
 pub mod Bounds
 pub mod Ready
 pub mod Filling
+pub mod Region

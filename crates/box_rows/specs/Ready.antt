@@ -1,16 +1,31 @@
 -- A cursor from which the positions from p on can be sought. Assumes nothing.
-use Prim.Native.Nat.{ℕ, _-_, _≤_}
+use Prim.Native.Nat.{ℕ, _-_, _≤_, _<_}
 use mathlib.Core.Path.{_≡_}
 use mathlib.Core.List.{List}
-use lib.ListN.{take, drop}
+use lib.ListN.{getD, take, drop}
 use Rattle.format.specs.declared.View.{View}
 use Rattle.format.specs.Tools.{Below}
 use Rattle.format.specs.Accepted.{wordsCount, positionsOf}
 use Rattle.cursor.specs.declared.Cursor.{Cursor}
 use Rattle.cursor.specs.Cursor.{walked}
+use Rattle.box_rows.specs.declared.seek.Gap.{Gap}
 
--- it walks the stored positions from its rank on, and those before are below p
+-- it stands at the position of its rank, and the ranks before are below p; in kind 4 it can walk on
 pub record Ready (b : List ℕ) (v : View) (c : Cursor) (p : ℕ) : Type 0 where
   pub rank : c .rank ≤ wordsCount b
-  pub ahead : walked b v c (wordsCount b - c .rank) ≡ drop (c .rank) (positionsOf b)
+  pub at : c .rank < wordsCount b → c .at ≡ getD (positionsOf b) (c .rank) 0
+  pub ahead : v .kind ≡ 4 → walked b v c (wordsCount b - c .rank) ≡ drop (c .rank) (positionsOf b)
   pub passed : Below p (take (c .rank) (positionsOf b))
+
+-- it stands at the first rank from p on, or past the last
+pub record Reached (b : List ℕ) (v : View) (c : Cursor) (p : ℕ) : Type 0 where
+  pub ready : Ready b v c p
+  pub past : c .rank < v .words → p ≤ c .at
+
+-- the rank low stands below p, and the later rank high, or N, does not
+pub record Around (b : List ℕ) (v : View) (p : ℕ) (g : Gap) : Type 0 where
+  pub order : g .low < g .high
+  pub most : g .high ≤ v .words
+  pub below : getD (positionsOf b) (g .low) 0 < p
+  pub at : g .high < v .words → g .at ≡ getD (positionsOf b) (g .high) 0
+  pub past : g .high < v .words → p ≤ g .at

@@ -1,6 +1,8 @@
-// The words of a box of a picture in row order, from an accepted file. Positions never fall, so a file of kind 4 is walked once.
+// The words of a box of a picture in row order, from an accepted file. Positions never fall, so a cursor goes along the stored cells once.
 pub mod count;
+pub mod region;
 pub mod resume;
+pub mod seek;
 
 use cursor::Cursor;
 use cursor::start;
@@ -9,15 +11,20 @@ use format::Position;
 use format::RankAnswer;
 use format::View;
 use header::places::words_at;
+use region::Region;
+use region::long_rows;
+use resume::empty_ahead;
 use resume::rank_from;
+use scatter::fill;
 use wire::load_u32;
 ghost use mathlib.Core.Path.{_≡_};
 ghost use mathlib.Core.Bool.{true};
-ghost use Prim.Native.Nat.{_≤_, _<_};
-ghost use lib.ListN.{length, drop};
+ghost use Prim.Native.Nat.{_+_, _≤_, _<_};
+ghost use lib.ListN.{length, drop, replicate};
 ghost use Rattle.format.specs.Answers.{leaves};
 ghost use Rattle.format.specs.Accepted.{dimensionsOf};
 ghost use Rattle.format.specs.Box.{boxAllowed, boxWords};
+ghost use Rattle.stores.specs.Put.{put};
 ghost use Rattle.header.specs.Search.{ViewOf};
 ghost use Rattle.box_rows.specs.Bounds.{boxCount};
 ghost use Rattle.box_rows.specs.Filling.{RowGoes, RowFilled, BoxGoes, BoxFilled};
@@ -28,7 +35,16 @@ pub struct Filled {
     pub words: usize,
 }
 
-// The words of n cells from a position on.
+// n elements from an index on become x.
+fn fill_from(dst: &mut [u32], from: usize, n: usize, x: u32)
+    requires { ⌜ from + n ≤ length (now dst) ⌝ }
+    ensures { λ _. ⌜ now (dst .exit) ≡ put (now (dst .entry)) from (replicate n x) ⌝ }
+{
+    let end = from + n;
+    fill(&mut dst[from..end], n, x);
+}
+
+// The words of n cells from a position on: a stored cell's, or E up to the next stored cell.
 fn put_row(file: &[u8], v: View, s: Filled, from: u32, n: u32, dst: &mut [u32]) -> Filled
     requires { ⌜ RowGoes (now file) v s from n (length (now dst)) ⌝ }
     ensures { λ r. ⌜ RowFilled (now (file .entry)) v s from n (now (dst .entry)) r (now (dst .exit)) ⌝ }
@@ -41,15 +57,17 @@ fn put_row(file: &[u8], v: View, s: Filled, from: u32, n: u32, dst: &mut [u32]) 
     while k < end {
         let sought = rank_from(file, v, c, Position(p));
         c = sought.cursor;
-        let to = k;
-        k += 1;
-        p += 1;
         let answer = sought.answer;
         let RankAnswer::Rank(rank) = answer else {
-            dst[to] = v.empty;
+            let m = empty_ahead(v, c, p, end - k);
+            fill_from(dst, k, m, v.empty);
+            k += m;
+            p += m as u32;
             continue;
         };
-        dst[to] = load_u32(file, words + 4 * rank.0 as usize);
+        dst[k] = load_u32(file, words + 4 * rank.0 as usize);
+        k += 1;
+        p += 1;
     }
     Filled {
         cursor: c,
@@ -90,10 +108,18 @@ pub fn put_box(file: &[u8], v: View, d: Dimensions, low: [u32; 4], high: [u32; 4
     requires { ⌜ ViewOf (now file) v × (d ≡ dimensionsOf (now file)) × (boxAllowed d low high ≡ true) × (boxCount (d .extents) low high ≤ length (now dst)) ⌝ }
     ensures { λ _. ⌜ now (dst .exit) ≡ leaves 0 (boxWords (now (file .entry)) low high) (now (dst .entry)) ⌝ }
 {
-    let extents = d.extents;
+    let all = d.extents;
+    let r = long_rows(Region {
+        extents: all,
+        low: low,
+        high: high,
+    });
+    let extents = r.extents;
+    let from = r.low;
+    let to = r.high;
     let s = Filled {
         cursor: start(file, v),
         words: 0,
     };
-    put_from(file, v, extents, low, high, 0, 0, s, dst);
+    put_from(file, v, extents, from, to, 0, 0, s, dst);
 }

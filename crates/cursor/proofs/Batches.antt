@@ -1,8 +1,8 @@
 -- A batch: n steps from a cursor and the positions along them, by any step and on an accepted file. Assumes nothing.
 use Prim.Native.Nat.{ℕ, zero, suc, _+_, _-_, _≤_, _<_}
 use mathlib.Core.Path.{_≡_, refl, sym, ap, _∙_}
-use mathlib.Core.List.{List, [], _∷_, _++_, append-nil}
-use native.Mathlib.Nat.{sub-zero, sub-eq-zero-of-le, zero-add}
+use mathlib.Core.List.{List, _∷_, _++_, append-nil}
+use native.Mathlib.Nat.{sub-zero, zero-add}
 use native.Mathlib.Numerals.{add-one}
 use native.Mathlib.Omega.{arith}
 use lib.ListN.{length, take, drop, set}
@@ -47,12 +47,12 @@ module _ (f : Cursor → Cursor) (c₀ : Cursor) (n : ℕ) where
 -- ---- a step that is the file's
 
 module _ (b : List ℕ) (v : View) (f : Cursor → Cursor) (same : (c : Cursor) → f c ≡ nextOf b v c) where
-  walked-as : (c : Cursor) (n : ℕ) → walkedAs f c n ≡ walked b v c n
+  pub walked-as : (c : Cursor) (n : ℕ) → walkedAs f c n ≡ walked b v c n
   unfolding walkedAs walked
   walked-as c zero = refl
   walked-as c (suc n) = ap (λ (l : List ℕ). c .at ∷ l) (walked-as (f c) n ∙ rw (same c))
 
-  stepped-as : (c : Cursor) (n : ℕ) → steppedAs f c n ≡ steppedBy b v c n
+  pub stepped-as : (c : Cursor) (n : ℕ) → steppedAs f c n ≡ steppedBy b v c n
   unfolding steppedAs steppedBy
   stepped-as c zero = refl
   stepped-as c (suc n) = stepped-as (f c) n ∙ rw (same c)

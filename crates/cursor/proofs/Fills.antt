@@ -1,21 +1,20 @@
 -- A stretch of cells within a run, its positions filled at once: the same cursor and positions as by single steps. Assumes nothing.
 use Prim.Native.Nat.{ℕ, zero, suc, _+_, _-_, _^_, _≤_, _<_}
-use mathlib.Core.Path.{_≡_, refl, sym, ap, ap₂, _∙_}
+use mathlib.Core.Path.{_≡_, refl, sym, ap, _∙_}
 use mathlib.Core.List.{List, [], _∷_, _++_, append-assoc, append-nil}
 use native.Mathlib.Nat.{add-zero}
-use native.Mathlib.Numerals.{add-one}
 use native.Mathlib.Omega.{arith}
 use lib.ListN.{length, take, set, length-set}
 use lib.Seq.{take-set-le, take-suc-set}
 use lib.Dec.{leb}
-use borrow.Author.Tests.{leb-true, leb-false, lt-ltb}
-use Rattle.format.specs.declared.View.{View}
+use borrow.Author.Tests.{leb-true, leb-false}
 use Rattle.format.specs.Tools.{range}
 use Rattle.laws.proofs.Tools.{cases, range-snoc}
 use Rattle.cursor.specs.declared.Cursor.{Cursor}
-use Rattle.cursor.specs.Cursor.{add32, alongRun, runNext, pagedNext, walkedAs, steppedAs}
+use Rattle.cursor.specs.Cursor.{add32, alongRun, walkedAs, steppedAs}
 use Rattle.cursor.specs.Stretch.{Filled, Stretch}
 use Rattle.cursor.proofs.Steps.{add32-small}
+use Rattle.cursor.proofs.Along.{walked-along}
 use Rattle.cursor.proofs.Batches.{Partly, walked-as-add, stepped-as-add}
 
 -- ---- filling one element more
@@ -48,40 +47,12 @@ fill-turn p from t q before out h e x = record { size = length-set out (from + t
 pub fill-less : (p from m n : ℕ) (before after : List ℕ) → m ≤ n → Filled p from n before after → Filled p from m before after
 fill-less p from m n before after h x = record { size = x .size; front = λ k l w. x .front k (omega arith) w }
 
--- ---- steps within a run
-
--- the cursor k cells on
-pub along-cells : (k : ℕ) (c : Cursor) → c .rank < 2 ^ 32
-    → steppedAs alongRun c k
-    ≡ record { rank = add32 (c .rank) k; at = c .at + k; next = c .next; last = c .last; used = c .used; base = c .base; empty = c .empty }
-unfolding steppedAs alongRun add32
-along-cells zero c h =
-    ap₂
-    (λ (r a : ℕ). record { rank = r; at = a; next = c .next; last = c .last; used = c .used; base = c .base; empty = c .empty })
-    (omega arith)
-    (omega arith)
-along-cells (suc k) c h =
-    along-cells k (alongRun c) (omega arith)
-    ∙ ap₂
-    (λ (r a : ℕ). record { rank = r; at = a; next = c .next; last = c .last; used = c .used; base = c .base; empty = c .empty })
-    (omega arith)
-    (omega arith)
+-- ---- a turn
 
 module _ (f : Cursor → Cursor) (same : (c : Cursor) → c .at < c .last → f c ≡ alongRun c) where
-  stepped-along : (k : ℕ) (c : Cursor) → k ≤ c .last - c .at → steppedAs f c k ≡ steppedAs alongRun c k
-  unfolding steppedAs alongRun
-  stepped-along zero c h = refl
-  stepped-along (suc k) c h = rw (same c (omega arith)) (stepped-along k (alongRun c) (omega arith))
-
-  walked-along : (k : ℕ) (c : Cursor) → k ≤ c .last - c .at → walkedAs f c (suc k) ≡ range (c .at) (suc k)
-  unfolding walkedAs range alongRun
-  walked-along zero c h = refl
-  walked-along (suc k) c h =
-      ap (λ (l : List ℕ). c .at ∷ l) (rw (same c (omega arith)) (walked-along k (alongRun c) (omega arith) ∙ rw (add-one (c .at))))
-
   -- a loop's turn that takes m steps
   pub stretch-turn : (c₀ : Cursor) (n : ℕ) (c d : Cursor) (out after : List ℕ) (i m : ℕ) → length out ≡ n → Stretch c i m out after
-      → d ≡ f (steppedAs alongRun c (m - 1)) → Partly f c₀ n c out i → Partly f c₀ n d after (i + m)
+      → d ≡ steppedAs f c (m - 1 + 1) → Partly f c₀ n c out i → Partly f c₀ n d after (i + m)
   stretch-turn c₀ n c d out after i m size z s p =
       let one = z .some in
       let fits = z .room in
@@ -89,10 +60,8 @@ module _ (f : Cursor → Cursor) (same : (c : Cursor) → c .at < c .last → f 
       let j : m ≡ suc (m - 1) = omega arith in
       let j2 : m ≡ (m - 1) + 1 = omega arith in
       let q : n - i ≡ m + (n - (i + m)) = omega arith in
-      let w : walkedAs f c m ≡ range (c .at) m = rw j (walked-along (m - 1) c (omega arith)) in
-      let o : steppedAs f (steppedAs f c (m - 1)) 1 ≡ f (steppedAs f c (m - 1)) = unfold steppedAs in refl in
-      let g : steppedAs f c m ≡ d
-      = ap (steppedAs f c) j2 ∙ stepped-as-add f c (m - 1) 1 ∙ o ∙ ap f (stepped-along (m - 1) c (omega arith)) ∙ sym s in
+      let w : walkedAs f c m ≡ range (c .at) m = rw j (walked-along f same (m - 1) c (omega arith)) in
+      let g : steppedAs f c m ≡ d = ap (steppedAs f c) j2 ∙ sym s in
       let a : walkedAs f c (m + (n - (i + m))) ≡ range (c .at) m ++ walkedAs f d (n - (i + m)) = walked-as-add f c m (n - (i + m)) ∙ rw (w, g) in
       record {
         cursor = sym (ap (λ (y : Cursor). steppedAs f y (n - (i + m))) g) ∙ sym (stepped-as-add f c m (n - (i + m))) ∙ rw q at (p .cursor);
@@ -101,13 +70,3 @@ module _ (f : Cursor → Cursor) (same : (c : Cursor) → c .at < c .last → f 
             ∙ sym (ap (λ (l : List ℕ). take i out ++ l) a)
             ∙ rw q at (p .positions);
       }
-
--- ---- the two kinds
-
-pub run-along : (b : List ℕ) (c : Cursor) → c .at < c .last → runNext b c ≡ alongRun c
-unfolding runNext
-run-along b c h = rw (lt-ltb _ _ h)
-
-pub paged-along : (b : List ℕ) (v : View) (c : Cursor) → c .at < c .last → pagedNext b v c ≡ alongRun c
-unfolding pagedNext
-paged-along b v c h = rw (lt-ltb _ _ h)

@@ -7,5 +7,6 @@ pub mod PageLaws
 pub mod Begin
 pub mod Walks
 pub mod Batches
+pub mod Along
 pub mod Stretches
 pub mod Fills

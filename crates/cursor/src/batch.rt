@@ -4,14 +4,14 @@ use super::next;
 use super::ranks::next_based;
 use super::ranks::next_jump;
 use super::ranks::next_position;
-use super::runs::next_paged;
-use super::runs::next_run;
+use super::runs::past_entry;
+use super::runs::past_run;
 use format::View;
 use std::num::wrapping_add_u32;
 ghost use mathlib.Core.Path.{_≡_};
-ghost use Prim.Native.Nat.{_+_, _-_, _≤_, _^_};
+ghost use Prim.Native.Nat.{_+_, _-_, _≤_, _<_, _^_};
 ghost use lib.ListN.{length};
-ghost use Rattle.cursor.specs.Cursor.{alongRun, runNext, positionNext, basedNext, jumpNext, pagedNext, nextOf, walked, steppedBy, steppedAs, Batch};
+ghost use Rattle.cursor.specs.Cursor.{runNext, positionNext, basedNext, jumpNext, pagedNext, nextOf, walked, steppedBy, Batch};
 ghost use Rattle.cursor.specs.Stretch.{Filled, Stretch};
 
 // The cells from the cursor to the end of its run; 1 where it stands past the end.
@@ -22,16 +22,6 @@ fn cells_ahead(c: Cursor) -> usize
         return (c.last - c.at) as usize + 1;
     }
     1
-}
-
-// The cursor k cells on in its run.
-fn moved_along(mut c: Cursor, k: usize) -> Cursor
-    requires { ⌜ k ≤ c .last - c .at ⌝ }
-    ensures { λ r. ⌜ r ≡ steppedAs alongRun c k ⌝ }
-{
-    c.rank = wrapping_add_u32(c.rank, k as u32);
-    c.at += k as u32;
-    c
 }
 
 // n consecutive positions from p on, in the elements from an index on.
@@ -77,7 +67,7 @@ fn run_positions(file: &[u8], mut c: Cursor, out: &mut [u32]) -> Cursor
     let mut i: usize = 0;
     while i < out.len() {
         let m = fill_run(out, i, c);
-        c = next_run(file, moved_along(c, m - 1));
+        c = past_run(file, c, (m - 1) as u32);
         i += m;
     }
     c
@@ -129,7 +119,7 @@ fn paged_positions(file: &[u8], v: View, mut c: Cursor, out: &mut [u32]) -> Curs
     let mut i: usize = 0;
     while i < out.len() {
         let m = fill_run(out, i, c);
-        c = next_paged(file, v, moved_along(c, m - 1));
+        c = past_entry(file, v, c, (m - 1) as u32);
         i += m;
     }
     c
@@ -146,6 +136,16 @@ fn other_positions(file: &[u8], v: View, mut c: Cursor, out: &mut [u32]) -> Curs
         i += 1;
     }
     c
+}
+
+// The ranks of a caller's next batch, at most 512, where so many are left.
+pub fn batch_of(left: u32) -> usize
+    ensures { λ r. ⌜ (r ≤ left) × (r ≤ 512) × (0 < left → 0 < r) ⌝ }
+{
+    if left < 512 {
+        return left as usize;
+    }
+    512
 }
 
 // The positions of the ranks from the cursor on, as many as `out` has elements; the cursor after them. Any bytes, view and cursor will do.

@@ -4,8 +4,9 @@ use super::pairs::load_pair;
 use format::View;
 use std::num::wrapping_add_u32;
 ghost use mathlib.Core.Path.{_≡_};
-ghost use Prim.Native.Nat.{_+_, _≤_, _<_};
-ghost use Rattle.cursor.specs.Cursor.{runFrom, runNext, pageOf, pagedFrom, pagedNext, alongBy};
+ghost use mathlib.Core.Logic.{_⊎_};
+ghost use Prim.Native.Nat.{_+_, _-_, _≤_, _<_};
+ghost use Rattle.cursor.specs.Cursor.{runFrom, runNext, pageOf, pagedFrom, pagedNext, alongBy, steppedAs, steppedBy};
 
 // The first stored cell of the next run. The position of a stored cell is its rank and the empty cells before it.
 fn enter_run(file: &[u8], mut c: Cursor) -> Cursor
@@ -88,11 +89,38 @@ pub fn stretch(c: Cursor, left: u32) -> u32
     left
 }
 
-// The cursor m cells further in its run.
-pub fn along_run(mut c: Cursor, m: u32) -> Cursor
-    ensures { λ r. ⌜ r ≡ alongBy m c ⌝ }
+// The cursor k cells further in its run.
+fn along_run(mut c: Cursor, k: u32) -> Cursor
+    ensures { λ r. ⌜ r ≡ alongBy k c ⌝ }
 {
-    c.rank = wrapping_add_u32(c.rank, m);
-    c.at = wrapping_add_u32(c.at, m);
+    c.rank = wrapping_add_u32(c.rank, k);
+    c.at = wrapping_add_u32(c.at, k);
     c
+}
+
+// Kind 1: k cells along the run, then one step.
+pub fn past_run(file: &[u8], c: Cursor, k: u32) -> Cursor
+    requires { ⌜ k ≤ c .last - c .at ⌝ }
+    ensures { λ r. ⌜ r ≡ steppedAs (runNext (now (file .entry))) c (k + 1) ⌝ }
+{
+    next_run(file, along_run(c, k))
+}
+
+// Kind 5: the same.
+pub fn past_entry(file: &[u8], v: View, c: Cursor, k: u32) -> Cursor
+    requires { ⌜ k ≤ c .last - c .at ⌝ }
+    ensures { λ r. ⌜ r ≡ steppedAs (pagedNext (now (file .entry)) v) c (k + 1) ⌝ }
+{
+    next_paged(file, v, along_run(c, k))
+}
+
+// The same in a file of kind 1 or 5.
+pub fn past_cells(file: &[u8], v: View, c: Cursor, k: u32) -> Cursor
+    requires { ⌜ ((v .kind ≡ 1) ⊎ (v .kind ≡ 5)) × (k ≤ c .last - c .at) ⌝ }
+    ensures { λ r. ⌜ r ≡ steppedBy (now (file .entry)) v c (k + 1) ⌝ }
+{
+    if v.kind == 1 {
+        return past_run(file, c, k);
+    }
+    past_entry(file, v, c, k)
 }

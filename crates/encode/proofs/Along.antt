@@ -7,7 +7,6 @@ use native.Mathlib.Numerals.{add-one}
 use native.Mathlib.Omega.{arith}
 use lib.ListN.{length, getD, drop, length-append, drop-of-length-le}
 use lib.Seq.{drop-cons}
-use Rattle.laws.proofs.Stored.{Rising}
 use Rattle.stores.specs.Put.{put}
 use Rattle.stores.proofs.Laws.{put3-step}
 use Rattle.encode.specs.declared.state.Encoder.{Encoder}

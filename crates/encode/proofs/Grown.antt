@@ -10,7 +10,7 @@ use borrow.Author.Tests.{eq-eqb}
 use Rattle.format.specs.Tools.{range}
 use Rattle.encode.specs.declared.state.Encoder.{Encoder}
 use Rattle.encode.specs.Encoder.{Coder, runEnds, runsCoder, pagesCoder, takenBy, takenAllBy}
-use Rattle.encode.specs.Ready.{passed, Sound, Next, Room, moved, putBy}
+use Rattle.encode.specs.Ready.{passed, Sound, Room, moved, putBy}
 use Rattle.encode.specs.Batch.{addedFirstBy, addedSecondBy, putAllBy, RoomAll, grown, storesRuns}
 use Rattle.encode.proofs.Along.{room-head}
 use Rattle.encode.proofs.Steps.{ends-later, runs-on, runs-none, pages-on, pages-none}

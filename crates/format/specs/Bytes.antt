@@ -1,7 +1,7 @@
 -- Integers as bytes, the lowest byte first (document 01, "The file"). Assumes nothing.
 use Prim.Native.Nat.{ℕ, zero, suc, _+_, _*_, _/_, _%_}
 use mathlib.Core.List.{List, [], _∷_, _++_}
-use lib.ListN.{length, take, drop}
+use lib.ListN.{take, drop}
 
 -- x as w bytes, the lowest first
 unfoldable pub bytes : ℕ → ℕ → List ℕ

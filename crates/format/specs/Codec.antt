@@ -1,7 +1,7 @@
 -- What a header kind is: how the stored positions go into two parts of a file, and back. Each kind is one such record. Assumes nothing.
 use Prim.Native.Nat.{ℕ}
-use mathlib.Core.Bool.{Bool, true, false}
-use mathlib.Core.List.{List, [], _∷_}
+use mathlib.Core.Bool.{Bool, false}
+use mathlib.Core.List.{List, []}
 
 -- the two parts of a file: the entry count of each, and its bytes
 pub record Parts : Type 0 where

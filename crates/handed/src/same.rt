@@ -1,4 +1,5 @@
 // Whether two accepted files are of one picture, by their headers, stored words and stored positions: no picture is expanded.
+use cursor::batch::batch_of;
 use cursor::batch::positions;
 use cursor::start;
 use format::View;
@@ -66,16 +67,6 @@ fn same_batch<'a>(first: &'a [u32], second: &'a [u32]) -> bool
         i += 1;
     }
     true
-}
-
-// The ranks of a batch where so many are left.
-fn batch_of(left: u32) -> usize
-    ensures { λ r. ⌜ (r ≤ left) × (r ≤ 512) × (0 < left → 0 < r) ⌝ }
-{
-    if left < 512 {
-        return left as usize;
-    }
-    512
 }
 
 // The stored positions are the same: a cursor walks along each file, batch by batch.

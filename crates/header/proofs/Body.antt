@@ -1,20 +1,19 @@
 -- The body is right exactly when the parts are and no word is E. Assumes nothing.
-use Prim.Native.Nat.{ℕ, zero, suc, _*_, _≤_, _<_}
+use Prim.Native.Nat.{ℕ, suc, _<_}
 use mathlib.Core.Path.{_≡_, refl, sym, ap, _∙_}
 use mathlib.Core.Bool.{Bool, true, false, not}
 use mathlib.Core.List.{List, [], _∷_}
-use native.Mathlib.Omega.{arith}
-use lib.ListN.{length, take, drop, getD}
+use lib.ListN.{length, getD}
 use lib.Dec.{leb, ltb, eqb}
 use borrow.Author.Tests.{eqb-true, eqb-false, eq-eqb, ne-eqb, leb-true, ltb-true, le-leb, lt-ltb, not-true}
 use Rattle.format.specs.Tools.{Below, both, same, every}
 use Rattle.format.specs.Picture.{cells}
 use Rattle.format.specs.Kinds.{codec}
-use Rattle.format.specs.Accepted.{settingOf, dimensionsOf, emptyOf, wordsCount, firstCount, secondCount, secondAt, positionsOf, keptOf, wordsOf, bodyRight, headerNumber, checkNumber}
-use Rattle.laws.proofs.Tools.{cases, both-true, both-make, not-false, same-refl, same-true}
+use Rattle.format.specs.Accepted.{settingOf, dimensionsOf, emptyOf, wordsCount, firstCount, secondCount, positionsOf, keptOf, bodyRight, headerNumber, checkNumber}
+use Rattle.laws.proofs.Tools.{cases, both-true, both-make, same-refl, same-true}
 use Rattle.laws.proofs.Stored.{Rising, Apart}
-use Rattle.laws.proofs.Acceptance.{HeaderRight, header-right, accepted-has-file}
-use Rattle.laws.proofs.Check.{BodyBy, CountsBy, counts-by, body-by, by-body}
+use Rattle.laws.proofs.Acceptance.{header-right, accepted-has-file}
+use Rattle.laws.proofs.Check.{BodyBy, counts-by, body-by, by-body}
 use Rattle.header.specs.Body.{rises, partsRight, wordsRight}
 
 -- ---- the tests as types

@@ -1,30 +1,26 @@
 -- What a right header says of counts and places, kind by kind. Assumes nothing.
-use Prim.Native.Nat.{ℕ, zero, suc, _+_, _*_, _≤_, _<_}
-use mathlib.Core.Path.{_≡_, refl, sym, ap, ap₂, _∙_, subst}
-use mathlib.Core.Bool.{Bool, true, false}
+use Prim.Native.Nat.{ℕ, zero, suc, _+_, _*_, _≤_}
+use mathlib.Core.Path.{_≡_, refl, sym, ap, _∙_}
+use mathlib.Core.Bool.{true, false}
 use mathlib.Core.List.{List}
 use native.Mathlib.Omega.{arith}
 use lib.ListN.{length}
 use lib.Dec.{eqb, leb}
 use borrow.Author.Tests.{eqb-true, leb-true}
-use Rattle.format.specs.declared.View.{View}
-use Rattle.format.specs.declared.Setting.{Setting}
-use Rattle.format.specs.Tools.{pick, both, within, upTo}
-use Rattle.format.specs.Picture.{cells, dimensionsAllowed}
-use Rattle.format.specs.Codec.{Codec}
+use Rattle.format.specs.Tools.{both, within, upTo}
+use Rattle.format.specs.Picture.{cells}
 use Rattle.format.specs.Runs.{runsKind}
 use Rattle.format.specs.Positions.{positionsKind}
 use Rattle.format.specs.BaseOffset.{basedKind}
 use Rattle.format.specs.Jumps.{jumpsKind}
 use Rattle.format.specs.PagedRuns.{pagesKind, upperEntries}
 use Rattle.format.specs.Kinds.{codec, codecOf, settingAllowed}
-use Rattle.format.specs.File.{headerLength}
 use Rattle.format.specs.Accepted.{settingOf, dimensionsOf, wordsCount, firstCount, secondCount, secondAt, wordsAt, endAt, countsRight, headerNumber}
 use Rattle.format.specs.Opened.{viewOf}
 use Rattle.wire.specs.Wire.{entrySize}
 use Rattle.laws.proofs.Tools.{both-true, within-true}
 use Rattle.laws.proofs.Limits.{small-dims}
-use Rattle.laws.proofs.Acceptance.{HeaderRight, header-right}
+use Rattle.laws.proofs.Acceptance.{header-right}
 use Rattle.laws.proofs.Check.{counts-by}
 use Rattle.header.specs.View.{firstSizeOf, secondSizeOf, secondPlace, wordsPlace}
 

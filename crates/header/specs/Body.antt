@@ -1,7 +1,7 @@
 -- The body of a file whose header is right, as a check goes through it: the parts are those of rising positions below cells, as many as the words,
 -- and no word is E. Assumes nothing.
 use Prim.Native.Nat.{ℕ, suc, _*_}
-use mathlib.Core.Bool.{Bool, true, false, not}
+use mathlib.Core.Bool.{Bool, true, not}
 use mathlib.Core.List.{List, [], _∷_}
 use lib.ListN.{length, take, drop}
 use lib.Dec.{leb, ltb, eqb}

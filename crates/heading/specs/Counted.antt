@@ -1,5 +1,5 @@
 -- The sizes as the counts of the header, and when they fit it. Assumes nothing.
-use Prim.Native.Nat.{ℕ, _+_, _*_, _<_, _^_}
+use Prim.Native.Nat.{_+_, _*_, _<_, _^_}
 use Rattle.format.specs.File.{Counts}
 use Rattle.heading.specs.declared.Sizes.{Sizes}
 

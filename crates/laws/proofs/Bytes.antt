@@ -1,13 +1,13 @@
 -- Laws of numbers as bytes. Assumes nothing.
-use Prim.Native.Nat.{ℕ, zero, suc, _+_, _-_, _*_, _/_, _%_, _^_, _≤_, _<_}
-use mathlib.Core.Path.{_≡_, refl, sym, ap, ap₂, _∙_, subst}
+use Prim.Native.Nat.{ℕ, zero, suc, _+_, _-_, _*_, _/_, _^_, _<_}
+use mathlib.Core.Path.{_≡_, refl, sym, ap}
 use mathlib.Core.List.{List, [], _∷_, _++_, append-assoc}
-use native.Mathlib.Nat.{one-le-pow, le-of-suc-le-suc, not-suc-le-zero, div-add-mod, div-lt-iff-lt-mul, zero-lt-suc, pow-suc, pow-zero, add-comm, mul-suc, mod-lt, mul-comm}
+use native.Mathlib.Nat.{one-le-pow, div-add-mod, div-lt-iff-lt-mul, zero-lt-suc, pow-suc, pow-zero, mul-suc, mod-lt}
 use native.Mathlib.Omega.{arith}
 use lib.ListN.{length, take, drop, length-append}
-use lib.Seq.{take-at, drop-at, take-append-le, drop-append-le}
+use lib.Seq.{take-at, drop-at}
 use Rattle.format.specs.Tools.{Below}
-use Rattle.format.specs.Bytes.{bytes, number, bytesOf, field, numbersOf}
+use Rattle.format.specs.Bytes.{bytes, number, bytesOf, numbersOf}
 
 pub length-bytes : (w x : ℕ) → length (bytes w x) ≡ w
 unfolding bytes

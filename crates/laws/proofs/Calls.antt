@@ -1,26 +1,24 @@
 -- A call on a picture's file: its number and its result are those of the picture. Assumes nothing.
-use Prim.Native.Nat.{ℕ, zero, suc, _+_, _-_, _*_, _^_, _≤_, _<_}
-use mathlib.Core.Path.{_≡_, refl, sym, ap, ap₂, _∙_, subst}
-use mathlib.Core.Bool.{Bool, true, false, not}
+use Prim.Native.Nat.{ℕ, zero, suc, _+_, _-_, _^_, _≤_, _<_}
+use mathlib.Core.Path.{_≡_, refl, ap, _∙_}
+use mathlib.Core.Bool.{true, false, not}
 use mathlib.Core.List.{List, [], _∷_, _++_}
-use native.Mathlib.Nat.{le-refl}
 use native.Mathlib.Omega.{arith}
-use lib.ListN.{length, take, drop, getD, set, replicate, length-set, length-append, length-replicate, length-drop}
+use lib.ListN.{length, take, drop, set, replicate, length-set, length-drop}
 use lib.Seq.{take-at, drop-append-le, take-append-le}
-use lib.Dec.{eqb, leb, ltb}
-use borrow.Author.Tests.{eqb-true, eq-eqb, ltb-true, lt-ltb}
-use Rattle.format.specs.Tools.{Below, pick}
-use Rattle.format.specs.Signals.{refuse, orElse}
+use lib.Dec.{eqb, ltb}
+use borrow.Author.Tests.{eqb-true, ltb-true}
+use Rattle.format.specs.Tools.{Below}
+use Rattle.format.specs.Signals.{refuse}
 use Rattle.format.specs.Bytes.{field, number}
 use Rattle.format.specs.declared.Dimensions.{Dimensions}
 use Rattle.format.specs.Picture.{cells, dimensionsAllowed}
-use Rattle.format.specs.Stored.{stored, kept}
+use Rattle.format.specs.Stored.{stored}
 use Rattle.format.specs.File.{layout, HasFile}
 use Rattle.format.specs.declared.Setting.{Setting}
 use Rattle.format.specs.Kinds.{codec, kindAllowed, settingAllowed}
-use Rattle.format.specs.Accepted.{settingOf, dimensionsOf, emptyOf, wordsOf, checkNumber}
-use Rattle.format.specs.Answers.{leaves, Answer, answered, given}
-use Rattle.format.specs.Calls.{outNumber, settingNumber, makeNumber, writeSignal, changeSignal, writeNumber, writtenFile, changeNumber, changedFile, Made, Wrote, Changed, Expanded, expandNumber}
+use Rattle.format.specs.Answers.{Answer}
+use Rattle.format.specs.Calls.{outNumber, settingNumber, makeNumber, writeSignal, changeSignal, writeNumber, writtenFile, changeNumber, changedFile, expandNumber}
 use Rattle.format.specs.Lookups.{cellIn, rankIn, positionIn, cellAnswer, rankAnswer, positionAnswer}
 use Rattle.format.specs.Demand3.{fileIn}
 use Rattle.laws.proofs.Tools.{refuse-zero, not-false}

@@ -1,28 +1,27 @@
 -- How check may find out that the body is right: the positions and words that the parts say are a picture's, and their own parts are those of the
 -- file. Assumes nothing.
-use Prim.Native.Nat.{ℕ, zero, suc, _+_, _-_, _*_, _/_, _%_, _^_, _≤_, _<_}
-use mathlib.Core.Path.{_≡_, refl, sym, ap, ap₂, _∙_, subst}
-use mathlib.Core.Bool.{Bool, true, false, not}
-use mathlib.Core.List.{List, [], _∷_, _++_, append-assoc, append-nil}
-use native.Mathlib.Nat.{le-refl, le-trans, zero-add, add-zero, mul-suc, add-assoc, mod-eq-of-lt, add-mul-div-left, add-mul-mod-self-left, div-eq-of-lt, zero-lt-suc}
+use Prim.Native.Nat.{ℕ, zero, suc, _+_, _-_, _*_, _/_, _%_, _≤_}
+use mathlib.Core.Path.{_≡_, refl, sym, ap, _∙_}
+use mathlib.Core.Bool.{true, false, not}
+use mathlib.Core.List.{List, [], _∷_, _++_}
+use native.Mathlib.Nat.{zero-add, mul-suc, mod-eq-of-lt, add-mul-div-left, add-mul-mod-self-left, div-eq-of-lt, zero-lt-suc}
 use native.Mathlib.Omega.{arith}
-use lib.ListN.{length, take, drop, length-append, take-append-drop, length-drop}
-use lib.Seq.{drop-at, drop-drop, take-add, take-all, length-take-le, take-at}
-use lib.Dec.{eqb, leb, ltb}
-use borrow.Author.Tests.{eqb-true, eqb-false, eq-eqb, leb-true}
+use lib.ListN.{length, take, drop, length-drop}
+use lib.Seq.{drop-drop, take-add, take-all, length-take-le, take-at}
+use lib.Dec.{eqb, leb}
+use borrow.Author.Tests.{eqb-true, eqb-false, leb-true}
 use Rattle.format.specs.Tools.{Below, both, same}
 use Rattle.format.specs.Bytes.{bytes, number, bytesOf, field, numbersOf}
 use Rattle.format.specs.declared.Dimensions.{Dimensions}
 use Rattle.format.specs.Picture.{cells}
 use Rattle.format.specs.Stored.{stored, kept, placed}
-use Rattle.format.specs.Codec.{Codec, Parts}
 use Rattle.format.specs.declared.Setting.{Setting}
 use Rattle.format.specs.Kinds.{codec}
 use Rattle.format.specs.File.{Counts, countsOf, header, fileFrom, layout, HasFile}
-use Rattle.format.specs.Accepted.{settingOf, dimensionsOf, emptyOf, wordsCount, firstCount, secondCount, secondAt, wordsAt, endAt, countsRight, positionsOf, keptOf, wordsOf, bodyRight, checkNumber}
+use Rattle.format.specs.Accepted.{settingOf, dimensionsOf, emptyOf, wordsCount, firstCount, secondCount, secondAt, wordsAt, endAt, countsRight, positionsOf, keptOf, wordsOf, bodyRight}
 use Rattle.laws.proofs.Stored.{Rising, stored-placed, Apart, rising-stored, length-stored}
-use Rattle.laws.proofs.Tools.{cases, both-true, both-make, same-refl}
-use Rattle.laws.proofs.Bytes.{length-bytes, below-drop}
+use Rattle.laws.proofs.Tools.{cases, both-true, same-refl}
+use Rattle.laws.proofs.Bytes.{below-drop}
 use Rattle.laws.proofs.Files.{positions-back, setting-back, dims-back, empty-back, kept-back, first-count-back, second-count-back, words-count-back, from-first, from-second, first-size-back, second-size-back}
 
 -- ---- bytes back: a list of bytes is what its numbers give

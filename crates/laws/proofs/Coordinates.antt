@@ -1,19 +1,19 @@
 -- Coordinates and positions are inverse. Assumes nothing.
-use Prim.Native.Nat.{ℕ, zero, suc, _+_, _-_, _*_, _/_, _%_, _≤_, _<_}
-use mathlib.Core.Path.{_≡_, refl, sym, ap, ap₂, _∙_, subst}
-use mathlib.Core.Bool.{Bool, true, false, not}
-use mathlib.Core.List.{List, [], _∷_, _++_}
-use native.Mathlib.Nat.{mul-zero, zero-lt-suc, mul-one, mul-assoc, mul-comm, add-mul, zero-mul, zero-add, div-add-mod', mod-lt, div-lt-iff-lt-mul, mod-eq-of-lt, add-assoc, mul-add, one-le-mul, mul-le-mul}
+use Prim.Native.Nat.{ℕ, zero, suc, _+_, _-_, _*_, _/_, _%_, _<_}
+use mathlib.Core.Path.{_≡_, refl, sym, ap, _∙_}
+use mathlib.Core.Bool.{true, not}
+use mathlib.Core.List.{List, [], _∷_}
+use native.Mathlib.Nat.{mul-zero, zero-lt-suc, mul-one, mul-assoc, add-mul, zero-mul, div-add-mod', mod-lt, div-lt-iff-lt-mul, mod-eq-of-lt}
 use native.Mathlib.Omega.{arith}
 use lib.ListN.{length}
 use lib.Arith.{digits-div, digits-mod, digits-lt}
-use lib.Dec.{leb, ltb, eqb}
+use lib.Dec.{ltb, eqb}
 use borrow.Author.Tests.{ltb-true, lt-ltb, eqb-true, eq-eqb}
 use Rattle.format.specs.Tools.{both, first, others}
 use Rattle.format.specs.declared.Dimensions.{Dimensions}
 use Rattle.format.specs.Picture.{mostDimensions, product, cells, dimensionsAllowed, rowOrder, positionAt, insideExtents, inside, coordinatesFrom, coordinatesAt}
 use Rattle.laws.proofs.Tools.{both-true, both-make}
-use Rattle.laws.proofs.Limits.{SmallDims, small-dims}
+use Rattle.laws.proofs.Limits.{small-dims}
 
 row-shift : (p : ℕ) (es cs : List ℕ) → rowOrder p es cs ≡ p * product es + rowOrder 0 es cs
 unfolding rowOrder product

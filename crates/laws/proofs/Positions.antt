@@ -1,21 +1,21 @@
 -- For each kind: the positions come back from its parts. Assumes nothing.
-use Prim.Native.Nat.{ℕ, zero, suc, _+_, _-_, _*_, _/_, _%_, _^_, _≤_, _<_}
-use mathlib.Core.Path.{_≡_, refl, sym, ap, ap₂, _∙_, subst}
-use mathlib.Core.Bool.{Bool, true, false, not}
-use mathlib.Core.List.{List, [], _∷_, _++_, append-assoc}
-use native.Mathlib.Nat.{suc-mul, le-div-iff-mul-le, zero-add, add-suc, suc-add, add-zero, le-refl, le-trans, add-sub-of-le, div-mul-le-self, le-of-lt, lt-of-lt-of-le, div-lt-iff-lt-mul, mul-comm, add-sub-cancel-left, sub-zero}
+use Prim.Native.Nat.{ℕ, zero, suc, _+_, _-_, _*_, _/_, _^_, _≤_, _<_}
+use mathlib.Core.Path.{_≡_, refl, sym, ap, _∙_}
+use mathlib.Core.Bool.{true, false, not}
+use mathlib.Core.List.{List, [], _∷_, _++_}
+use native.Mathlib.Nat.{suc-mul, le-div-iff-mul-le, le-refl, add-sub-of-le, div-mul-le-self, add-sub-cancel-left}
 use native.Mathlib.Omega.{arith}
-use lib.ListN.{length, take, drop, getD, length-append}
+use lib.ListN.{length, getD}
 use lib.Seq.{ext-getD, append-snoc}
 use lib.Dec.{eqb, leb}
 use lib.Arith.{lt-of-le-ne}
-use borrow.Author.Tests.{eqb-true, eqb-false, eq-eqb, ne-eqb, leb-true, leb-false}
-use Rattle.format.specs.Tools.{pick, first, others, listed, range, upTo, unless}
+use borrow.Author.Tests.{eqb-true, eqb-false}
+use Rattle.format.specs.Tools.{listed, range, upTo}
 use Rattle.format.specs.Runs.{Run, Span, runAt, runsFrom, runs, spansFrom, spans, positionsFrom, flatRuns, runsIn}
-use Rattle.format.specs.PagedRuns.{flatSpans, spansIn, plus, less, none, sumsFrom, level, pairsFrom, pairsOf}
+use Rattle.format.specs.PagedRuns.{flatSpans, spansIn, plus, none, sumsFrom, level, pairsFrom, pairsOf}
 use Rattle.format.specs.BaseOffset.{bases, offsets, basedPositions}
 use Rattle.format.specs.Jumps.{difference, differencesFrom, differences, jumpsOf, jumps, jumpedFrom, jumpedPositions}
-use Rattle.laws.proofs.Stored.{Rising, rising-weaken}
+use Rattle.laws.proofs.Stored.{Rising}
 use Rattle.laws.proofs.Tools.{cases, length-listed, getD-listed, range-snoc}
 
 -- ---- kind 3

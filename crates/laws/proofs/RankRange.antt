@@ -1,18 +1,16 @@
 -- A rank range's part is the stored bytes of those ranks. Assumes nothing.
-use Prim.Native.Nat.{ℕ, zero, suc, _+_, _-_, _*_, _≤_, _<_}
+use Prim.Native.Nat.{ℕ, zero, suc, _+_, _-_, _*_}
 use mathlib.Core.Path.{_≡_, refl, sym, ap, _∙_}
-use mathlib.Core.Bool.{Bool, true, false, not}
+use mathlib.Core.Bool.{not}
 use mathlib.Core.List.{List, [], _∷_, _++_}
 use native.Mathlib.Nat.{mul-suc, mul-zero}
 use native.Mathlib.Omega.{arith}
-use lib.ListN.{length, take, drop, length-append}
+use lib.ListN.{length, take, drop}
 use lib.Seq.{take-add, drop-at, take-at, drop-drop}
-use lib.Dec.{leb}
-use borrow.Author.Tests.{leb-true}
 use Rattle.format.specs.Bytes.{bytes, bytesOf}
-use Rattle.format.specs.Accepted.{settingOf, dimensionsOf, emptyOf, wordsCount, wordsAt, keptOf, wordsOf, checkNumber}
+use Rattle.format.specs.Accepted.{wordsAt, keptOf, checkNumber}
 use Rattle.format.specs.RankRange.{ranksNumber, ranksFrom, ranksBytes}
-use Rattle.laws.proofs.Tools.{both-true, not-false, refuse-zero, orElse-zero}
+use Rattle.laws.proofs.Tools.{orElse-zero}
 use Rattle.laws.proofs.Bytes.{length-bytes}
 use Rattle.laws.proofs.Files.{from-words, kept-back}
 use Rattle.laws.proofs.Acceptance.{accepted-has-file}

@@ -1,18 +1,18 @@
 -- The rank lookups of kinds 1 and 5, and the position lookup along runs, give those of the picture. Assumes nothing.
-use Prim.Native.Nat.{ℕ, zero, suc, _+_, _-_, _*_, _≤_, _<_}
-use mathlib.Core.Path.{_≡_, refl, sym, ap, ap₂, _∙_, subst}
-use mathlib.Core.Bool.{Bool, true, false, not}
-use mathlib.Core.List.{List, [], _∷_, _++_}
-use native.Mathlib.Nat.{le-refl, sub-zero, zero-add, sub-add-eq}
+use Prim.Native.Nat.{ℕ, zero, suc, _+_, _-_, _≤_, _<_}
+use mathlib.Core.Path.{_≡_, refl, sym, ap, _∙_}
+use mathlib.Core.Bool.{true, false, not}
+use mathlib.Core.List.{List, [], _∷_}
+use native.Mathlib.Nat.{le-refl, sub-zero, sub-add-eq}
 use native.Mathlib.Omega.{arith}
 use lib.ListN.{length, getD}
 use lib.Dec.{eqb, leb, ltb}
-use borrow.Author.Tests.{eq-eqb, ne-eqb, eqb-true, eqb-false, leb-true, leb-false, ltb-true, ltb-false, le-leb, lt-leb, lt-ltb, le-ltb}
+use borrow.Author.Tests.{eq-eqb, ne-eqb, eqb-true, leb-true, leb-false, ltb-true, ltb-false, lt-ltb, le-ltb}
 use Rattle.format.specs.Tools.{pick}
-use Rattle.format.specs.Stored.{storedFrom, stored}
-use Rattle.format.specs.Runs.{Run, Span, runAt, runsFrom, runs, spansFrom, spans, positionsFrom, runRankFrom, runRank, runPosition}
-use Rattle.format.specs.PagedRuns.{plus, none, allCells, storedCells, positionAtPlace, Place, lost, at, rankAtPlace, descent}
-use Rattle.format.specs.Answers.{Answer, empty, given}
+use Rattle.format.specs.Stored.{stored}
+use Rattle.format.specs.Runs.{Run, Span, runAt, runsFrom, runs, spansFrom, spans, runRankFrom, runRank, runPosition}
+use Rattle.format.specs.PagedRuns.{plus, none, allCells, storedCells, positionAtPlace, Place, at, rankAtPlace, descent}
+use Rattle.format.specs.Answers.{empty, given}
 use Rattle.format.specs.Lookups.{rankIn, positionIn}
 use Rattle.laws.proofs.Stored.{Rising, rising-stored}
 use Rattle.laws.proofs.Search.{rankAmong, seekFrom, Proper, along, rank-among, positionAmong, along-position}

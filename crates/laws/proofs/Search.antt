@@ -1,20 +1,18 @@
 -- The searches find the rank. Assumes nothing.
-use Prim.Native.Nat.{ℕ, zero, suc, _+_, _-_, _*_, _/_, _≤_, _<_}
-use mathlib.Core.Path.{_≡_, refl, sym, ap, ap₂, _∙_, subst}
-use mathlib.Core.Bool.{Bool, true, false, not}
-use mathlib.Core.List.{List, [], _∷_, _++_, append-nil, append-assoc}
-use native.Mathlib.Nat.{le-refl, le-trans, add-suc, suc-add, zero-add, add-zero, add-assoc, sub-zero, suc-mul, lt-of-not-le}
-use native.Mathlib.Decide.{decLe}
+use Prim.Native.Nat.{ℕ, zero, suc, _+_, _-_, _≤_, _<_}
+use mathlib.Core.Path.{_≡_, refl, sym, ap, _∙_, subst}
+use mathlib.Core.Bool.{true, false, not}
+use mathlib.Core.List.{List, [], _∷_, _++_}
+use native.Mathlib.Nat.{le-refl, zero-add, add-zero, sub-zero}
 use native.Mathlib.Omega.{arith}
-use lib.ListN.{length, take, drop, getD}
-use lib.Seq.{drop-drop}
+use lib.ListN.{length, take, getD}
 use lib.Arith.{lt-of-le-ne}
-use lib.Dec.{eqb, leb, ltb}
-use borrow.Author.Tests.{eqb-true, eqb-false, eq-eqb, ne-eqb, leb-true, leb-false, ltb-true, ltb-false, lt-ltb, le-ltb, le-leb, lt-leb}
+use lib.Dec.{eqb, ltb}
+use borrow.Author.Tests.{eqb-true, eqb-false, eq-eqb, ne-eqb, ltb-true, ltb-false, lt-ltb, le-ltb}
 use Rattle.format.specs.Tools.{pick, range}
 use Rattle.format.specs.Stored.{storedFrom, stored, kept, rankAt}
-use Rattle.format.specs.Runs.{Run, Span, runAt, runsFrom, runs, spansFrom, spans, positionsFrom, runRank}
-use Rattle.format.specs.PagedRuns.{plus, less, none, sumsFrom, level, lastsFrom, lasts, allCells, storedCells, positionAtPlace, Place, lost, at, rankAtPlace, walkFrom, stepDown, through, levels}
+use Rattle.format.specs.Runs.{Span, positionsFrom}
+use Rattle.format.specs.PagedRuns.{plus, allCells, storedCells, positionAtPlace, Place, lost, at, rankAtPlace}
 use Rattle.format.specs.Answers.{Answer, empty, given, refused}
 use Rattle.format.specs.Lookups.{rankIn}
 use Rattle.laws.proofs.Stored.{Rising, rising-weaken, rising-stored, length-stored}

@@ -1,13 +1,13 @@
 -- An allowed setting is one of five shapes: the case analysis by kind, once. Assumes nothing.
 use Prim.Native.Nat.{ℕ, zero, suc, _≤_}
-use mathlib.Core.Path.{_≡_, refl, sym, ap, subst, subst₂}
-use mathlib.Core.Bool.{Bool, true, false, not}
+use mathlib.Core.Path.{_≡_, sym, ap, subst, subst₂}
+use mathlib.Core.Bool.{true, false, not}
 use native.Mathlib.Omega.{arith}
-use lib.Dec.{eqb, leb}
+use lib.Dec.{eqb}
 use borrow.Author.Tests.{eqb-true}
 use Rattle.format.specs.Tools.{both, within}
 use Rattle.format.specs.declared.Setting.{Setting}
-use Rattle.format.specs.Kinds.{codec, kindAllowed, settingAllowed}
+use Rattle.format.specs.Kinds.{codec, settingAllowed}
 use Rattle.format.specs.Runs.{runsKind}
 use Rattle.format.specs.Positions.{positionsKind}
 use Rattle.format.specs.BaseOffset.{basedKind}

@@ -1,12 +1,11 @@
 -- Kind 3 as it is put out position by position: the bases and offsets by a count of the ranks that the present base still serves.
 -- (The other kinds' definitions have this form already.) Assumes nothing.
 use Prim.Native.Nat.{ℕ, zero, suc, _+_, _-_, _*_, _/_, _≤_, _<_}
-use mathlib.Core.Path.{_≡_, refl, sym, ap, ap₂, _∙_, subst}
-use mathlib.Core.Bool.{Bool, true, false}
-use mathlib.Core.List.{List, [], _∷_, _++_}
-use native.Mathlib.Nat.{zero-div, suc-mul, zero-mul, zero-add, add-zero, suc-add, sub-zero, suc-sub-suc, zero-sub, div-eq-of-lt, div-eq-sub-div, lt-of-not-le}
+use mathlib.Core.Path.{_≡_, refl, sym, ap, _∙_}
+use mathlib.Core.Bool.{true, false}
+use mathlib.Core.List.{List, [], _∷_}
+use native.Mathlib.Nat.{zero-div, suc-mul, zero-mul, zero-add, suc-add, sub-zero, suc-sub-suc, zero-sub, div-eq-of-lt, div-eq-sub-div}
 use native.Mathlib.Numerals.{add-one}
-use native.Mathlib.Decide.{decLe}
 use native.Mathlib.Omega.{arith}
 use lib.ListN.{length, getD}
 use lib.Seq.{ext-getD}

@@ -1,25 +1,19 @@
--- One rank of a rising list against a position: what it tells of how many are below, and what its lookup says on an accepted file. Assumes nothing.
+-- One rank of a rising list against a position: what it tells of how many are below. Assumes nothing.
 use Prim.Native.Nat.{ℕ, zero, suc, _≤_, _<_}
-use mathlib.Core.Path.{_≡_, ap, _∙_}
-use mathlib.Core.Bool.{Bool, true, false}
+use mathlib.Core.Path.{_≡_}
+use mathlib.Core.Bool.{true, false}
 use mathlib.Core.List.{List, [], _∷_}
 use native.Mathlib.Nat.{le-refl}
 use native.Mathlib.Omega.{arith}
 use lib.ListN.{length, getD}
 use lib.Dec.{ltb}
 use borrow.Author.Tests.{lt-ltb, ltb-true, ltb-false}
-use types.Run.{OneOf}
-use denote.Enum.Declared.{tagOf}
-use Rattle.format.proofs.PositionAnswer.{the-type}
 use Rattle.format.specs.declared.View.{View}
-use Rattle.format.specs.declared.PositionAnswer.{PositionAnswer}
-use Rattle.format.specs.declared.PositionAnswer.the-variants as pa
-use Rattle.format.specs.Answers.{Answer, refused, empty, given, positionSays}
 use Rattle.format.specs.Accepted.{positionsOf}
 use Rattle.laws.proofs.Stored.{Rising}
 use Rattle.laws.proofs.Positions.{rising-at}
-use Rattle.header.specs.Search.{ViewOf, PositionSearched}
-use Rattle.positions.proofs.Lookup.{positions-rising, positions-size, position-inside}
+use Rattle.header.specs.Search.{ViewOf}
+use Rattle.positions.proofs.Lookup.{positions-rising, positions-size}
 use Rattle.rewrite.specs.Edit.{countBelow}
 use Rattle.rewrite.proofs.Written.{count-none}
 use Rattle.rewrite.proofs.Counting.{pick-most, count-most}
@@ -44,12 +38,6 @@ count-upto a p B (l ∷ ls) (suc i) r h k =
     let t = pick-most (ltb l p) in
     omega arith
 
--- what the answer for a rank tells of p
-abbrev belowBy : ℕ → Answer → Bool
-belowBy p (refused n) = false
-belowBy p empty = false
-belowBy p (given q) = ltb q p
-
 -- ---- on an accepted file
 
 module _ (b : List ℕ) (v : View) (o : ViewOf b v) (p : ℕ) where
@@ -65,12 +53,3 @@ module _ (b : List ℕ) (v : View) (o : ViewOf b v) (p : ℕ) where
 
     pub rank-not-below : ltb (getD (positionsOf b) r 0) p ≡ false → countBelow p (positionsOf b) ≤ r
     rank-not-below t = count-upto 0 p (v .cells) (positionsOf b) r (positions-rising b v o) inside (ltb-false _ p t)
-
-    pub position-below : (a : Answer) → PositionSearched b v r a → belowBy p a ≡ ltb (getD (positionsOf b) r 0) p
-    position-below a s = ap (belowBy p) (s .right o ∙ position-inside b v o r h)
-
-    -- the else arm knows the tag alone
-    pub refused-below : (a : PositionAnswer) → OneOf (1 ∷ []) (tagOf the-type a) → PositionSearched b v r (positionSays a)
-        → false ≡ ltb (getD (positionsOf b) r 0) p
-    refused-below (pa.Position q) t s = absurd (omega arith)
-    refused-below (pa.Refused n) t s = position-below (refused n) s

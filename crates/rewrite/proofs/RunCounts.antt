@@ -1,14 +1,14 @@
 -- The number of runs, counted along the positions; and of positions with some of them replaced. Assumes nothing.
-use Prim.Native.Nat.{ℕ, zero, suc, _+_, _-_, _≤_, _<_}
-use mathlib.Core.Path.{_≡_, refl, sym, ap, _∙_}
+use Prim.Native.Nat.{ℕ, zero, suc, _+_, _-_, _<_}
+use mathlib.Core.Path.{_≡_, refl, ap, _∙_}
 use mathlib.Core.Bool.{Bool, true, false}
 use mathlib.Core.List.{List, [], _∷_, _++_, append-assoc}
 use native.Mathlib.Omega.{arith}
-use lib.ListN.{length, getD, take, drop}
+use lib.ListN.{length, getD, take}
 use lib.Dec.{eqb}
 use Rattle.format.specs.Tools.{pick, unless}
 use Rattle.format.specs.Runs.{Run, runAt, runsFrom, runs}
-use Rattle.rewrite.specs.RunCount.{begins, runCount, endAfter, firstBegins, joint}
+use Rattle.rewrite.specs.RunCount.{runCount, endAfter, firstBegins, joint}
 
 length-unless : (t : Bool) (x : Run) (xs : List Run) → length (unless t x xs) ≡ pick t 0 1 + length xs
 length-unless true x xs = omega arith

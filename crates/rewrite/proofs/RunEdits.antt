@@ -1,5 +1,5 @@
 -- The runs of an accepted file's positions after an edit. Assumes nothing.
-use Prim.Native.Nat.{ℕ, zero, suc, _+_, _-_, _*_, _≤_, _<_}
+use Prim.Native.Nat.{ℕ, zero, suc, _+_, _-_, _≤_, _<_}
 use mathlib.Core.Path.{_≡_, refl, sym, ap, subst, _∙_}
 use mathlib.Core.Logic.{_⊎_, ⊎-elim}
 use mathlib.Core.Bool.{Bool, true, false}
@@ -11,14 +11,8 @@ use lib.ListN.{length, getD, take, drop, take-append-drop, drop-of-length-le}
 use lib.Seq.{drop-cons, drop-drop}
 use lib.Dec.{eqb}
 use borrow.Author.Tests.{eq-eqb, ne-eqb}
-use types.Run.{OneOf}
-use denote.Enum.Declared.{tagOf}
-use Rattle.format.proofs.PositionAnswer.{the-type}
 use Rattle.format.specs.declared.View.{View}
-use Rattle.format.specs.declared.PositionAnswer.{PositionAnswer}
-use Rattle.format.specs.declared.PositionAnswer.the-variants as pa
 use Rattle.format.specs.Tools.{pick, Below}
-use Rattle.format.specs.Answers.{Answer, refused, empty, given, positionSays}
 use Rattle.format.specs.Stored.{stored}
 use Rattle.format.specs.Kinds.{codec, codecOf}
 use Rattle.format.specs.File.{HasFile}
@@ -27,14 +21,13 @@ use Rattle.format.specs.PagedRuns.{pagesKind, pagedParts}
 use Rattle.format.specs.Picture.{cells}
 use Rattle.format.specs.Accepted.{settingOf, dimensionsOf, emptyOf, wordsCount, positionsOf, wordsOf}
 use Rattle.format.specs.Opened.{viewOf}
-use Rattle.header.proofs.CellCount.{cells-least}
 use Rattle.laws.proofs.Stored.{Rising}
-use Rattle.laws.proofs.Bounds.{below-rising, below-getD, length-runs, length-spansFrom}
+use Rattle.laws.proofs.Bounds.{below-rising, length-runs, length-spansFrom}
 use Rattle.laws.proofs.Files.{positions-back, first-count-back, second-count-back}
-use Rattle.laws.proofs.Limits.{small-dims}
 use Rattle.laws.proofs.Acceptance.{accepted-has-file}
-use Rattle.header.specs.Search.{ViewOf, PositionSearched}
-use Rattle.positions.proofs.Lookup.{positions-rising, positions-size, position-inside}
+use Rattle.header.specs.Search.{ViewOf}
+use Rattle.positions.proofs.Lookup.{positions-rising, positions-size}
+use Rattle.search.proofs.Positions.{cells-most}
 use Rattle.encode.specs.Batch.{storesRuns}
 use Rattle.rewrite.specs.declared.Edit.{Edit}
 use Rattle.rewrite.specs.Edit.{edited, leftOut, EditOf}
@@ -51,16 +44,6 @@ pub begins-not : (q l : ℕ) → (q ≡ 0 → ⊥) → (l ≡ q → ⊥) → (1 
 begins-not zero l h e = absurd (h refl)
 begins-not (suc q) l h e = (rw (ne-eqb l (suc q) e), omega arith)
 
-abbrev value : Answer → ℕ
-value (refused n) = 0
-value empty = 0
-value (given q) = q
-
-abbrev sort : Answer → ℕ
-sort (refused n) = 0
-sort empty = 1
-sort (given q) = 2
-
 -- ---- one rank of an accepted file
 
 module _ (b : List ℕ) (v : View) (o : ViewOf b v) where
@@ -70,31 +53,7 @@ module _ (b : List ℕ) (v : View) (o : ViewOf b v) where
   size : length ls ≡ v .words
   size = positions-size b v o
 
-  cells-is : v .cells ≡ cells (dimensionsOf b)
-  unfolding viewOf
-  cells-is = ap (λ (t : View). t .cells) (o .view) ∙ rw (accepted-has-file b (o .accepted) .dims)
-
-  few : v .cells ≤ 16777216
-  few = let m = small-dims (dimensionsOf b) (accepted-has-file b (o .accepted) .dims) .most in let c = cells-is in omega arith
-
-  some : 0 < v .cells
-  some = let m = cells-least (dimensionsOf b) (accepted-has-file b (o .accepted) .dims) in let c = cells-is in omega arith
-
   module _ (r : ℕ) (h : r < v .words) where
-    small : getD ls r 0 < 16777216
-    small = let k = below-getD (v .cells) ls r some (below-rising 0 (v .cells) ls (positions-rising b v o)) in let f = few in omega arith
-
-    found : (a : Answer) → PositionSearched b v r a → a ≡ given (getD ls r 0)
-    found a s = s .right o ∙ position-inside b v o r h
-
-    pub position-given : (q : ℕ) → PositionSearched b v r (given q) → (q ≡ getD ls r 0) × (q < 16777216)
-    position-given q s = let e : q ≡ getD ls r 0 = ap value (found (given q) s) in let k = small in (e, omega arith)
-
-    pub position-refused : (a : PositionAnswer) → OneOf (1 ∷ []) (tagOf the-type a) → PositionSearched b v r (positionSays a)
-        → (0 ≡ getD ls r 0) × (0 < 16777216)
-    position-refused (pa.Position q) t s = absurd (omega arith)
-    position-refused (pa.Refused n) t s = absurd (let e : 0 ≡ 2 = ap sort (found (refused n) s) in omega arith)
-
     pub first-there : (q x t : ℕ) → x ≡ getD ls r 0 → (t ≡ begins q x) × (t ≤ 1) → (t ≡ firstBegins q (drop r ls)) × (t ≤ 1)
     unfolding firstBegins
     first-there q x t e k = let s = size in (rw (drop-cons ls r 0 (omega arith)) (k .0 ∙ ap (begins q) e), k .1)
@@ -238,7 +197,7 @@ rising-few a B (l ∷ ls) h r = let n = rising-few (suc l) B ls (omega arith) (r
 
 pub few-words : (b : List ℕ) (v : View) → ViewOf b v → v .words ≤ 16777216
 few-words b v o =
-    let f = few b v o in
+    let f = cells-most b v o in
     let g = rising-few 0 (v .cells) (positionsOf b) (omega arith) (positions-rising b v o) in
     let s = positions-size b v o in
     omega arith
@@ -256,7 +215,7 @@ pub runs-found : (b : List ℕ) (v : View) → ViewOf b v → (x : Edit) → Edi
     → RunsFound (length (runs (edited x (positionsOf b)))) total lost won
 runs-found b v o x d k total lost won q t e l w =
     let n = total-runs b v o total t k in
-    let f = few b v o in
+    let f = cells-most b v o in
     let g = rising-few 0 (v .cells) (positionsOf b) (omega arith) (positions-rising b v o) in
     let h = length-runs (positionsOf b) in
     let i = rising-few 0 16777216 (edited x (positionsOf b)) (omega arith) (d .rising) in

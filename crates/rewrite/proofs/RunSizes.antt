@@ -1,4 +1,4 @@
--- An encoder of the counted runs has the sizes of the measured one. Assumes nothing.
+-- An encoder of the counted ranks or runs has the sizes of the measured one. Assumes nothing.
 use Prim.Native.Nat.{ℕ, _+_, _-_, _*_, _≤_}
 use mathlib.Core.Path.{_≡_, refl, sym, ap, subst, _∙_}
 use mathlib.Core.Logic.{_⊎_, ⊎-elim}
@@ -13,6 +13,7 @@ use Rattle.format.specs.declared.View.{View}
 use Rattle.format.specs.Tools.{pick}
 use Rattle.format.specs.Kinds.{codec, settingAllowed}
 use Rattle.format.specs.Runs.{runs, spans, runsKind, runParts}
+use Rattle.format.specs.Positions.{positionsKind, positionParts}
 use Rattle.format.specs.PagedRuns.{pagesKind, pagedParts}
 use Rattle.laws.proofs.Stored.{Rising}
 use Rattle.laws.proofs.Bounds.{length-spansFrom}
@@ -25,7 +26,7 @@ use Rattle.shape.specs.Shape.{measuredBy, SizedAs}
 use Rattle.shape.proofs.Measures.{measures}
 use Rattle.rewrite.specs.declared.Edit.{Edit}
 use Rattle.rewrite.specs.Edit.{edited, EditOf}
-use Rattle.rewrite.specs.RunCount.{runsEncoder}
+use Rattle.rewrite.specs.RunCount.{sizedEncoder}
 use Rattle.rewrite.proofs.RunEdits.{ranks-there}
 use Rattle.positions.proofs.Lookup.{positions-size}
 use Rattle.format.specs.Accepted.{positionsOf}
@@ -33,13 +34,13 @@ use Rattle.header.specs.Search.{ViewOf}
 
 module _ (ls : List ℕ) (rise : Rising 0 16777216 ls) (n z : ℕ) (p : n ≡ length ls) (q : z ≡ 8 * length (runs ls)) where
   abbrev Sized : Setting → Type 0
-  Sized s = settingAllowed s ≡ true → storesRuns (s .kind) → SizedAs (runsEncoder (s .kind) n z) (measuredBy s ls)
+  Sized s = settingAllowed s ≡ true → storesRuns (s .kind) → SizedAs (sizedEncoder (s .kind) n z) (measuredBy s ls)
 
   most : 16777216 ≤ 16777216
   most = omega arith
 
   runs-sized : Sized (setting 1 0 0)
-  unfolding runsEncoder codec runsKind runParts
+  unfolding sizedEncoder codec runsKind runParts
   runs-sized a h =
       let s = setting 1 0 0 in
       let m = measures s a 16777216 ls most rise refl in
@@ -52,7 +53,7 @@ module _ (ls : List ℕ) (rise : Rising 0 16777216 ls) (n z : ℕ) (p : n ≡ le
       }
 
   pages-sized : (b : ℕ) → Sized (setting 5 0 b)
-  unfolding runsEncoder codec pagesKind pagedParts spans
+  unfolding sizedEncoder codec pagesKind pagedParts spans
   pages-sized b a h =
       let s = setting 5 0 b in
       let m = measures s a 16777216 ls most rise refl in
@@ -68,7 +69,7 @@ module _ (ls : List ℕ) (rise : Rising 0 16777216 ls) (n z : ℕ) (p : n ≡ le
   never : (s : Setting) → (s .kind ≡ 1 → ⊥) → (s .kind ≡ 5 → ⊥) → Sized s
   never s f g a h = absurd (⊎-elim f g h)
 
-  pub counted-sized : (s : Setting) → settingAllowed s ≡ true → storesRuns (s .kind) → (e : Encoder) → e ≡ runsEncoder (s .kind) n z → SizedAs e (measuredBy s ls)
+  pub counted-sized : (s : Setting) → settingAllowed s ≡ true → storesRuns (s .kind) → (e : Encoder) → e ≡ sizedEncoder (s .kind) n z → SizedAs e (measuredBy s ls)
   counted-sized s a h e t =
       subst (λ (x : Encoder). SizedAs x (measuredBy s ls)) (sym t)
       (by-kind Sized
@@ -79,6 +80,36 @@ module _ (ls : List ℕ) (rise : Rising 0 16777216 ls) (n z : ℕ) (p : n ≡ le
         jumps = λ w w1 w2. never (setting 4 w 0) (λ x. omega arith) (λ x. omega arith);
         paged = λ b b1 b2. pages-sized b;
       }) s a a h)
+
+-- kind 2: 4 bytes for each rank
+module _ (ls : List ℕ) (rise : Rising 0 16777216 ls) (n : ℕ) (p : n ≡ length ls) where
+  abbrev Listed : Setting → Type 0
+  Listed s = settingAllowed s ≡ true → s .kind ≡ 2 → SizedAs (sizedEncoder 2 n (4 * n)) (measuredBy s ls)
+
+  positions-sized : Listed (setting 2 0 0)
+  unfolding sizedEncoder codec positionsKind positionParts
+  positions-sized a h =
+      let s = setting 2 0 0 in
+      let l : 16777216 ≤ 16777216 = omega arith in
+      let m = measures s a 16777216 ls l rise refl in
+      let k = known 16777216 ls l rise s a refl in
+      record {
+        rank = p ∙ sym (m .rank);
+        first = ap (λ (x : ℕ). 4 * x) p ∙ sym (m .first (λ e. omega arith) ∙ k .first-size);
+        second = sym (m .second);
+        fits = sym (measured s a ls 0 0 .fits);
+      }
+
+  listed-sized : (s : Setting) → settingAllowed s ≡ true → s .kind ≡ 2 → SizedAs (sizedEncoder 2 n (4 * n)) (measuredBy s ls)
+  listed-sized s a h =
+      by-kind Listed
+      (record {
+        runs = λ a h. absurd (omega arith);
+        positions = positions-sized;
+        based = λ w l w1 w2 l1 l2 a h. absurd (omega arith);
+        jumps = λ w w1 w2 a h. absurd (omega arith);
+        paged = λ b b1 b2 a h. absurd (omega arith);
+      }) s a a h
 
 -- how many ranks there are after the edit
 length-put : (t : Bool) (p : ℕ) → length (pick t (p ∷ []) []) ≡ pick t 1 0
@@ -102,20 +133,27 @@ edited-length x ls n h k e =
 -- ---- as the code makes it
 
 module _ (k n z : ℕ) where
-  pub encoder-one : k ≡ 1 → record { rank = n; last = 0; left = 0; base = 0; cells = 0; empty = 0; first = z; second = 0; fits = true } ≡ runsEncoder k n z
-  unfolding runsEncoder
-  encoder-one e = rw (eq-eqb k 1 e)
+  pub encoder-five : k ≡ 5 → record { rank = n; last = 0; left = 0; base = 0; cells = 0; empty = 0; first = 0; second = z; fits = true } ≡ sizedEncoder k n z
+  unfolding sizedEncoder
+  encoder-five e = rw (eq-eqb k 5 e)
 
-  pub encoder-other : (k ≡ 1 → ⊥)
-      → record { rank = n; last = 0; left = 0; base = 0; cells = 0; empty = 0; first = 0; second = z; fits = true } ≡ runsEncoder k n z
-  unfolding runsEncoder
-  encoder-other e = rw (ne-eqb k 1 e)
+  pub encoder-other : (k ≡ 5 → ⊥)
+      → record { rank = n; last = 0; left = 0; base = 0; cells = 0; empty = 0; first = z; second = 0; fits = true } ≡ sizedEncoder k n z
+  unfolding sizedEncoder
+  encoder-other e = rw (ne-eqb k 5 e)
 
-pub counted-after : (b : List ℕ) (v : View) → ViewOf b v → (x : Edit) → EditOf b x → (s : Setting) → settingAllowed s ≡ true → storesRuns (s .kind)
-    → (n r : ℕ) (e : Encoder) → n ≡ x .before + (v .words - x .after) + pick (x .put) 1 0 → r ≡ length (runs (edited x (positionsOf b)))
-    → e ≡ runsEncoder (s .kind) n (8 * r) → SizedAs e (measuredBy s (edited x (positionsOf b)))
-counted-after b v o x d s a h n r e p q t =
-    let l = positions-size b v o in
-    let k = ranks-there b v o x d .1 in
-    counted-sized (edited x (positionsOf b)) (d .rising) n (8 * r) (edited-length x (positionsOf b) n (d .ordered) (omega arith) (p ∙ rw l refl))
-    (ap (λ (y : ℕ). 8 * y) q) s a h e t
+module _ (b : List ℕ) (v : View) (o : ViewOf b v) (x : Edit) (d : EditOf b x) (s : Setting) (a : settingAllowed s ≡ true)
+    (n : ℕ) (p : n ≡ x .before + (v .words - x .after) + pick (x .put) 1 0) where
+  ranks : n ≡ length (edited x (positionsOf b))
+  ranks =
+      let l = positions-size b v o in
+      let k = ranks-there b v o x d .1 in
+      edited-length x (positionsOf b) n (d .ordered) (omega arith) (p ∙ rw l refl)
+
+  pub counted-after : storesRuns (s .kind) → (r : ℕ) (e : Encoder) → r ≡ length (runs (edited x (positionsOf b))) → e ≡ sizedEncoder (s .kind) n (8 * r)
+      → SizedAs e (measuredBy s (edited x (positionsOf b)))
+  counted-after h r e q t = counted-sized (edited x (positionsOf b)) (d .rising) n (8 * r) ranks (ap (λ (y : ℕ). 8 * y) q) s a h e t
+
+  pub listed-after : s .kind ≡ 2 → (e : Encoder) → e ≡ sizedEncoder 2 n (4 * n) → SizedAs e (measuredBy s (edited x (positionsOf b)))
+  listed-after h e t =
+      subst (λ (y : Encoder). SizedAs y (measuredBy s (edited x (positionsOf b)))) (sym t) (listed-sized (edited x (positionsOf b)) (d .rising) n ranks s a h)

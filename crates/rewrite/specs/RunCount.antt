@@ -1,6 +1,6 @@
 -- How many runs stored positions have, counted along them. Assumes nothing.
 use Prim.Native.Nat.{ℕ, zero, suc, _+_}
-use mathlib.Core.Bool.{true, false}
+use mathlib.Core.Bool.{true}
 use mathlib.Core.List.{List, [], _∷_}
 use lib.Dec.{eqb}
 use Rattle.format.specs.Tools.{pick}
@@ -30,9 +30,9 @@ firstBegins q (l ∷ ls) = begins q l
 unfoldable pub joint : ℕ → List ℕ → List ℕ → ℕ
 joint q m ys = runCount q m + firstBegins (endAfter q m) ys
 
--- an encoder of n ranks, with a part of z bytes: the first part in kind 1, the second in kind 5
-unfoldable pub runsEncoder : ℕ → ℕ → ℕ → Encoder
-runsEncoder k n z =
+-- an encoder of n ranks, with a part of z bytes: the second part in kind 5, else the first
+unfoldable pub sizedEncoder : ℕ → ℕ → ℕ → Encoder
+sizedEncoder k n z =
     record {
       rank = n;
       last = 0;
@@ -40,7 +40,7 @@ runsEncoder k n z =
       base = 0;
       cells = 0;
       empty = 0;
-      first = pick (eqb k 1) z 0;
-      second = pick (eqb k 1) 0 z;
+      first = pick (eqb k 5) 0 z;
+      second = pick (eqb k 5) z 0;
       fits = true;
     }

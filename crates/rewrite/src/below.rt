@@ -1,11 +1,10 @@
 // How many stored positions of a file are below one: a binary search over the ranks, or for kind 4 one pass.
-use super::walk::batch_of;
+use cursor::batch::batch_of;
 use cursor::batch::positions;
 use cursor::start;
-use format::PositionAnswer;
 use format::Rank;
 use format::View;
-use search::position_in;
+use search::stored_position;
 ghost use Prim.Native.Nat.{_<_};
 ghost use mathlib.Core.Path.{_≡_};
 ghost use lib.ListN.{getD};
@@ -50,10 +49,7 @@ fn rank_is_below(file: &[u8], v: View, r: u32, p: u32) -> bool
     requires { ⌜ ViewOf (now file) v × (r < v .words) ⌝ }
     ensures { λ t. ⌜ t ≡ ltb (getD (positionsOf (now (file .entry))) r 0) p ⌝ }
 {
-    let answer = position_in(file, v, Rank(r));
-    let PositionAnswer::Position(q) = answer else {
-        return false;
-    };
+    let q = stored_position(file, v, Rank(r));
     q.0 < p
 }
 

@@ -1,18 +1,18 @@
-// What a file measures after an edit, where source and target store runs: the runs are counted from the edit's neighbours, without a pass.
+// What a file measures after an edit, without a pass where the sizes follow from less: in kind 2 from the number of ranks; where source and
+// target store runs, from the runs, which are counted from the edit's neighbours.
 use super::Edit;
 use super::parts::measure;
 use super::runs::stores_runs;
 use encode::state::Encoder;
-use format::PositionAnswer;
 use format::Rank;
 use format::Setting;
 use format::View;
-use search::position_in;
+use search::stored_position;
 ghost use mathlib.Core.Path.{_≡_};
 ghost use mathlib.Core.Bool.{true};
 ghost use mathlib.Core.List.{[], _∷_};
-ghost use Prim.Native.Nat.{_≤_, _<_};
-ghost use lib.ListN.{length, getD, take, drop};
+ghost use Prim.Native.Nat.{_+_, _-_, _≤_, _<_};
+ghost use lib.ListN.{length, take, drop};
 ghost use lib.Dec.{eqb};
 ghost use Rattle.format.specs.Tools.{pick};
 ghost use Rattle.format.specs.Runs.{runs};
@@ -22,7 +22,7 @@ ghost use Rattle.format.specs.Kinds.{settingAllowed};
 ghost use Rattle.encode.specs.Batch.{storesRuns};
 ghost use Rattle.shape.specs.Shape.{measuredBy, SizedAs};
 ghost use Rattle.rewrite.specs.Edit.{edited, leftOut, EditOf};
-ghost use Rattle.rewrite.specs.RunCount.{begins, firstBegins, endAfter, joint, runsEncoder};
+ghost use Rattle.rewrite.specs.RunCount.{begins, firstBegins, endAfter, joint, sizedEncoder};
 
 // 1 where the stored cell l begins a run, else 0. The stored cell before it ends at `end`, which is 0 where there is none.
 fn run_begins(end: u32, l: u32) -> u32
@@ -34,18 +34,6 @@ fn run_begins(end: u32, l: u32) -> u32
     if l == end { 0 } else { 1 }
 }
 
-// The position of a rank.
-fn position_at(file: &[u8], v: View, r: u32) -> u32
-    requires { ⌜ ViewOf (now file) v × (r < v .words) ⌝ }
-    ensures { λ p. ⌜ (p ≡ getD (positionsOf (now (file .entry))) r 0) × (p < 16777216) ⌝ }
-{
-    let answer = position_in(file, v, Rank(r));
-    let PositionAnswer::Position(q) = answer else {
-        return 0;
-    };
-    q.0
-}
-
 // 1 where the rank r begins a run, else 0, also where there is no such rank.
 fn rank_begins(file: &[u8], v: View, end: u32, r: u32) -> u32
     requires { ⌜ ViewOf (now file) v × (r ≤ v .words) ⌝ }
@@ -54,7 +42,7 @@ fn rank_begins(file: &[u8], v: View, end: u32, r: u32) -> u32
     if r == v.words {
         return 0;
     }
-    run_begins(end, position_at(file, v, r))
+    run_begins(end, stored_position(file, v, Rank(r)).0)
 }
 
 // Where the rank before r ends; 0 where there is none.
@@ -65,7 +53,7 @@ fn end_before(file: &[u8], v: View, r: u32) -> u32
     if r == 0 {
         return 0;
     }
-    position_at(file, v, r - 1) + 1
+    stored_position(file, v, Rank(r - 1)).0 + 1
 }
 
 // The runs that begin with the cell p, where it is there, and with the rank `after` behind it.
@@ -87,8 +75,8 @@ fn runs_lost(file: &[u8], v: View, end: u32, x: Edit) -> u32
     if x.before == x.after {
         return runs_joined(file, v, end, false, 0, x.after);
     }
-    let m = position_at(file, v, x.before);
-    runs_joined(file, v, end, true, m, x.after)
+    let m = stored_position(file, v, Rank(x.before));
+    runs_joined(file, v, end, true, m.0, x.after)
 }
 
 // The runs of the file.
@@ -116,22 +104,23 @@ fn one_if(t: bool) -> u32
     if t { 1 } else { 0 }
 }
 
-// An encoder of so many ranks, with a part of so many bytes: the first part in kind 1, the second in kind 5.
-fn encoder_of(kind: u32, rank: u32, bytes: usize) -> Encoder
-    ensures { λ r. ⌜ r ≡ runsEncoder kind rank bytes ⌝ }
+// The ranks after the edit.
+fn ranks_after(v: View, x: Edit) -> u32
+    requires { ⌜ (x .before ≤ x .after) × (x .after ≤ v .words) × (v .words ≤ 16777216) ⌝ }
+    ensures { λ r. ⌜ (r ≡ x .before + (v .words - x .after) + pick (x .put) 1 0) × (r ≤ 16777217) ⌝ }
 {
-    if kind == 1 {
-        return Encoder {
-            rank,
-            last: 0,
-            left: 0,
-            base: 0,
-            cells: 0,
-            empty: 0,
-            first: bytes,
-            second: 0,
-            fits: true,
-        };
+    x.before + (v.words - x.after) + one_if(x.put)
+}
+
+// An encoder of so many ranks, with a part of so many bytes: the second part in kind 5, else the first.
+fn encoder_of(kind: u32, rank: u32, bytes: usize) -> Encoder
+    ensures { λ r. ⌜ r ≡ sizedEncoder kind rank bytes ⌝ }
+{
+    let mut first = bytes;
+    let mut second: usize = 0;
+    if kind == 5 {
+        first = 0;
+        second = bytes;
     }
     Encoder {
         rank,
@@ -140,8 +129,8 @@ fn encoder_of(kind: u32, rank: u32, bytes: usize) -> Encoder
         base: 0,
         cells: 0,
         empty: 0,
-        first: 0,
-        second: bytes,
+        first,
+        second,
         fits: true,
     }
 }
@@ -152,15 +141,18 @@ pub fn counted(file: &[u8], v: View, x: Edit, s: Setting) -> Encoder
     ensures { λ r. ⌜ SizedAs r (measuredBy s (edited x (positionsOf (now (file .entry))))) ⌝ }
 {
     let runs = runs_after(file, v, x);
-    let rank = x.before + (v.words - x.after) + one_if(x.put);
-    encoder_of(s.kind, rank, 8 * runs as usize)
+    encoder_of(s.kind, ranks_after(v, x), 8 * runs as usize)
 }
 
-// An encoder with the sizes of the edited positions: counted where source and target store runs, else measured.
+// An encoder with the sizes of the edited positions: measured where they do not follow from less.
 pub fn sized(file: &[u8], v: View, x: Edit, s: Setting) -> Encoder
     requires { ⌜ ViewOf (now file) v × EditOf (now file) x × (settingAllowed s ≡ true) ⌝ }
     ensures { λ r. ⌜ SizedAs r (measuredBy s (edited x (positionsOf (now (file .entry))))) ⌝ }
 {
+    if s.kind == 2 {
+        let ranks = ranks_after(v, x);
+        return encoder_of(2, ranks, 4 * ranks as usize);
+    }
     if stores_runs(s.kind) {
         if stores_runs(v.kind) {
             return counted(file, v, x, s);

@@ -1,11 +1,10 @@
 // A stretch of ranks of a file into an encoder, by runs or in batches: to measure, and to write.
 use super::Edit;
-use super::runs::measure_pages;
 use super::runs::measure_runs;
-use super::runs::put_pages;
 use super::runs::put_runs;
 use super::runs::stores_runs;
 use cursor::Cursor;
+use cursor::batch::batch_of;
 use cursor::batch::positions;
 use cursor::next;
 use encode::advance;
@@ -17,7 +16,7 @@ use format::Setting;
 use format::View;
 ghost use mathlib.Core.Path.{_≡_};
 ghost use mathlib.Core.Bool.{true};
-ghost use Prim.Native.Nat.{_≤_, _<_};
+ghost use Prim.Native.Nat.{_<_};
 ghost use lib.ListN.{length};
 ghost use Rattle.format.specs.Kinds.{settingAllowed};
 ghost use Rattle.cursor.specs.Cursor.{walked, steppedBy};
@@ -29,16 +28,6 @@ ghost use Rattle.rewrite.specs.Walk.{along, added};
 pub struct Walk {
     pub c: Cursor,
     pub e: Encoder,
-}
-
-// The ranks of a batch where so many are left.
-pub fn batch_of(left: u32) -> usize
-    ensures { λ r. ⌜ (r ≤ left) × (r ≤ 512) × (0 < left → 0 < r) ⌝ }
-{
-    if left < 512 {
-        return left as usize;
-    }
-    512
 }
 
 // The cursor n ranks on.
@@ -98,11 +87,8 @@ pub fn measure_ranks(file: &[u8], v: View, s: Setting, c: Cursor, e: Encoder, n:
     ensures { λ r. ⌜ r ≡ along s (now (file .entry)) v c e n ⌝ }
 {
     if stores_runs(s.kind) {
-        if v.kind == 1 {
+        if stores_runs(v.kind) {
             return measure_runs(file, v, s, c, e, n);
-        }
-        if v.kind == 5 {
-            return measure_pages(file, v, s, c, e, n);
         }
     }
     measure_batches(file, v, s, c, e, n)
@@ -122,11 +108,8 @@ pub fn put_ranks(
     ensures { λ r. ⌜ (r ≡ along s (now (file .entry)) v c e n) × (now (dst .exit) ≡ putAllBy (coder s) (now (dst .entry)) e (walked (now (file .entry)) v c n)) ⌝ }
 {
     if stores_runs(s.kind) {
-        if v.kind == 1 {
+        if stores_runs(v.kind) {
             return put_runs(dst, file, v, s, c, e, n);
-        }
-        if v.kind == 5 {
-            return put_pages(dst, file, v, s, c, e, n);
         }
     }
     put_batches(dst, file, v, s, c, e, n)

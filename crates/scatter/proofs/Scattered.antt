@@ -1,19 +1,19 @@
 -- Stored words scattered over empty cells are the picture's words. Assumes nothing.
 use Prim.Native.Nat.{ℕ, zero, suc, _+_, _-_, _≤_, _<_}
 use mathlib.Core.Path.{_≡_, refl, sym, ap, _∙_}
-use mathlib.Core.Bool.{Bool, true, false}
-use mathlib.Core.List.{List, [], _∷_, _++_, append-assoc, append-nil}
+use mathlib.Core.Bool.{true, false}
+use mathlib.Core.List.{List, [], _∷_, _++_, append-assoc}
 use native.Mathlib.Numerals.{add-one}
 use native.Mathlib.Omega.{arith}
 use lib.Arith.{lt-of-le-ne}
-use lib.ListN.{length, drop, set, replicate, length-append, length-replicate, length-set, length-drop}
-use lib.Seq.{drop-cons, append-snoc}
+use lib.ListN.{length, drop, set, replicate, length-append, length-replicate, length-set}
+use lib.Seq.{drop-cons}
 use lib.Dec.{eqb}
 use borrow.Author.Tests.{eqb-true, eqb-false}
-use Rattle.format.specs.Tools.{pick, first, others}
+use Rattle.format.specs.Tools.{first, others}
 use Rattle.format.specs.Stored.{placedFrom, placed}
 use Rattle.laws.proofs.Tools.{cases}
-use Rattle.laws.proofs.Stored.{Rising, rising-weaken}
+use Rattle.laws.proofs.Stored.{Rising}
 use Rattle.scatter.specs.Scatter.{scattered}
 
 -- an element set just after a beginning

@@ -1,4 +1,5 @@
 // A file's words into a destination, batch by batch: the cells up to a batch's last position become empty, then each stored word comes to its position.
+use cursor::batch::batch_of;
 use cursor::batch::positions;
 use cursor::start;
 use format::View;
@@ -6,7 +7,7 @@ use header::places::words_at;
 use wire::get_u32;
 ghost use mathlib.Core.Path.{_≡_};
 ghost use mathlib.Core.List.{_++_};
-ghost use Prim.Native.Nat.{_+_, _-_, _*_, _≤_, _<_, _^_};
+ghost use Prim.Native.Nat.{_+_, _-_, _*_, _≤_, _<_};
 ghost use lib.ListN.{length, take, drop, replicate};
 ghost use Rattle.format.specs.Tools.{Below};
 ghost use Rattle.format.specs.Accepted.{keptOf, wordsOf};
@@ -31,16 +32,6 @@ fn fill_range(dst: &mut [u32], from: usize, to: usize, x: u32)
     ensures { λ _. ⌜ now (dst .exit) ≡ take from (now (dst .entry)) ++ (replicate (to - from) x ++ drop to (now (dst .entry))) ⌝ }
 {
     fill(&mut dst[from..to], to - from, x);
-}
-
-// The ranks of a batch where so many are left.
-fn batch_of(left: u32) -> usize
-    ensures { λ r. ⌜ (r ≤ left) × (r ≤ 512) × (0 < left → 0 < r) ⌝ }
-{
-    if left < 512 {
-        return left as usize;
-    }
-    512
 }
 
 // The stored words from a rank on, each at its position: `at` has the positions.

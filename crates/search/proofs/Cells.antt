@@ -2,9 +2,8 @@
 use Prim.Native.Nat.{ℕ, zero, suc, _+_, _*_, _≤_, _<_}
 use mathlib.Core.Path.{_≡_, refl, sym, ap, _∙_}
 use mathlib.Core.Logic.{_⊎_, ⊎-elim}
-use mathlib.Core.Bool.{Bool, true, false}
+use mathlib.Core.Bool.{true, false}
 use mathlib.Core.List.{List, [], _∷_}
-use native.Mathlib.Nat.{add-comm}
 use native.Mathlib.Omega.{arith}
 use lib.ListN.{length, getD, take}
 use lib.Dec.{eqb, ltb}
@@ -15,11 +14,9 @@ use Rattle.format.proofs.RankAnswer.{the-type}
 use Rattle.format.specs.declared.View.{View}
 use Rattle.format.specs.declared.RankAnswer.{RankAnswer}
 use Rattle.format.specs.declared.RankAnswer.the-variants as ra
-use Rattle.format.specs.Tools.{pick}
-use Rattle.format.specs.Signals.{BEYOND}
 use Rattle.format.specs.Answers.{Answer, refused, empty, given, rankSays}
 use Rattle.format.specs.Stored.{stored, kept, rankAt}
-use Rattle.format.specs.Accepted.{settingOf, emptyOf, wordsOf, wordsCount, wordsAt, keptOf, checkNumber}
+use Rattle.format.specs.Accepted.{settingOf, emptyOf, wordsOf, wordsCount, wordsAt, keptOf}
 use Rattle.format.specs.Lookups.{cellIn, rankIn}
 use Rattle.format.specs.Opened.{viewOf, Free, FreeWord}
 use Rattle.wire.specs.Wire.{whole}
@@ -32,7 +29,7 @@ use Rattle.laws.proofs.Limits.{small-setting}
 use Rattle.laws.proofs.Acceptance.{accepted, header-right, accepted-has-file}
 use Rattle.header.specs.View.{wordsPlace}
 use Rattle.header.specs.Search.{ViewOf, CellSearched, RankSearched}
-use Rattle.header.proofs.Frame.{Framed, framed}
+use Rattle.header.proofs.Frame.{framed}
 
 -- the word at the rank of a stored cell is the cell's
 kept-at : (E p : ℕ) (ws : List ℕ) → p < length ws → eqb (getD ws p 0) E ≡ false → getD (kept E ws) (length (kept E (take p ws))) 0 ≡ getD ws p 0

@@ -1,4 +1,4 @@
-// The lookups over a view of a file, by the search of its kind. Any bytes and any view are safe.
+// The lookups over a view of a file, by the search of its kind. `rank_in`, `position_in` and `cell_in` are safe on any bytes and any view.
 use format::CellAnswer;
 use format::Position;
 use format::PositionAnswer;
@@ -8,9 +8,11 @@ use format::View;
 use header::places::words_at;
 use wire::load_u32;
 ghost use mathlib.Core.Path.{_≡_};
-ghost use Prim.Native.Nat.{_+_, _*_, _≤_, _<_, _^_};
+ghost use Prim.Native.Nat.{_+_, _*_, _<_};
+ghost use lib.ListN.{getD};
 ghost use Rattle.format.specs.Answers.{cellSays, rankSays, positionSays};
-ghost use Rattle.header.specs.Search.{CellSearched, RankSearched, PositionSearched};
+ghost use Rattle.format.specs.Accepted.{positionsOf};
+ghost use Rattle.header.specs.Search.{ViewOf, CellSearched, RankSearched, PositionSearched};
 
 // The rank at a position, or empty.
 pub fn rank_in(file: &[u8], v: View, p: Position) -> RankAnswer
@@ -40,6 +42,18 @@ pub fn position_in(file: &[u8], v: View, r: Rank) -> PositionAnswer
         5 => paged_runs::search::position_of(file, v, r),
         _ => PositionAnswer::Refused(8),
     }
+}
+
+// The position of a rank of an accepted file.
+pub fn stored_position(file: &[u8], v: View, r: Rank) -> Position
+    requires { ⌜ ViewOf (now file) v × (r .0 < v .words) ⌝ }
+    ensures { λ p. ⌜ (p .0 ≡ getD (positionsOf (now (file .entry))) (r .0) 0) × (p .0 < 16777216) ⌝ }
+{
+    let answer = position_in(file, v, r);
+    let PositionAnswer::Position(p) = answer else {
+        return Position(0);
+    };
+    p
 }
 
 // The word at a position.

@@ -5,7 +5,7 @@ use header::counts::upper_count;
 use heading::Sizes;
 ghost use mathlib.Core.Path.{_≡_};
 ghost use mathlib.Core.Bool.{true};
-ghost use Prim.Native.Nat.{_+_, _*_, _<_, _^_};
+ghost use Prim.Native.Nat.{_+_, _*_};
 ghost use Rattle.format.specs.Kinds.{settingAllowed};
 ghost use Rattle.heading.specs.Counted.{Fitting};
 ghost use Rattle.shape.specs.Shape.{Small, sizesOf, totalOf};

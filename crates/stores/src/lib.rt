@@ -1,8 +1,8 @@
 // Numbers stored in bytes, lowest byte first, where there is room for them.
 ghost use mathlib.Core.Path.{_≡_};
-ghost use Prim.Native.Nat.{_+_, _*_, _≤_, _<_, _^_};
+ghost use Prim.Native.Nat.{_+_, _≤_};
 ghost use lib.ListN.{length};
-ghost use Rattle.format.specs.Bytes.{bytes, bytesOf};
+ghost use Rattle.format.specs.Bytes.{bytes};
 ghost use Rattle.stores.specs.Put.{put};
 
 // The lowest byte of a number.

@@ -1,7 +1,7 @@
 // Numbers in bytes, lowest byte first. `get` asks that the bytes are there; `load` gives 0 where they are not all there.
 ghost use mathlib.Core.Path.{_≡_};
 ghost use Prim.Native.Nat.{_+_, _*_, _≤_, _<_, _^_};
-ghost use lib.ListN.{length, getD};
+ghost use lib.ListN.{length};
 ghost use Rattle.format.specs.Bytes.{field};
 ghost use Rattle.wire.specs.Wire.{whole, entrySize};
 

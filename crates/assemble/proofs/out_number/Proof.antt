@@ -1,12 +1,7 @@
 use borrow.Author.Tests.{not-true, not-false}
 use Rattle.assemble.proofs.Steps.{out-unfit, out-small, out-fits}
-use borrow.Author.Needs.{needs}
 use Rattle.assemble.proofs.out_number.Statement.{statement}
 use Rattle.assemble.proofs.out_number.Tie as tie
-use Rattle.assemble.proofs.out_number.Reads as reads
-use Rattle.assemble.proofs.out_number.Lts as lts
-use Rattle.shape.proofs.sizes.Reads as sizes-reads
-use Rattle.shape.proofs.total.Reads as total-reads
 
 -- src/lib.rt:21:9
 returns : tie.Need-returns

@@ -3,9 +3,6 @@ use Rattle.assemble.proofs.Steps.{upper-put, upper-none}
 use borrow.Author.Needs.{needs}
 use Rattle.assemble.proofs.put_upper.Statement.{statement}
 use Rattle.assemble.proofs.put_upper.Tie as tie
-use Rattle.assemble.proofs.put_upper.Reads as reads
-use Rattle.assemble.proofs.put_upper.Lts as lts
-use Rattle.levels.proofs.put_levels.Reads as put-levels-reads
 
 -- src/lib.rt:35:49
 cast-put-levels : tie.Need-cast-put-levels

@@ -2,29 +2,36 @@
 use mathlib.Core.Path.{_≡_}
 use native.Mathlib.Omega.{arith}
 use lib.ListN.{length}
-use Rattle.box_rows.proofs.Whole.{box-goes, box-done}
+use Rattle.box_rows.proofs.Whole.{box-placed, box-goes, box-done}
 use borrow.Author.Needs.{needs}
 use Rattle.box_rows.proofs.put_box.Statement.{statement}
 use Rattle.box_rows.proofs.put_box.Tie as tie
+
+long-rows-requires : tie.Need-long-rows-requires
+long-rows-requires c κs =
+    let s = c .before .before .before in
+    let low : length (s .args .low) ≡ 4 = search needs in
+    let high : length (s .args .high) ≡ 4 = search needs in
+    box-placed (s .args .file .now) (s .args .v) (s .args .d) (s .args .low) (s .args .high) (s .pre .0) (s .pre .1) low high (s .pre .2)
 
 start-requires : tie.Need-start-requires
 start-requires c κs = search needs
 
 put-from-requires : tie.Need-put-from-requires
 put-from-requires c κs =
-    let s = c .before .before .before .before .before in
-    let low : length (s .args .low) ≡ 4 = search needs in
-    let high : length (s .args .high) ≡ 4 = search needs in
-    (omega arith, box-goes (s .args .file .now) (s .args .v) (s .args .d) (s .args .low) (s .args .high) (s .pre .0) (s .pre .1) (c .before .start .result) _ (c .before .start .ensures) low high (s .pre .2) (s .pre .3))
+    let s = c .before .before .before .before .before .before .before .before .before in
+    let r = c .before .before .before .before .before .long-rows in
+    (omega arith, box-goes (s .args .file .now) (s .args .v) (s .args .d) (s .args .low) (s .args .high) (s .pre .0) (s .pre .1) (r .result) (r .ensures) (c .before .start .result) _ (c .before .start .ensures) (s .pre .3))
 
 same-length : tie.Need-same-length
 same-length c = search needs
 
 returns : tie.Need-returns
 returns c =
-    let s = c .before .before .before .before .before .before .before .before in
-    box-done (s .args .file .now) (s .args .v) (s .args .d) (s .args .low) (s .args .high) (s .pre .0) (s .pre .1) (c .before .before .before .before .start .result) (s .args .dst .now) _ _ (s .pre .3)
+    let s = c .before .before .before .before .before .before .before .before .before .before .before .before in
+    let r = c .before .before .before .before .before .before .before .before .long-rows in
+    box-done (s .args .file .now) (s .args .v) (s .args .d) (s .args .low) (s .args .high) (s .pre .0) (s .pre .1) (r .result) (r .ensures) (c .before .before .before .before .start .result) (s .args .dst .now) _ _ (s .pre .3)
     (c .before .before .put-from .ensures)
 
 pub put-box-spec : {M : Type 1} → statement M
-put-box-spec = tie.close (tie.spec start-requires put-from-requires same-length returns)
+put-box-spec = tie.close (tie.spec long-rows-requires start-requires put-from-requires same-length returns)

@@ -1,10 +1,10 @@
--- Each turn puts one word, and the cells that are left give the row. Assumes nothing.
-use Prim.Native.Nat.{_+_, _-_, _*_, _^_, _<_}
+-- Each turn puts a stored cell's word, or E up to the next one, and the cells that are left give the row. Assumes nothing.
+use Prim.Native.Nat.{_+_, _-_, _*_, _^_, _≤_, _<_}
 use mathlib.Core.Path.{refl, _∙_}
 use native.Mathlib.Omega.{arith}
-use lib.ListN.{length}
+use lib.ListN.{length, replicate}
 use Rattle.box_rows.proofs.Resumed.{cells-few}
-use Rattle.box_rows.proofs.Rows.{word-stored, word-empty, RowLeft, row-start, row-cell, row-turn, row-end}
+use Rattle.box_rows.proofs.Rows.{word-stored, stands-past, words-empty, RowLeft, row-start, row-inside, row-turn, row-word, row-end}
 use borrow.Author.Needs.{needs}
 use Rattle.box_rows.proofs.put_row.Statement.{statement}
 use Rattle.box_rows.proofs.put_row.Tie as tie
@@ -15,21 +15,29 @@ Inv-loop file v from n dst₀ words c₀ p₀ k₀ end dst c p k = RowLeft file 
 abbrev μ-loop : tie.MeasureT-loop
 μ-loop file v from n dst₀ words c₀ p₀ k₀ end dst c p k = k₀ + n - k
 
--- the cell lies in the picture, and its word in the destination
-inside : (c : tie.In-loop Inv-loop μ-loop) → c .before .loop .p < c .before .before .before .before .before .before .args .v .cells
-inside c =
+-- m cells more lie in the picture, and their words in the destination
+inside : (c : tie.In-loop Inv-loop μ-loop) (m : Prim.Native.Nat.ℕ) → c .before .loop .k + m ≤ c .before .before .before .before .before .before .args .s .words + c .before .before .before .before .before .before .args .n
+    → c .before .loop .p + m ≤ c .before .before .before .before .before .before .args .v .cells
+inside c m h =
     let s = c .before .before .before .before .before .before in
     let l = c .before .loop in
-    row-cell (s .args .file .now) (s .args .v) (s .args .from) (s .args .n) (s .args .s .words) (s .args .dst .now) (l .dst) (l .c) (l .p) (l .k) (l .inv) (s .args .v .cells) (c .loop-test .taken) (s .pre .inside)
+    row-inside (s .args .file .now) (s .args .v) (s .args .from) (s .args .n) (s .args .s .words) (s .args .dst .now) (l .dst) (l .c) (l .p) (l .k) (l .inv) m (s .args .v .cells) h (s .pre .inside)
 
-few : (c : tie.In-loop Inv-loop μ-loop) → c .before .loop .p < 16777216
-few c = let h = inside c in let s = c .before .before .before .before .before .before in let m = cells-few (s .args .file .now) (s .args .v) (s .pre .view) in omega arith
+few : (c : tie.In-loop Inv-loop μ-loop) → c .before .before .before .before .before .before .args .v .cells ≤ 16777216
+few c = let s = c .before .before .before .before .before .before in cells-few (s .args .file .now) (s .args .v) (s .pre .view)
+
+cell : (c : tie.In-loop Inv-loop μ-loop) → c .before .loop .p < c .before .before .before .before .before .before .args .v .cells
+cell c = let h = inside c 1 (omega (arith, c .loop-test .taken)) in omega arith
 
 there : (c : tie.In-loop Inv-loop μ-loop) → c .before .loop .k < length (c .before .loop .dst)
 there c = let h = c .before .before .before .before .before .before .pre .fits in let e = c .before .loop .inv .size in let k = c .loop-test .taken in omega arith
 
 offset : (c : tie.In-loop Inv-loop μ-loop) → c .before .loop .k * 4 < 2 ^ 64
 offset c = let h = there c in search needs
+
+-- the empty cells of a turn
+more : (c : tie.After-empty-ahead Inv-loop μ-loop) → c .before .before .before .before .before .loop .k + c .empty-ahead .result ≤ c .before .before .before .before .before .before .before .before .before .before .args .s .words + c .before .before .before .before .before .before .before .before .before .before .args .n
+more c = let e = c .empty-ahead .ensures .0 in let k = c .before .before .before .before .loop-test .taken in omega arith
 
 words-at-requires : tie.Need-words-at-requires Inv-loop μ-loop
 words-at-requires c κs = search needs
@@ -43,34 +51,66 @@ loop-holds c =
     row-start (s .args .file .now) (s .args .v) (s .args .from) (s .args .n) (s .args .s .words) (s .args .dst .now) (s .args .s .cursor) (s .pre .ready)
 
 rank-from-requires : tie.Need-rank-from-requires Inv-loop μ-loop
-rank-from-requires c κs = (c .before .before .before .before .before .before .pre .view, inside c, c .before .loop .inv .ready)
-
-add-k : tie.Need-add-k Inv-loop μ-loop
-add-k c = let h = c .before .before .before .before .before .before .before .before .pre .fits in let k = c .before .before .loop-test .taken in search needs
-
-add-p : tie.Need-add-p Inv-loop μ-loop
-add-p c = let h = few (c .before .before) in search needs
+rank-from-requires c κs = (c .before .before .before .before .before .before .pre .view, cell c, c .before .loop .inv .ready)
 
 enum-known-answer : tie.Need-enum-known-answer Inv-loop μ-loop
 enum-known-answer c = search needs
 
-mul-dst : tie.Need-mul-dst Inv-loop μ-loop
-mul-dst c = record { fits = offset (c .before .before .before) }
+sub-empty-ahead : tie.Need-sub-empty-ahead Inv-loop μ-loop
+sub-empty-ahead c = let k = c .before .before .before .loop-test .taken in omega arith
 
-slice-write-dst : tie.Need-slice-write-dst Inv-loop μ-loop
-slice-write-dst c = there (c .before .before .before)
+empty-ahead-requires : tie.Need-empty-ahead-requires Inv-loop μ-loop
+empty-ahead-requires c κs =
+    let s = c .before .before .before .before .before .before .before .before .before in
+    let r = c .before .before .rank-from in
+    stands-past (s .args .file .now) (s .args .v) (s .pre .view) (c .before .before .before .before .loop .p) (cell (c .before .before .before)) (r .result .cursor) (r .ensures .1) (r .result .answer) (c .match .keys2) (r .ensures .0)
+
+fill-from-requires : tie.Need-fill-from-requires Inv-loop μ-loop
+fill-from-requires c κs =
+    let h = c .before .before .before .before .before .before .before .before .before .before .before .pre .fits in
+    let e = c .before .before .before .before .before .before .loop .inv .size in
+    let m = more (c .before) in
+    omega arith
+
+add-k : tie.Need-add-k Inv-loop μ-loop
+add-k c =
+    let h = offset (c .before .before .before .before .before .before .before .before) in
+    let i = inside (c .before .before .before .before .before .before .before .before) _ (more (c .before .before .before .before)) in
+    let f = few (c .before .before .before .before .before .before .before .before) in
+    record { fits = omega arith }
+
+cast-p : tie.Need-cast-p Inv-loop μ-loop
+cast-p c =
+    let i = inside (c .before .before .before .before .before .before .before .before) _ (more (c .before .before .before .before)) in
+    let f = few (c .before .before .before .before .before .before .before .before) in
+    search needs
+
+add-p : tie.Need-add-p Inv-loop μ-loop
+add-p c =
+    let i = inside (c .before .before .before .before .before .before .before .before) _ (more (c .before .before .before .before)) in
+    let f = few (c .before .before .before .before .before .before .before .before) in
+    search needs
 
 loop-less : tie.Need-loop-less Inv-loop μ-loop
-loop-less c = let k = c .before .before .before .loop-test .taken in omega arith
+loop-less c =
+    let k = c .before .before .before .before .before .before .before .before .loop-test .taken in
+    let e = c .before .before .before .before .empty-ahead .ensures in
+    let m = e .1 (omega arith) in
+    let l = more (c .before .before .before .before) in
+    omega arith
 
 loop-again : tie.Need-loop-again Inv-loop μ-loop
 loop-again c =
-    let s = c .before .before .before .before .before .before .before .before .before in
-    let l = c .before .before .before .before .loop in
-    let r = c .before .before .rank-from in
-    let x = word-empty (s .args .file .now) (s .args .v) (s .pre .view) (l .p) (inside (c .before .before .before)) (r .result .answer) (c .match .keys2) (r .ensures .0) in
+    let s = c .before .before .before .before .before .before .before .before .before .before .before .before .before .before in
+    let l = c .before .before .before .before .before .before .before .before .before .loop in
+    let r = c .before .before .before .before .before .before .before .rank-from in
+    let a = c .before .before .before .before .empty-ahead in
+    let h = more (c .before .before .before .before) in
+    let i = inside (c .before .before .before .before .before .before .before .before) (a .result) h in
+    let y = r .ensures .1 .ready in
     row-turn (s .args .file .now) (s .args .v) (s .args .from) (s .args .n) (s .args .s .words) (s .args .dst .now) (l .dst) (l .c) (l .p) (l .k) (l .inv)
-    (r .result .cursor) (s .args .v .empty) (c .before .before .before .loop-test .taken) x (r .ensures .1)
+    (r .result .cursor) (a .result) (replicate (a .result) (s .args .v .empty)) _ h
+    (words-empty (s .args .file .now) (s .args .v) (s .pre .view) (r .result .cursor) (l .p) (a .result) y i (a .ensures .2)) (c .before .before .fill-from .ensures) y
 
 cast-load-u32 : tie.Need-cast-load-u32 Inv-loop μ-loop
 cast-load-u32 c = search needs
@@ -84,11 +124,20 @@ add-load-u32 c = search needs
 load-u32-requires : tie.Need-load-u32-requires Inv-loop μ-loop
 load-u32-requires c κs = search needs
 
-mul-dst-2 : tie.Need-mul-dst-2 Inv-loop μ-loop
-mul-dst-2 c = record { fits = offset (c .before .before .before .before .before .before .before) }
+mul-dst : tie.Need-mul-dst Inv-loop μ-loop
+mul-dst c = record { fits = offset (c .before .before .before .before .before .before .before) }
 
-slice-write-dst-2 : tie.Need-slice-write-dst-2 Inv-loop μ-loop
-slice-write-dst-2 c = there (c .before .before .before .before .before .before .before)
+slice-write-dst : tie.Need-slice-write-dst Inv-loop μ-loop
+slice-write-dst c = there (c .before .before .before .before .before .before .before)
+
+add-k-2 : tie.Need-add-k-2 Inv-loop μ-loop
+add-k-2 c = let h = there (c .before .before .before .before .before .before .before) in let m = offset (c .before .before .before .before .before .before .before) in search needs
+
+add-p-2 : tie.Need-add-p-2 Inv-loop μ-loop
+add-p-2 c =
+    let h = cell (c .before .before .before .before .before .before .before) in
+    let f = few (c .before .before .before .before .before .before .before) in
+    search needs
 
 loop-less-2 : tie.Need-loop-less-2 Inv-loop μ-loop
 loop-less-2 c = let k = c .before .before .before .before .before .before .before .loop-test .taken in omega arith
@@ -98,9 +147,9 @@ loop-again-2 c =
     let s = c .before .before .before .before .before .before .before .before .before .before .before .before .before in
     let l = c .before .before .before .before .before .before .before .before .loop in
     let r = c .before .before .before .before .before .before .rank-from in
-    let x = word-stored (s .args .file .now) (s .args .v) (s .pre .view) (l .p) (inside (c .before .before .before .before .before .before .before)) (r .result .answer) _ (c .before .before .before .answer .given .1) (r .ensures .0) in
-    row-turn (s .args .file .now) (s .args .v) (s .args .from) (s .args .n) (s .args .s .words) (s .args .dst .now) (l .dst) (l .c) (l .p) (l .k) (l .inv)
-    (r .result .cursor) (c .load-u32 .result) (c .before .before .before .before .before .before .before .loop-test .taken) (c .load-u32 .ensures .0 ∙ rw (c .before .before .before .before .before .before .before .before .before .before .words-at .ensures .0) x) (r .ensures .1)
+    let x = word-stored (s .args .file .now) (s .args .v) (s .pre .view) (l .p) (cell (c .before .before .before .before .before .before .before)) (r .result .answer) _ (c .before .before .before .answer .given .1) (r .ensures .0) in
+    row-word (s .args .file .now) (s .args .v) (s .args .from) (s .args .n) (s .args .s .words) (s .args .dst .now) (l .dst) (l .c) (l .p) (l .k) (l .inv)
+    (r .result .cursor) (c .load-u32 .result) (c .before .before .before .before .before .before .before .loop-test .taken) (c .load-u32 .ensures .0 ∙ rw (c .before .before .before .before .before .before .before .before .before .before .words-at .ensures .0) x) (r .ensures .1 .ready)
 
 same-length : tie.Need-same-length Inv-loop μ-loop
 same-length c = c .before .loop .inv .size
@@ -121,19 +170,23 @@ put-row-spec =
     add-end
     loop-holds
     rank-from-requires
-    add-k
-    add-p
     enum-known-answer
-    mul-dst
-    slice-write-dst
+    sub-empty-ahead
+    empty-ahead-requires
+    fill-from-requires
+    add-k
+    cast-p
+    add-p
     loop-less
     loop-again
     cast-load-u32
     mul-load-u32
     add-load-u32
     load-u32-requires
-    mul-dst-2
-    slice-write-dst-2
+    mul-dst
+    slice-write-dst
+    add-k-2
+    add-p-2
     loop-less-2
     loop-again-2
     same-length

@@ -1,5 +1,5 @@
 -- `measure_chunk` meets its contract: the batch holds the stored positions. Assumes nothing.
-use mathlib.Core.Path.{_≡_, ap, _∙_}
+use mathlib.Core.Path.{ap, _∙_}
 use Rattle.encode.specs.Encoder.{takenAll}
 use Rattle.picture.proofs.Chunks.{front}
 use borrow.Author.Needs.{needs}

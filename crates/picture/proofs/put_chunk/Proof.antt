@@ -1,5 +1,5 @@
 -- `put_chunk` meets its contract: the batch holds the stored positions, and stays as it is. Assumes nothing.
-use mathlib.Core.Path.{_≡_, ap, _∙_}
+use mathlib.Core.Path.{ap, _∙_}
 use native.Mathlib.Omega.{arith}
 use Rattle.encode.specs.Encoder.{takenAll}
 use Rattle.picture.specs.Chunk.{putChunk}

@@ -7,8 +7,6 @@ use Rattle.scatter.proofs.Scattered.{fill-turn}
 use borrow.Author.Needs.{needs}
 use Rattle.scatter.proofs.fill.Statement.{statement}
 use Rattle.scatter.proofs.fill.Tie as tie
-use Rattle.scatter.proofs.fill.Reads as reads
-use Rattle.scatter.proofs.fill.Lts as lts
 
 abbrev Inv-loop : tie.InvT-loop
 Inv-loop dst₀ n x i₀ dst i = (i ≤ n) × (length dst ≡ length dst₀) × (dst ≡ replicate i x ++ drop i dst₀)

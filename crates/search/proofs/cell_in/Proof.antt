@@ -6,11 +6,6 @@ use Rattle.search.proofs.Cells.{cellBy, cell-searched, cell-empty}
 use borrow.Author.Needs.{needs}
 use Rattle.search.proofs.cell_in.Statement.{statement}
 use Rattle.search.proofs.cell_in.Tie as tie
-use Rattle.search.proofs.cell_in.Reads as reads
-use Rattle.search.proofs.cell_in.Lts as lts
-use Rattle.header.proofs.places.words_at.Reads as words-at-reads
-use Rattle.search.proofs.rank_in.Reads as rank-in-reads
-use Rattle.wire.proofs.load_u32.Reads as load-u32-reads
 
 -- src/lib.rt:49:9
 rank-in-requires : tie.Need-rank-in-requires

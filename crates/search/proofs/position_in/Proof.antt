@@ -3,13 +3,6 @@ use Rattle.search.proofs.Cells.{kind-known, no-kind}
 use borrow.Author.Needs.{needs}
 use Rattle.search.proofs.position_in.Statement.{statement}
 use Rattle.search.proofs.position_in.Tie as tie
-use Rattle.search.proofs.position_in.Reads as reads
-use Rattle.search.proofs.position_in.Lts as lts
-use Rattle.base_offset.proofs.search.position_of.Reads as search-position-of-reads
-use Rattle.jumps.proofs.search.position_of.Reads as search-position-of-reads′
-use Rattle.paged_runs.proofs.search.position_of.Reads as search-position-of-reads′′
-use Rattle.positions.proofs.search.position_of.Reads as search-position-of-reads′′′
-use Rattle.runs.proofs.search.position_of.Reads as search-position-of-reads′′′′
 
 -- src/lib.rt:36:14
 position-of-requires : tie.Need-position-of-requires

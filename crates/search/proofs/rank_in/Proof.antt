@@ -3,13 +3,6 @@ use Rattle.search.proofs.Cells.{kind-known, no-kind}
 use borrow.Author.Needs.{needs}
 use Rattle.search.proofs.rank_in.Statement.{statement}
 use Rattle.search.proofs.rank_in.Tie as tie
-use Rattle.search.proofs.rank_in.Reads as reads
-use Rattle.search.proofs.rank_in.Lts as lts
-use Rattle.base_offset.proofs.search.rank_at.Reads as search-rank-at-reads
-use Rattle.jumps.proofs.search.rank_at.Reads as search-rank-at-reads′
-use Rattle.paged_runs.proofs.search.rank_at.Reads as search-rank-at-reads′′
-use Rattle.positions.proofs.search.rank_at.Reads as search-rank-at-reads′′′
-use Rattle.runs.proofs.search.rank_at.Reads as search-rank-at-reads′′′′
 
 -- src/lib.rt:21:14
 rank-at-requires : tie.Need-rank-at-requires

@@ -3,9 +3,6 @@ use Rattle.shape.proofs.Measures.{sizes-at, sizes-other, pages}
 use borrow.Author.Needs.{needs}
 use Rattle.shape.proofs.sizes.Statement.{statement}
 use Rattle.shape.proofs.sizes.Tie as tie
-use Rattle.shape.proofs.sizes.Reads as reads
-use Rattle.shape.proofs.sizes.Lts as lts
-use Rattle.header.proofs.counts.upper_count.Reads as upper-count-reads
 
 -- src/lib.rt:18:17
 cast-first : tie.Need-cast-first

@@ -1,11 +1,7 @@
 use Rattle.stores.proofs.Laws.{put-1}
-use native.Mathlib.Omega.{arith}
-use lib.ListN.{length-set}
 use borrow.Author.Needs.{needs}
 use Rattle.stores.proofs.put_u8.Statement.{statement}
 use Rattle.stores.proofs.put_u8.Tie as tie
-use Rattle.stores.proofs.put_u8.Reads as reads
-use Rattle.stores.proofs.put_u8.Lts as lts
 
 -- src/lib.rt:13:15
 cast-dst : tie.Need-cast-dst

@@ -3,8 +3,6 @@ use Rattle.wire.proofs.Laws.{size-none}
 use borrow.Author.Needs.{needs}
 use Rattle.wire.proofs.entry_size.Statement.{statement}
 use Rattle.wire.proofs.entry_size.Tie as tie
-use Rattle.wire.proofs.entry_size.Reads as reads
-use Rattle.wire.proofs.entry_size.Lts as lts
 
 -- src/lib.rt:71:1
 returns : tie.Need-returns

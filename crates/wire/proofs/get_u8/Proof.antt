@@ -3,9 +3,6 @@ use Rattle.wire.proofs.Laws.{field-1}
 use borrow.Author.Needs.{needs}
 use Rattle.wire.proofs.get_u8.Statement.{statement}
 use Rattle.wire.proofs.get_u8.Tie as tie
-use Rattle.wire.proofs.get_u8.Reads as reads
-use Rattle.wire.proofs.get_u8.Lts as lts
-use Rattle.wire.proofs.wide.Reads as wide-reads
 
 -- src/lib.rt:20:10
 shared-slice-read-wide : tie.Need-shared-slice-read-wide

@@ -3,10 +3,6 @@ use Rattle.wire.proofs.Laws.{entry-none}
 use borrow.Author.Needs.{needs}
 use Rattle.wire.proofs.load_entry.Statement.{statement}
 use Rattle.wire.proofs.load_entry.Tie as tie
-use Rattle.wire.proofs.load_entry.Reads as reads
-use Rattle.wire.proofs.load_entry.Lts as lts
-use Rattle.wire.proofs.load_u16.Reads as load-u16-reads
-use Rattle.wire.proofs.load_u8.Reads as load-u8-reads
 
 -- src/lib.rt:86:14
 load-u8-requires : tie.Need-load-u8-requires

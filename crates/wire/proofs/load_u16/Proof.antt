@@ -4,9 +4,6 @@ use Rattle.wire.proofs.Laws.{whole-there, whole-past}
 use borrow.Author.Needs.{needs}
 use Rattle.wire.proofs.load_u16.Statement.{statement}
 use Rattle.wire.proofs.load_u16.Tie as tie
-use Rattle.wire.proofs.load_u16.Reads as reads
-use Rattle.wire.proofs.load_u16.Lts as lts
-use Rattle.wire.proofs.get_u16.Reads as get-u16-reads
 
 -- src/lib.rt:50:9
 returns : tie.Need-returns

@@ -4,9 +4,6 @@ use Rattle.wire.proofs.Laws.{whole-there, whole-past}
 use borrow.Author.Needs.{needs}
 use Rattle.wire.proofs.load_u32.Statement.{statement}
 use Rattle.wire.proofs.load_u32.Tie as tie
-use Rattle.wire.proofs.load_u32.Reads as reads
-use Rattle.wire.proofs.load_u32.Lts as lts
-use Rattle.wire.proofs.get_u32.Reads as get-u32-reads
 
 -- src/lib.rt:62:9
 returns : tie.Need-returns

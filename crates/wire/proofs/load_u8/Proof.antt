@@ -4,9 +4,6 @@ use Rattle.wire.proofs.Laws.{whole-there, whole-past}
 use borrow.Author.Needs.{needs}
 use Rattle.wire.proofs.load_u8.Statement.{statement}
 use Rattle.wire.proofs.load_u8.Tie as tie
-use Rattle.wire.proofs.load_u8.Reads as reads
-use Rattle.wire.proofs.load_u8.Lts as lts
-use Rattle.wire.proofs.get_u8.Reads as get-u8-reads
 
 -- src/lib.rt:43:23
 get-u8-requires : tie.Need-get-u8-requires

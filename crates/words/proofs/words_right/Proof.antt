@@ -9,9 +9,6 @@ use Rattle.words.proofs.Turn.{none, none-here, none-other, none-end}
 use borrow.Author.Needs.{needs}
 use Rattle.words.proofs.words_right.Statement.{statement}
 use Rattle.words.proofs.words_right.Tie as tie
-use Rattle.words.proofs.words_right.Reads as reads
-use Rattle.words.proofs.words_right.Lts as lts
-use Rattle.wire.proofs.get_u32.Reads as get-u32-reads
 
 abbrev Inv-loop : tie.InvT-loop
 Inv-loop file at n empty right₀ place₀ left₀ right place left =

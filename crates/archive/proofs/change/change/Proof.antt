@@ -6,14 +6,6 @@ use Rattle.archive.proofs.Writing.{change-refused, change-setting, chan
 use borrow.Author.Needs.{needs}
 use Rattle.archive.proofs.change.change.Statement.{statement}
 use Rattle.archive.proofs.change.change.Tie as tie
-use Rattle.archive.proofs.change.change.Reads as reads
-use Rattle.archive.proofs.change.change.Lts as lts
-use Rattle.archive.proofs.change.copy_file.Reads as copy-file-reads
-use Rattle.archive.proofs.change.own_setting.Reads as own-setting-reads
-use Rattle.archive.proofs.check.check.Reads as check-reads
-use Rattle.archive.proofs.recode.recoded.Reads as recoded-reads
-use Rattle.header.proofs.setting.setting_number.Reads as setting-number-reads
-use Rattle.header.proofs.view.read_view.Reads as read-view-reads
 
 -- src/change.rt:36:9
 check-requires : tie.Need-check-requires

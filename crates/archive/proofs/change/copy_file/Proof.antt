@@ -2,9 +2,6 @@ use Rattle.archive.proofs.Writing.{copy-small, copy-done}
 use borrow.Author.Needs.{needs}
 use Rattle.archive.proofs.change.copy_file.Statement.{statement}
 use Rattle.archive.proofs.change.copy_file.Tie as tie
-use Rattle.archive.proofs.change.copy_file.Reads as reads
-use Rattle.archive.proofs.change.copy_file.Lts as lts
-use Rattle.rewrite.proofs.words.copy.Reads as copy-reads
 
 -- src/change.rt:26:9
 returns : tie.Need-returns

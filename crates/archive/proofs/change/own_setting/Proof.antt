@@ -1,9 +1,6 @@
 use Rattle.archive.proofs.Writing.{other-kind, other-width, step-tells}
-use borrow.Author.Needs.{needs}
 use Rattle.archive.proofs.change.own_setting.Statement.{statement}
 use Rattle.archive.proofs.change.own_setting.Tie as tie
-use Rattle.archive.proofs.change.own_setting.Reads as reads
-use Rattle.archive.proofs.change.own_setting.Lts as lts
 
 -- src/change.rt:19:9
 returns : tie.Need-returns

@@ -7,13 +7,6 @@ use Rattle.archive.proofs.Answers.{check-header, parts-wrong, words-wro
 use borrow.Author.Needs.{needs}
 use Rattle.archive.proofs.check.check.Statement.{statement}
 use Rattle.archive.proofs.check.check.Tie as tie
-use Rattle.archive.proofs.check.check.Reads as reads
-use Rattle.archive.proofs.check.check.Lts as lts
-use Rattle.archive.proofs.check.parts_right.Reads as parts-right-reads
-use Rattle.header.proofs.number.header_number.Reads as header-number-reads
-use Rattle.header.proofs.places.words_at.Reads as words-at-reads
-use Rattle.header.proofs.view.read_view.Reads as read-view-reads
-use Rattle.words.proofs.words_right.Reads as words-right-reads
 
 -- src/check.rt:32:9
 header-number-requires : tie.Need-header-number-requires

@@ -3,13 +3,6 @@ use Rattle.archive.proofs.Answers.{kind-in}
 use borrow.Author.Needs.{needs}
 use Rattle.archive.proofs.check.parts_right.Statement.{statement}
 use Rattle.archive.proofs.check.parts_right.Tie as tie
-use Rattle.archive.proofs.check.parts_right.Reads as reads
-use Rattle.archive.proofs.check.parts_right.Lts as lts
-use Rattle.base_offset.proofs.check.parts_right.Reads as check-parts-right-reads
-use Rattle.jumps.proofs.check.parts_right.Reads as check-parts-right-reads′
-use Rattle.paged_runs.proofs.check.parts_right.Reads as check-parts-right-reads′′
-use Rattle.positions.proofs.check.parts_right.Reads as check-parts-right-reads′′′
-use Rattle.runs.proofs.check.parts_right.Reads as check-parts-right-reads′′′′
 
 -- src/check.rt:19:14
 parts-right-requires : tie.Need-parts-right-requires

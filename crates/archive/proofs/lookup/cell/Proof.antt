@@ -3,11 +3,6 @@ use Rattle.archive.proofs.Answers.{cell-refused, cell-found, seen, whol
 use borrow.Author.Needs.{needs}
 use Rattle.archive.proofs.lookup.cell.Statement.{statement}
 use Rattle.archive.proofs.lookup.cell.Tie as tie
-use Rattle.archive.proofs.lookup.cell.Reads as reads
-use Rattle.archive.proofs.lookup.cell.Lts as lts
-use Rattle.archive.proofs.check.check.Reads as check-reads
-use Rattle.header.proofs.view.read_view.Reads as read-view-reads
-use Rattle.search.proofs.cell_in.Reads as cell-in-reads
 
 -- src/lookup.rt:19:9
 check-requires : tie.Need-check-requires

@@ -3,11 +3,6 @@ use Rattle.archive.proofs.Answers.{position-refused, position-found, se
 use borrow.Author.Needs.{needs}
 use Rattle.archive.proofs.lookup.position.Statement.{statement}
 use Rattle.archive.proofs.lookup.position.Tie as tie
-use Rattle.archive.proofs.lookup.position.Reads as reads
-use Rattle.archive.proofs.lookup.position.Lts as lts
-use Rattle.archive.proofs.check.check.Reads as check-reads
-use Rattle.header.proofs.view.read_view.Reads as read-view-reads
-use Rattle.search.proofs.position_in.Reads as position-in-reads
 
 -- src/lookup.rt:41:9
 check-requires : tie.Need-check-requires

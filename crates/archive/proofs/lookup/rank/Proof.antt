@@ -3,11 +3,6 @@ use Rattle.archive.proofs.Answers.{rank-refused, rank-found, seen, whol
 use borrow.Author.Needs.{needs}
 use Rattle.archive.proofs.lookup.rank.Statement.{statement}
 use Rattle.archive.proofs.lookup.rank.Tie as tie
-use Rattle.archive.proofs.lookup.rank.Reads as reads
-use Rattle.archive.proofs.lookup.rank.Lts as lts
-use Rattle.archive.proofs.check.check.Reads as check-reads
-use Rattle.header.proofs.view.read_view.Reads as read-view-reads
-use Rattle.search.proofs.rank_in.Reads as rank-in-reads
 
 -- src/lookup.rt:30:9
 check-requires : tie.Need-check-requires

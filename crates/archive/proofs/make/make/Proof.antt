@@ -5,12 +5,6 @@ use Rattle.archive.proofs.Making.{picture-right, measured-number, goes-
 use borrow.Author.Needs.{needs}
 use Rattle.archive.proofs.make.make.Statement.{statement}
 use Rattle.archive.proofs.make.make.Tie as tie
-use Rattle.archive.proofs.make.make.Reads as reads
-use Rattle.archive.proofs.make.make.Lts as lts
-use Rattle.archive.proofs.make.picture_number.Reads as picture-number-reads
-use Rattle.archive.proofs.make.put_picture.Reads as put-picture-reads
-use Rattle.assemble.proofs.out_number.Reads as out-number-reads
-use Rattle.picture.proofs.measure.Reads as measure-reads
 
 -- src/make.rt:55:9
 picture-number-requires : tie.Need-picture-number-requires

@@ -3,10 +3,6 @@ use Rattle.archive.proofs.Making.{setting-refused, extent-refused, word
 use borrow.Author.Needs.{needs}
 use Rattle.archive.proofs.make.picture_number.Statement.{statement}
 use Rattle.archive.proofs.make.picture_number.Tie as tie
-use Rattle.archive.proofs.make.picture_number.Reads as reads
-use Rattle.archive.proofs.make.picture_number.Lts as lts
-use Rattle.header.proofs.extents.cell_count.Reads as cell-count-reads
-use Rattle.header.proofs.setting.setting_number.Reads as setting-number-reads
 
 -- src/make.rt:25:9
 setting-number-requires : tie.Need-setting-number-requires

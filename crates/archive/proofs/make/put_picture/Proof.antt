@@ -4,12 +4,6 @@ use Rattle.archive.proofs.Making.{laid-by, words-room, levels-there, fi
 use borrow.Author.Needs.{needs}
 use Rattle.archive.proofs.make.put_picture.Statement.{statement}
 use Rattle.archive.proofs.make.put_picture.Tie as tie
-use Rattle.archive.proofs.make.put_picture.Reads as reads
-use Rattle.archive.proofs.make.put_picture.Lts as lts
-use Rattle.assemble.proofs.put_upper.Reads as put-upper-reads
-use Rattle.heading.proofs.put_header.Reads as put-header-reads
-use Rattle.picture.proofs.put_out.Reads as put-out-reads
-use Rattle.shape.proofs.sizes.Reads as sizes-reads
 
 -- src/make.rt:44:9
 sizes-requires : tie.Need-sizes-requires

@@ -4,14 +4,6 @@ use Rattle.archive.proofs.Recoding.{file-long, recode-laid, parts-apart
 use borrow.Author.Needs.{needs}
 use Rattle.archive.proofs.recode.put_recoded.Statement.{statement}
 use Rattle.archive.proofs.recode.put_recoded.Tie as tie
-use Rattle.archive.proofs.recode.put_recoded.Reads as reads
-use Rattle.archive.proofs.recode.put_recoded.Lts as lts
-use Rattle.assemble.proofs.put_upper.Reads as put-upper-reads
-use Rattle.header.proofs.view.read_dimensions.Reads as read-dimensions-reads
-use Rattle.heading.proofs.put_header.Reads as put-header-reads
-use Rattle.rewrite.proofs.parts.put_parts.Reads as put-parts-reads
-use Rattle.rewrite.proofs.words.put_words.Reads as put-words-reads
-use Rattle.shape.proofs.sizes.Reads as sizes-reads
 
 -- src/recode.rt:32:9
 sizes-requires : tie.Need-sizes-requires

@@ -3,11 +3,6 @@ use Rattle.archive.proofs.Recoding.{recode-known, recode-number, recode
 use borrow.Author.Needs.{needs}
 use Rattle.archive.proofs.recode.recoded.Statement.{statement}
 use Rattle.archive.proofs.recode.recoded.Tie as tie
-use Rattle.archive.proofs.recode.recoded.Reads as reads
-use Rattle.archive.proofs.recode.recoded.Lts as lts
-use Rattle.archive.proofs.recode.put_recoded.Reads as put-recoded-reads
-use Rattle.assemble.proofs.out_number.Reads as out-number-reads
-use Rattle.rewrite.proofs.counted.sized.Reads as sized-reads
 
 -- src/recode.rt:45:9
 sized-requires : tie.Need-sized-requires

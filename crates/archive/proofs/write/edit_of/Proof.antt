@@ -7,10 +7,6 @@ use Rattle.archive.proofs.Writing.{empty-there, stored-there, edit-empt
 use borrow.Author.Needs.{needs}
 use Rattle.archive.proofs.write.edit_of.Statement.{statement}
 use Rattle.archive.proofs.write.edit_of.Tie as tie
-use Rattle.archive.proofs.write.edit_of.Reads as reads
-use Rattle.archive.proofs.write.edit_of.Lts as lts
-use Rattle.rewrite.proofs.below.ranks_below.Reads as ranks-below-reads
-use Rattle.search.proofs.rank_in.Reads as rank-in-reads
 
 -- src/write.rt:22:9
 rank-in-requires : tie.Need-rank-in-requires

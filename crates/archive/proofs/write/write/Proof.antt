@@ -4,13 +4,6 @@ use Rattle.archive.proofs.Writing.{write-refused, write-beyond, write-r
 use borrow.Author.Needs.{needs}
 use Rattle.archive.proofs.write.write.Statement.{statement}
 use Rattle.archive.proofs.write.write.Tie as tie
-use Rattle.archive.proofs.write.write.Reads as reads
-use Rattle.archive.proofs.write.write.Lts as lts
-use Rattle.archive.proofs.check.check.Reads as check-reads
-use Rattle.archive.proofs.recode.recoded.Reads as recoded-reads
-use Rattle.archive.proofs.write.edit_of.Reads as edit-of-reads
-use Rattle.header.proofs.view.read_setting.Reads as read-setting-reads
-use Rattle.header.proofs.view.read_view.Reads as read-view-reads
 
 -- src/write.rt:44:9
 check-requires : tie.Need-check-requires

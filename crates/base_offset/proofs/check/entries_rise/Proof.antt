@@ -11,10 +11,6 @@ use Rattle.base_offset.proofs.OneGroup.{room}
 use borrow.Author.Needs.{needs}
 use Rattle.base_offset.proofs.check.entries_rise.Statement.{statement}
 use Rattle.base_offset.proofs.check.entries_rise.Tie as tie
-use Rattle.base_offset.proofs.check.entries_rise.Reads as reads
-use Rattle.base_offset.proofs.check.entries_rise.Lts as lts
-use Rattle.base_offset.proofs.check.get_entry.Reads as get-entry-reads
-use Rattle.wire.proofs.entry_size.Reads as entry-size-reads
 
 abbrev Inv-loop : tie.InvT-loop
 Inv-loop file at width n bound size before₀ place₀ left₀ right₀ before place left right =

@@ -2,10 +2,6 @@ use native.Mathlib.Omega.{arith}
 use Rattle.base_offset.proofs.OneGroup.{entry-none}
 use Rattle.base_offset.proofs.check.get_entry.Statement.{statement}
 use Rattle.base_offset.proofs.check.get_entry.Tie as tie
-use Rattle.base_offset.proofs.check.get_entry.Reads as reads
-use Rattle.base_offset.proofs.check.get_entry.Lts as lts
-use Rattle.wire.proofs.get_u16.Reads as get-u16-reads
-use Rattle.wire.proofs.get_u8.Reads as get-u8-reads
 
 -- src/check.rt:23:14
 get-u8-requires : tie.Need-get-u8-requires

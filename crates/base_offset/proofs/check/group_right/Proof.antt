@@ -5,10 +5,6 @@ use Rattle.base_offset.proofs.OneGroup.{room, group-past, group-first, 
 use borrow.Author.Needs.{needs}
 use Rattle.base_offset.proofs.check.group_right.Statement.{statement}
 use Rattle.base_offset.proofs.check.group_right.Tie as tie
-use Rattle.base_offset.proofs.check.group_right.Reads as reads
-use Rattle.base_offset.proofs.check.group_right.Lts as lts
-use Rattle.base_offset.proofs.check.entries_rise.Reads as entries-rise-reads
-use Rattle.base_offset.proofs.check.get_entry.Reads as get-entry-reads
 
 -- src/check.rt:58:9
 returns : tie.Need-returns

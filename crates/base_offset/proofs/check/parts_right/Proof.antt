@@ -9,12 +9,6 @@ use Rattle.base_offset.proofs.Turn.{Turn, no-ranks, firsts-some, turn-s
 use borrow.Author.Needs.{needs}
 use Rattle.base_offset.proofs.check.parts_right.Statement.{statement}
 use Rattle.base_offset.proofs.check.parts_right.Tie as tie
-use Rattle.base_offset.proofs.check.parts_right.Reads as reads
-use Rattle.base_offset.proofs.check.parts_right.Lts as lts
-use Rattle.base_offset.proofs.check.group_right.Reads as group-right-reads
-use Rattle.header.proofs.places.second_at.Reads as second-at-reads
-use Rattle.wire.proofs.entry_size.Reads as entry-size-reads
-use Rattle.wire.proofs.get_u32.Reads as get-u32-reads
 
 abbrev Inv-loop : tie.InvT-loop
 Inv-loop file v stride base₀ place₀ at₀ left₀ more₀ base place at left more = Turn file v base place at left more

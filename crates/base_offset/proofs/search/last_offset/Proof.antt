@@ -7,11 +7,6 @@ use Rattle.base_offset.proofs.Places.{entries-fit, offset-on, last-same
 use borrow.Author.Needs.{needs}
 use Rattle.base_offset.proofs.search.last_offset.Statement.{statement}
 use Rattle.base_offset.proofs.search.last_offset.Tie as tie
-use Rattle.base_offset.proofs.search.last_offset.Reads as reads
-use Rattle.base_offset.proofs.search.last_offset.Lts as lts
-use Rattle.header.proofs.places.second_at.Reads as second-at-reads
-use Rattle.wire.proofs.entry_size.Reads as entry-size-reads
-use Rattle.wire.proofs.load_entry.Reads as load-entry-reads
 
 abbrev Inv-loop : tie.InvT-loop
 Inv-loop file rank n x width entry at low₀ size₀ low size = Left (λ i. whole (entrySize width) (at + entry * i) file) n x low size

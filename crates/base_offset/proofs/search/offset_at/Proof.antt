@@ -4,11 +4,6 @@ use Rattle.base_offset.proofs.Places.{entries-fit, offset-here}
 use borrow.Author.Needs.{needs}
 use Rattle.base_offset.proofs.search.offset_at.Statement.{statement}
 use Rattle.base_offset.proofs.search.offset_at.Tie as tie
-use Rattle.base_offset.proofs.search.offset_at.Reads as reads
-use Rattle.base_offset.proofs.search.offset_at.Lts as lts
-use Rattle.header.proofs.places.second_at.Reads as second-at-reads
-use Rattle.wire.proofs.entry_size.Reads as entry-size-reads
-use Rattle.wire.proofs.load_entry.Reads as load-entry-reads
 
 -- src/search.rt:29:22
 second-at-requires : tie.Need-second-at-requires

@@ -7,10 +7,6 @@ use Rattle.base_offset.proofs.Searched.{step-forged, position-here, pos
 use borrow.Author.Needs.{needs}
 use Rattle.base_offset.proofs.search.position_of.Statement.{statement}
 use Rattle.base_offset.proofs.search.position_of.Tie as tie
-use Rattle.base_offset.proofs.search.position_of.Reads as reads
-use Rattle.base_offset.proofs.search.position_of.Lts as lts
-use Rattle.base_offset.proofs.search.offset_at.Reads as offset-at-reads
-use Rattle.wire.proofs.load_u32.Reads as load-u32-reads
 
 -- src/search.rt:91:9
 returns : tie.Need-returns

@@ -6,13 +6,6 @@ use Rattle.base_offset.proofs.Searched.{AtBase, AtGroup, rank-before, r
 use borrow.Author.Needs.{needs}
 use Rattle.base_offset.proofs.search.rank_at.Statement.{statement}
 use Rattle.base_offset.proofs.search.rank_at.Tie as tie
-use Rattle.base_offset.proofs.search.rank_at.Reads as reads
-use Rattle.base_offset.proofs.search.rank_at.Lts as lts
-use Rattle.base_offset.proofs.search.last_offset.Reads as last-offset-reads
-use Rattle.base_offset.proofs.search.lesser.Reads as lesser-reads
-use Rattle.base_offset.proofs.search.offset_at.Reads as offset-at-reads
-use Rattle.positions.proofs.search.last_at_most.Reads as last-at-most-reads
-use Rattle.wire.proofs.load_u32.Reads as load-u32-reads
 
 at-base : (c : tie.After-load-u32)
     → let a = c .before .before .before .before .before .args in

@@ -1,4 +1,3 @@
-use mathlib.Core.Path.{_≡_}
 use Rattle.cursor.specs.Cursor.{add32, alongBy}
 use borrow.Author.Needs.{needs}
 use Rattle.cursor.proofs.runs.along_run.Statement.{statement}

@@ -1,5 +1,4 @@
 use Prim.Native.Nat.{_-_}
-use mathlib.Core.Path.{_≡_}
 use Rattle.format.specs.Tools.{range}
 use Rattle.encode.specs.Encoder.{runsCoder, pagesCoder}
 use Rattle.encode.proofs.Choice.{coder-runs, coder-pages, widths, all-by}

@@ -5,9 +5,6 @@ use Rattle.exports.specs.Code.{coded}
 use borrow.Author.Needs.{needs}
 use Rattle.exports.proofs.code.position_code.Statement.{statement}
 use Rattle.exports.proofs.code.position_code.Tie as tie
-use Rattle.exports.proofs.code.position_code.Reads as reads
-use Rattle.exports.proofs.code.position_code.Lts as lts
-use Rattle.exports.proofs.code.code_and_value.Reads as code-and-value-reads
 
 -- src/code.rt:38:34
 enum-known-a : tie.Need-enum-known-a

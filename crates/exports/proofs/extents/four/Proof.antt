@@ -2,8 +2,6 @@ use Rattle.exports.proofs.Four.{four-numbers}
 use borrow.Author.Needs.{needs}
 use Rattle.exports.proofs.extents.four.Statement.{statement}
 use Rattle.exports.proofs.extents.four.Tie as tie
-use Rattle.exports.proofs.extents.four.Reads as reads
-use Rattle.exports.proofs.extents.four.Lts as lts
 
 -- src/extents.rt:10:6
 shared-slice-read-t3 : tie.Need-shared-slice-read-t3

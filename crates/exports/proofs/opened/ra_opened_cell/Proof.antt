@@ -6,12 +6,6 @@ use Rattle.exports.proofs.Answered.{short-refused, cell-unchecked}
 use borrow.Author.Needs.{needs}
 use Rattle.exports.proofs.opened.ra_opened_cell.Statement.{statement}
 use Rattle.exports.proofs.opened.ra_opened_cell.Tie as tie
-use Rattle.exports.proofs.opened.ra_opened_cell.Reads as reads
-use Rattle.exports.proofs.opened.ra_opened_cell.Lts as lts
-use Rattle.exports.proofs.code.cell_code.Reads as cell-code-reads
-use Rattle.exports.proofs.code.code_and_value.Reads as code-and-value-reads
-use Rattle.header.proofs.view.read_view.Reads as read-view-reads
-use Rattle.search.proofs.cell_in.Reads as cell-in-reads
 
 -- src/opened.rt:22:9
 code-and-value-requires : tie.Need-code-and-value-requires

@@ -6,12 +6,6 @@ use Rattle.exports.proofs.Answered.{short-refused, position-unchecked}
 use borrow.Author.Needs.{needs}
 use Rattle.exports.proofs.opened.ra_opened_position.Statement.{statement}
 use Rattle.exports.proofs.opened.ra_opened_position.Tie as tie
-use Rattle.exports.proofs.opened.ra_opened_position.Reads as reads
-use Rattle.exports.proofs.opened.ra_opened_position.Lts as lts
-use Rattle.exports.proofs.code.code_and_value.Reads as code-and-value-reads
-use Rattle.exports.proofs.code.position_code.Reads as position-code-reads
-use Rattle.header.proofs.view.read_view.Reads as read-view-reads
-use Rattle.search.proofs.position_in.Reads as position-in-reads
 
 -- src/opened.rt:44:9
 code-and-value-requires : tie.Need-code-and-value-requires

@@ -7,12 +7,6 @@ use Rattle.exports.proofs.Answered.{short-refused, rank-unchecked}
 use borrow.Author.Needs.{needs}
 use Rattle.exports.proofs.opened.ra_opened_rank.Statement.{statement}
 use Rattle.exports.proofs.opened.ra_opened_rank.Tie as tie
-use Rattle.exports.proofs.opened.ra_opened_rank.Reads as reads
-use Rattle.exports.proofs.opened.ra_opened_rank.Lts as lts
-use Rattle.exports.proofs.code.code_and_value.Reads as code-and-value-reads
-use Rattle.exports.proofs.code.rank_code.Reads as rank-code-reads
-use Rattle.header.proofs.view.read_view.Reads as read-view-reads
-use Rattle.search.proofs.rank_in.Reads as rank-in-reads
 
 -- src/opened.rt:33:9
 code-and-value-requires : tie.Need-code-and-value-requires

@@ -3,11 +3,6 @@ use Rattle.exports.proofs.Four.{four-setting, four-extent, same-made}
 use borrow.Author.Needs.{needs}
 use Rattle.exports.proofs.writing.ra_make.Statement.{statement}
 use Rattle.exports.proofs.writing.ra_make.Tie as tie
-use Rattle.exports.proofs.writing.ra_make.Reads as reads
-use Rattle.exports.proofs.writing.ra_make.Lts as lts
-use Rattle.archive.proofs.make.make.Reads as make-reads
-use Rattle.exports.proofs.extents.four.Reads as four-reads
-use Rattle.header.proofs.setting.setting_number.Reads as setting-number-reads
 
 -- src/writing.rt:29:13
 setting-number-requires : tie.Need-setting-number-requires

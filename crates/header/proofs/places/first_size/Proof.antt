@@ -3,8 +3,6 @@ use Rattle.header.proofs.Sizes.{first-none}
 use borrow.Author.Needs.{needs}
 use Rattle.header.proofs.places.first_size.Statement.{statement}
 use Rattle.header.proofs.places.first_size.Tie as tie
-use Rattle.header.proofs.places.first_size.Reads as reads
-use Rattle.header.proofs.places.first_size.Lts as lts
 
 -- src/places.rt:9:1
 returns : tie.Need-returns

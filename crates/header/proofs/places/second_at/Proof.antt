@@ -5,9 +5,6 @@ use Prim.Native.Nat.{_*_, _≤_, _^_, _-_}
 use borrow.Author.Needs.{needs}
 use Rattle.header.proofs.places.second_at.Statement.{statement}
 use Rattle.header.proofs.places.second_at.Tie as tie
-use Rattle.header.proofs.places.second_at.Reads as reads
-use Rattle.header.proofs.places.second_at.Lts as lts
-use Rattle.header.proofs.places.first_size.Reads as first-size-reads
 
 -- src/places.rt:38:10
 -- the first part is not longer than 8 bytes for each count

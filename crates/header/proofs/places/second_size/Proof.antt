@@ -3,9 +3,6 @@ use Rattle.header.proofs.Sizes.{second-none}
 use borrow.Author.Needs.{needs}
 use Rattle.header.proofs.places.second_size.Statement.{statement}
 use Rattle.header.proofs.places.second_size.Tie as tie
-use Rattle.header.proofs.places.second_size.Reads as reads
-use Rattle.header.proofs.places.second_size.Lts as lts
-use Rattle.wire.proofs.entry_size.Reads as entry-size-reads
 
 -- src/places.rt:27:14
 entry-size-requires : tie.Need-entry-size-requires

@@ -5,10 +5,6 @@ use Prim.Native.Nat.{_*_, _≤_, _^_, _-_}
 use borrow.Author.Needs.{needs}
 use Rattle.header.proofs.places.words_at.Statement.{statement}
 use Rattle.header.proofs.places.words_at.Tie as tie
-use Rattle.header.proofs.places.words_at.Reads as reads
-use Rattle.header.proofs.places.words_at.Lts as lts
-use Rattle.header.proofs.places.second_at.Reads as second-at-reads
-use Rattle.header.proofs.places.second_size.Reads as second-size-reads
 
 -- the second part is not longer than 8 bytes for each count
 most : (c : tie.After-struct-known) → c .before .second-size .result * c .before .before .before .args .v .seconds ≤ 8 * (2 ^ 32 - 1)

@@ -3,9 +3,6 @@ use Rattle.header.proofs.Body.{below-elements}
 use Rattle.positions.proofs.PartsRight.{first-there, parts-are}
 use Rattle.positions.proofs.check.parts_right.Statement.{statement}
 use Rattle.positions.proofs.check.parts_right.Tie as tie
-use Rattle.positions.proofs.check.parts_right.Reads as reads
-use Rattle.positions.proofs.check.parts_right.Lts as lts
-use Rattle.positions.proofs.check.positions_rise.Reads as positions-rise-reads
 
 -- src/check.rt:38:5
 positions-rise-requires : tie.Need-positions-rise-requires

@@ -9,9 +9,6 @@ use Rattle.positions.proofs.Climb.{climbs, rises-climbs, rises-none, cl
 use borrow.Author.Needs.{needs}
 use Rattle.positions.proofs.check.positions_rise.Statement.{statement}
 use Rattle.positions.proofs.check.positions_rise.Tie as tie
-use Rattle.positions.proofs.check.positions_rise.Reads as reads
-use Rattle.positions.proofs.check.positions_rise.Lts as lts
-use Rattle.wire.proofs.get_u32.Reads as get-u32-reads
 
 abbrev Inv-loop : tie.InvT-loop
 Inv-loop file at n cells before₀ place₀ left₀ right₀ before place left right =

@@ -6,9 +6,6 @@ use Rattle.positions.proofs.Last.{Left, left-all, left-upper, left-lowe
 use borrow.Author.Needs.{needs}
 use Rattle.positions.proofs.search.last_at_most.Statement.{statement}
 use Rattle.positions.proofs.search.last_at_most.Tie as tie
-use Rattle.positions.proofs.search.last_at_most.Reads as reads
-use Rattle.positions.proofs.search.last_at_most.Lts as lts
-use Rattle.wire.proofs.load_u32.Reads as load-u32-reads
 
 abbrev Inv-loop : tie.InvT-loop
 Inv-loop file n x low₀ size₀ low size = Left (λ i. whole 4 (52 + 4 * i) file) n x low size

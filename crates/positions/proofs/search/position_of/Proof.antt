@@ -3,9 +3,6 @@ use Rattle.positions.proofs.Searched.{position-here, position-forged}
 use borrow.Author.Needs.{needs}
 use Rattle.positions.proofs.search.position_of.Statement.{statement}
 use Rattle.positions.proofs.search.position_of.Tie as tie
-use Rattle.positions.proofs.search.position_of.Reads as reads
-use Rattle.positions.proofs.search.position_of.Lts as lts
-use Rattle.wire.proofs.load_u32.Reads as load-u32-reads
 
 -- src/search.rt:55:9
 returns : tie.Need-returns

@@ -5,10 +5,6 @@ use Rattle.positions.proofs.Searched.{rank-here, rank-absent}
 use borrow.Author.Needs.{needs}
 use Rattle.positions.proofs.search.rank_at.Statement.{statement}
 use Rattle.positions.proofs.search.rank_at.Tie as tie
-use Rattle.positions.proofs.search.rank_at.Reads as reads
-use Rattle.positions.proofs.search.rank_at.Lts as lts
-use Rattle.positions.proofs.search.last_at_most.Reads as last-at-most-reads
-use Rattle.wire.proofs.load_u32.Reads as load-u32-reads
 
 -- src/search.rt:37:9
 returns : tie.Need-returns

@@ -1,10 +1,9 @@
-use Rattle.rewrite.proofs.RunSizes.{encoder-one, encoder-other}
-use borrow.Author.Needs.{needs}
+use Rattle.rewrite.proofs.RunSizes.{encoder-five, encoder-other}
 use Rattle.rewrite.proofs.counted.encoder_of.Statement.{statement}
 use Rattle.rewrite.proofs.counted.encoder_of.Tie as tie
 
 returns : tie.Need-returns
-returns c = encoder-one (c .before .args .kind) (c .before .args .rank) (c .before .args .bytes) (c .if1 .taken)
+returns c = encoder-five (c .before .args .kind) (c .before .args .rank) (c .before .args .bytes) (c .if1 .taken)
 
 returns-2 : tie.Need-returns-2
 returns-2 c = encoder-other (c .before .args .kind) (c .before .args .rank) (c .before .args .bytes) (c .if1 .left)

@@ -9,20 +9,22 @@ use Rattle.rewrite.proofs.counted.end_before.Tie as tie
 returns : tie.Need-returns
 returns c = end-none (c .before .before .args .r) (positionsOf (c .before .before .args .file .now)) (c .if1 .taken)
 
-sub-position-at : tie.Need-sub-position-at
-sub-position-at c = search needs
+sub-t6 : tie.Need-sub-t6
+sub-t6 c = search needs
 
-position-at-requires : tie.Need-position-at-requires
-position-at-requires c κs = (c .before .before .pre .0, let h = c .before .before .pre .1 in omega (arith, c .if1 .left))
+stored-position-requires : tie.Need-stored-position-requires
+stored-position-requires c κs = (c .before .before .pre .0, let h = c .before .before .pre .1 in omega (arith, c .if1 .left))
 
 add-result : tie.Need-add-result
-add-result c = search needs
+add-result c = let q = c .before .stored-position .ensures .1 in omega arith
 
 returns-2 : tie.Need-returns-2
 returns-2 c =
-    let g = c .before .before .before .args in
-    let h = c .before .before .before .pre .1 in
-    end-there (g .file .now) (g .v) (c .before .before .before .pre .0) (g .r - 1) (omega (arith, c .before .if1 .left)) (g .r) _ (omega (arith, c .before .if1 .left)) (c .position-at .ensures .0)
+    let p = c .before .before .before .before in
+    let g = p .args in
+    let h = p .pre .1 in
+    let l = c .before .before .if1 .left in
+    end-there (g .file .now) (g .v) (p .pre .0) (g .r - 1) (omega (arith, l)) (g .r) _ (omega (arith, l)) (c .before .stored-position .ensures .0)
 
 pub end-before-spec : {M : Type 1} → statement M
-end-before-spec = tie.close (tie.spec returns sub-position-at position-at-requires add-result returns-2)
+end-before-spec = tie.close (tie.spec returns sub-t6 stored-position-requires add-result returns-2)

@@ -1,5 +1,4 @@
 use lib.Arith.{lt-of-le-ne}
-use native.Mathlib.Omega.{arith}
 use Rattle.rewrite.proofs.RunEdits.{first-none, first-there}
 use borrow.Author.Needs.{needs}
 use Rattle.rewrite.proofs.counted.rank_begins.Statement.{statement}
@@ -8,14 +7,14 @@ use Rattle.rewrite.proofs.counted.rank_begins.Tie as tie
 returns : tie.Need-returns
 returns c = first-none (c .before .before .before .args .file .now) (c .before .before .before .args .v) (c .before .before .before .pre .0) (c .before .before .before .args .end) (c .before .before .before .args .r) (c .if1 .taken)
 
-position-at-requires : tie.Need-position-at-requires
-position-at-requires c κs = (c .before .before .before .pre .0, lt-of-le-ne (c .before .before .before .pre .1) (c .if1 .left))
+stored-position-requires : tie.Need-stored-position-requires
+stored-position-requires c κs = (c .before .before .before .pre .0, lt-of-le-ne (c .before .before .before .pre .1) (c .if1 .left))
 
 run-begins-requires : tie.Need-run-begins-requires
 run-begins-requires c κs = search needs
 
 returns-2 : tie.Need-returns-2
-returns-2 c = first-there (c .before .before .before .before .before .args .file .now) (c .before .before .before .before .before .args .v) (c .before .before .before .before .before .pre .0) (c .before .before .before .before .before .args .r) (lt-of-le-ne (c .before .before .before .before .before .pre .1) (c .before .before .if1 .left)) (c .before .before .before .before .before .args .end) _ _ (c .before .position-at .ensures .0) (c .run-begins .ensures)
+returns-2 c = first-there (c .before .before .before .before .before .args .file .now) (c .before .before .before .before .before .args .v) (c .before .before .before .before .before .pre .0) (c .before .before .before .before .before .args .r) (lt-of-le-ne (c .before .before .before .before .before .pre .1) (c .before .before .if1 .left)) (c .before .before .before .before .before .args .end) _ _ (c .before .stored-position .ensures .0) (c .run-begins .ensures)
 
 pub rank-begins-spec : {M : Type 1} → statement M
-rank-begins-spec = tie.close (tie.spec returns position-at-requires run-begins-requires returns-2)
+rank-begins-spec = tie.close (tie.spec returns stored-position-requires run-begins-requires returns-2)

@@ -1,5 +1,4 @@
 use Rattle.rewrite.proofs.RunEdits.{total-one, total-other}
-use borrow.Author.Needs.{needs}
 use Rattle.rewrite.proofs.counted.run_total.Statement.{statement}
 use Rattle.rewrite.proofs.counted.run_total.Tie as tie
 

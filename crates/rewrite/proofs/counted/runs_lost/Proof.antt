@@ -1,6 +1,5 @@
 use native.Mathlib.Omega.{arith}
 use Rattle.rewrite.proofs.RunEdits.{ranks-there, lost-none, left-there, lost-one}
-use borrow.Author.Needs.{needs}
 use Rattle.rewrite.proofs.counted.runs_lost.Statement.{statement}
 use Rattle.rewrite.proofs.counted.runs_lost.Tie as tie
 
@@ -10,14 +9,14 @@ runs-joined-requires c κs = (c .before .before .before .pre .0, ranks-there (c 
 returns : tie.Need-returns
 returns c = lost-none (c .before .before .before .before .args .file .now) (c .before .before .before .before .args .v) (c .before .before .before .before .pre .0) (c .before .before .before .before .args .x) (c .before .before .before .before .pre .1) (c .before .before .before .before .args .end) _ (c .before .if1 .taken) (c .runs-joined .ensures)
 
-position-at-requires : tie.Need-position-at-requires
-position-at-requires c κs = (c .before .before .before .pre .0, left-there (c .before .before .before .args .file .now) (c .before .before .before .args .v) (c .before .before .before .pre .0) (c .before .before .before .args .x) (c .before .before .before .pre .1) (c .if1 .left))
+stored-position-requires : tie.Need-stored-position-requires
+stored-position-requires c κs = (c .before .before .before .pre .0, left-there (c .before .before .before .args .file .now) (c .before .before .before .args .v) (c .before .before .before .pre .0) (c .before .before .before .args .x) (c .before .before .before .pre .1) (c .if1 .left))
 
 runs-joined-requires-2 : tie.Need-runs-joined-requires-2
-runs-joined-requires-2 c κs = (c .before .before .before .before .pre .0, ranks-there (c .before .before .before .before .args .file .now) (c .before .before .before .before .args .v) (c .before .before .before .before .pre .0) (c .before .before .before .before .args .x) (c .before .before .before .before .pre .1) .1, λ e. c .position-at .ensures .1)
+runs-joined-requires-2 c κs = (c .before .before .before .before .pre .0, ranks-there (c .before .before .before .before .args .file .now) (c .before .before .before .before .args .v) (c .before .before .before .before .pre .0) (c .before .before .before .before .args .x) (c .before .before .before .before .pre .1) .1, λ e. c .stored-position .ensures .1)
 
 returns-2 : tie.Need-returns-2
-returns-2 c = lost-one (c .before .before .before .before .before .args .file .now) (c .before .before .before .before .before .args .v) (c .before .before .before .before .before .pre .0) (c .before .before .before .before .before .args .x) (c .before .before .before .before .before .pre .1) (c .before .before .before .before .before .args .end) _ _ (c .before .before .if1 .left) (c .before .position-at .ensures .0) (c .runs-joined2 .ensures)
+returns-2 c = lost-one (c .before .before .before .before .before .args .file .now) (c .before .before .before .before .before .args .v) (c .before .before .before .before .before .pre .0) (c .before .before .before .before .before .args .x) (c .before .before .before .before .before .pre .1) (c .before .before .before .before .before .args .end) _ _ (c .before .before .if1 .left) (c .before .stored-position .ensures .0) (c .runs-joined2 .ensures)
 
 pub runs-lost-spec : {M : Type 1} → statement M
-runs-lost-spec = tie.close (tie.spec runs-joined-requires returns position-at-requires runs-joined-requires-2 returns-2)
+runs-lost-spec = tie.close (tie.spec runs-joined-requires returns stored-position-requires runs-joined-requires-2 returns-2)

@@ -1,6 +1,7 @@
-use mathlib.Core.Path.{refl}
-use mathlib.Core.Logic.{inl}
+use Prim.Native.Nat.{_+_, _-_}
+use mathlib.Core.Path.{_≡_, refl}
 use native.Mathlib.Omega.{arith}
+use Rattle.cursor.proofs.Stretches.{stretch-inside}
 use Rattle.rewrite.proofs.RunTurns.{Measured, cells, run-asked, measured-turn, measured-end}
 use borrow.Author.Needs.{needs}
 use Rattle.rewrite.proofs.runs.measure_runs.Statement.{statement}
@@ -24,13 +25,20 @@ advance-run-requires c κs =
     let a = p .args in
     let l = c .before .before .loop in
     let q = cells (l .c) (c .stretch .result) (l .left) (c .before .loop-test .taken) (c .stretch .ensures) in
-    let r = run-asked (a .s) (a .file .now) (a .v) (inl (p .pre .2)) (l .c) (l .e) (c .stretch .result) (l .left) q (l .inv .rest) in
+    let r = run-asked (a .s) (a .file .now) (a .v) (p .pre .2) (l .c) (l .e) (c .stretch .result) (l .left) q (l .inv .rest) in
     (p .pre .0, p .pre .1, q .some, r .0, r .1, r .2)
 
-past-run-requires : tie.Need-past-run-requires Inv-loop μ-loop
-past-run-requires c κs =
+sub-past-cells : tie.Need-sub-past-cells Inv-loop μ-loop
+sub-past-cells c =
     let s = c .before .stretch .ensures in
-    (c .before .before .before .before .before .pre .2, s .1 (c .before .before .loop-test .taken), s .2)
+    let z = s .1 (c .before .before .loop-test .taken) in
+    omega arith
+
+past-cells-requires : tie.Need-past-cells-requires Inv-loop μ-loop
+past-cells-requires c κs =
+    let l = c .before .before .before .loop in
+    let k = c .before .stretch in
+    (c .before .before .before .before .before .pre .2, stretch-inside (k .result) (l .c .at) (l .c .last) (k .ensures .2))
 
 sub-left : tie.Need-sub-left Inv-loop μ-loop
 sub-left c = let h = c .before .before .stretch .ensures .0 in omega arith
@@ -49,8 +57,10 @@ loop-again c =
     let l = c .before .before .before .before .loop in
     let k = c .before .before .stretch in
     let q = cells (l .c) (k .result) (l .left) (c .before .before .before .loop-test .taken) (k .ensures) in
-    measured-turn (a .s) (a .file .now) (a .v) (inl (p .pre .2)) (l .c) (l .e) (k .result) (l .left) q (p .pre .0) (a .c) (a .e) (a .n) (c .past-run .result)
-    (c .before .advance-run .result) (c .past-run .ensures) (c .before .advance-run .ensures) (l .inv)
+    let z = q .some in
+    let one : k .result - 1 + 1 ≡ k .result = omega arith in
+    measured-turn (a .s) (a .file .now) (a .v) (p .pre .2) (l .c) (l .e) (k .result) (l .left) q (p .pre .0) (a .c) (a .e) (a .n) (c .past-cells .result)
+    (c .before .advance-run .result) (rw one at (c .past-cells .ensures)) (c .before .advance-run .ensures) (l .inv)
 
 returns : tie.Need-returns Inv-loop μ-loop
 returns c =
@@ -67,7 +77,8 @@ measure-runs-spec =
     loop-holds
     stretch-requires
     advance-run-requires
-    past-run-requires
+    sub-past-cells
+    past-cells-requires
     sub-left
     loop-less
     loop-again

@@ -1,7 +1,8 @@
-use mathlib.Core.Path.{refl}
-use mathlib.Core.Logic.{inl}
+use Prim.Native.Nat.{_+_, _-_}
+use mathlib.Core.Path.{_≡_, refl}
 use native.Mathlib.Omega.{arith}
 use lib.ListN.{length}
+use Rattle.cursor.proofs.Stretches.{stretch-inside}
 use Rattle.rewrite.proofs.RunTurns.{Written, cells, run-asked, run-room, written-turn, written-end}
 use borrow.Author.Needs.{needs}
 use Rattle.rewrite.proofs.runs.put_runs.Statement.{statement}
@@ -28,15 +29,21 @@ emit-run-requires c κs =
     let l = c .before .before .before .loop in
     let k = c .before .stretch in
     let q = cells (l .c) (k .result) (l .left) (c .before .before .loop-test .taken) (k .ensures) in
-    let r = run-asked (a .s) (a .file .now) (a .v) (inl (p .pre .2)) (l .c) (l .e) (k .result) (l .left) q (l .inv .measured .rest) in
-    let m = run-room (a .s) (a .file .now) (a .v) (inl (p .pre .2)) (l .c) (l .e) (k .result) (l .left) q (length (l .dst)) (l .inv .room) in
+    let r = run-asked (a .s) (a .file .now) (a .v) (p .pre .2) (l .c) (l .e) (k .result) (l .left) q (l .inv .measured .rest) in
+    let m = run-room (a .s) (a .file .now) (a .v) (p .pre .2) (l .c) (l .e) (k .result) (l .left) q (length (l .dst)) (l .inv .room) in
     (p .pre .0, p .pre .1, q .some, r .0, r .1, r .2, m .0, m .1)
 
-past-run-requires : tie.Need-past-run-requires Inv-loop μ-loop
-past-run-requires c κs =
+sub-past-cells : tie.Need-sub-past-cells Inv-loop μ-loop
+sub-past-cells c =
     let s = c .before .before .before .before .stretch .ensures in
-    let p = c .before .before .before .before .before .before .before .before .before .pre in
-    (p .2, s .1 (c .before .before .before .before .before .loop-test .taken), s .2)
+    let z = s .1 (c .before .before .before .before .before .loop-test .taken) in
+    omega arith
+
+past-cells-requires : tie.Need-past-cells-requires Inv-loop μ-loop
+past-cells-requires c κs =
+    let l = c .before .before .before .before .before .before .loop in
+    let k = c .before .before .before .before .stretch in
+    (c .before .before .before .before .before .before .before .before .before .pre .2, stretch-inside (k .result) (l .c .at) (l .c .last) (k .ensures .2))
 
 sub-left : tie.Need-sub-left Inv-loop μ-loop
 sub-left c = let h = c .before .before .before .before .before .stretch .ensures .0 in omega arith
@@ -56,8 +63,10 @@ loop-again c =
     let k = c .before .before .before .before .before .stretch in
     let o = c .before .before .before .emit-run in
     let q = cells (l .c) (k .result) (l .left) (c .before .before .before .before .before .before .loop-test .taken) (k .ensures) in
-    written-turn (a .s) (a .file .now) (a .v) (inl (p .pre .2)) (l .c) (l .e) (k .result) (l .left) q (p .pre .0) (a .c) (a .e) (a .n) (c .past-run .result)
-    (o .result) (c .past-run .ensures) (o .ensures .0) (a .dst .now) (l .dst) _ (o .ensures .1) (l .inv)
+    let z = q .some in
+    let one : k .result - 1 + 1 ≡ k .result = omega arith in
+    written-turn (a .s) (a .file .now) (a .v) (p .pre .2) (l .c) (l .e) (k .result) (l .left) q (p .pre .0) (a .c) (a .e) (a .n) (c .past-cells .result)
+    (o .result) (rw one at (c .past-cells .ensures)) (o .ensures .0) (a .dst .now) (l .dst) _ (o .ensures .1) (l .inv)
 
 same-length : tie.Need-same-length Inv-loop μ-loop
 same-length c = c .before .loop .inv .same
@@ -77,7 +86,8 @@ put-runs-spec =
     loop-holds
     stretch-requires
     emit-run-requires
-    past-run-requires
+    sub-past-cells
+    past-cells-requires
     sub-left
     loop-less
     loop-again

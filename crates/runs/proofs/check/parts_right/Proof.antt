@@ -14,9 +14,6 @@ use Rattle.runs.proofs.Accepts.{rightFrom, turn, next-least, end-long, 
 use Rattle.runs.proofs.Body.{view-long, view-parts}
 use Rattle.runs.proofs.check.parts_right.Statement.{statement}
 use Rattle.runs.proofs.check.parts_right.Tie as tie
-use Rattle.runs.proofs.check.parts_right.Reads as reads
-use Rattle.runs.proofs.check.parts_right.Lts as lts
-use Rattle.wire.proofs.get_u32.Reads as get-u32-reads
 
 abbrev Inv-loop : tie.InvT-loop
 Inv-loop file v at₀ left₀ end₀ empty₀ least₀ bad₀ at left end empty least bad =

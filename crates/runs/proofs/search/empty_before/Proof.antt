@@ -4,9 +4,6 @@ use Rattle.runs.proofs.Halves.{first-empty, later-empty}
 use borrow.Author.Needs.{needs}
 use Rattle.runs.proofs.search.empty_before.Statement.{statement}
 use Rattle.runs.proofs.search.empty_before.Tie as tie
-use Rattle.runs.proofs.search.empty_before.Reads as reads
-use Rattle.runs.proofs.search.empty_before.Lts as lts
-use Rattle.runs.proofs.search.empty_at.Reads as empty-at-reads
 
 sub-empty-at : tie.Need-sub-empty-at
 sub-empty-at c = search needs

@@ -4,9 +4,6 @@ use Rattle.runs.proofs.Halves.{first-end, later-end}
 use borrow.Author.Needs.{needs}
 use Rattle.runs.proofs.search.end_before.Statement.{statement}
 use Rattle.runs.proofs.search.end_before.Tie as tie
-use Rattle.runs.proofs.search.end_before.Reads as reads
-use Rattle.runs.proofs.search.end_before.Lts as lts
-use Rattle.runs.proofs.search.last_at.Reads as last-at-reads
 
 sub-last-at : tie.Need-sub-last-at
 sub-last-at c = search needs

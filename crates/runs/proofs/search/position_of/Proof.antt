@@ -5,10 +5,6 @@ use Rattle.runs.proofs.Lookup.{filed, position-beyond, position-none, p
 use borrow.Author.Needs.{needs}
 use Rattle.runs.proofs.search.position_of.Statement.{statement}
 use Rattle.runs.proofs.search.position_of.Tie as tie
-use Rattle.runs.proofs.search.position_of.Reads as reads
-use Rattle.runs.proofs.search.position_of.Lts as lts
-use Rattle.runs.proofs.search.empty_at.Reads as empty-at-reads
-use Rattle.runs.proofs.search.run_with.Reads as run-with-reads
 
 returns : tie.Need-returns
 returns c =

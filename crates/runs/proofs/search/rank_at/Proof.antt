@@ -7,12 +7,6 @@ use Rattle.runs.proofs.Lookup.{filed, rank-beyond, rank-none, Ruled, ru
 use borrow.Author.Needs.{needs}
 use Rattle.runs.proofs.search.rank_at.Statement.{statement}
 use Rattle.runs.proofs.search.rank_at.Tie as tie
-use Rattle.runs.proofs.search.rank_at.Reads as reads
-use Rattle.runs.proofs.search.rank_at.Lts as lts
-use Rattle.runs.proofs.search.empty_at.Reads as empty-at-reads
-use Rattle.runs.proofs.search.empty_before.Reads as empty-before-reads
-use Rattle.runs.proofs.search.end_before.Reads as end-before-reads
-use Rattle.runs.proofs.search.run_at.Reads as run-at-reads
 
 returns : tie.Need-returns
 returns c =

@@ -8,9 +8,6 @@ use Rattle.runs.proofs.Halves.{Between, between-all, lower-half, upper-
 use borrow.Author.Needs.{needs}
 use Rattle.runs.proofs.search.run_at.Statement.{statement}
 use Rattle.runs.proofs.search.run_at.Tie as tie
-use Rattle.runs.proofs.search.run_at.Reads as reads
-use Rattle.runs.proofs.search.run_at.Lts as lts
-use Rattle.runs.proofs.search.last_at.Reads as last-at-reads
 
 abbrev Inv-loop : tie.InvT-loop
 Inv-loop file n p low₀ high₀ low high = Between (reaches file p) n low high

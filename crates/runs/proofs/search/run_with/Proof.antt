@@ -8,10 +8,6 @@ use Rattle.runs.proofs.Halves.{Between, between-all, lower-half, upper-
 use borrow.Author.Needs.{needs}
 use Rattle.runs.proofs.search.run_with.Statement.{statement}
 use Rattle.runs.proofs.search.run_with.Tie as tie
-use Rattle.runs.proofs.search.run_with.Reads as reads
-use Rattle.runs.proofs.search.run_with.Lts as lts
-use Rattle.runs.proofs.search.empty_at.Reads as empty-at-reads
-use Rattle.runs.proofs.search.last_at.Reads as last-at-reads
 
 abbrev Inv-loop : tie.InvT-loop
 Inv-loop file n r low₀ high₀ low high = Between (holds file r) n low high

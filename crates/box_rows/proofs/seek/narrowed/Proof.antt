@@ -1,0 +1,76 @@
+-- The two ranks stay around p, and come nearer. Assumes nothing.
+use Prim.Native.Nat.{_-_}
+use native.Mathlib.Omega.{arith}
+use Rattle.box_rows.specs.Ready.{Around}
+use borrow.Author.Needs.{needs}
+use Rattle.box_rows.proofs.seek.narrowed.Statement.{statement}
+use Rattle.box_rows.proofs.seek.narrowed.Tie as tie
+
+abbrev Inv-loop : tie.InvT-loop
+Inv-loop file v g₀ p g = Around file v (p .0) g
+
+abbrev μ-loop : tie.MeasureT-loop
+μ-loop file v g₀ p g = g .high - g .low
+
+loop-holds : tie.Need-loop-holds Inv-loop μ-loop
+loop-holds c = c .before .pre .1
+
+sub-if1 : tie.Need-sub-if1 Inv-loop μ-loop
+sub-if1 c = search needs
+
+sub-middle : tie.Need-sub-middle Inv-loop μ-loop
+sub-middle c = search needs
+
+add-middle : tie.Need-add-middle Inv-loop μ-loop
+add-middle c = search needs
+
+stored-position-requires : tie.Need-stored-position-requires Inv-loop μ-loop
+stored-position-requires c κs = search needs
+
+loop-less : tie.Need-loop-less Inv-loop μ-loop
+loop-less c = search needs
+
+loop-again : tie.Need-loop-again Inv-loop μ-loop
+loop-again c =
+    let i = c .before .before .before .before .before .before .before .before .loop .inv in
+    record {
+      order = omega arith;
+      most = i .most;
+      below = omega (arith, c .before .before .before .stored-position .ensures .0, c .if2 .taken);
+      at = i .at;
+      past = i .past;
+    }
+
+loop-less-2 : tie.Need-loop-less-2 Inv-loop μ-loop
+loop-less-2 c = search needs
+
+loop-again-2 : tie.Need-loop-again-2 Inv-loop μ-loop
+loop-again-2 c =
+    let i = c .before .before .before .before .before .before .before .before .loop .inv in
+    record {
+      order = omega arith;
+      most = omega arith;
+      below = i .below;
+      at = λ h. c .before .before .before .stored-position .ensures .0;
+      past = λ h. c .if2 .left;
+    }
+
+returns : tie.Need-returns Inv-loop μ-loop
+returns c = let i = c .before .before .loop .inv in (i, omega arith)
+
+pub narrowed-spec : {M : Type 1} → statement M
+narrowed-spec =
+    tie.close
+    (tie.spec
+    Inv-loop
+    μ-loop
+    loop-holds
+    sub-if1
+    sub-middle
+    add-middle
+    stored-position-requires
+    loop-less
+    loop-again
+    loop-less-2
+    loop-again-2
+    returns)

@@ -1,0 +1,100 @@
+// The first stored cell at or after a position, from where a cursor stands. Kind 4 is walked; the others are searched by rank.
+use cursor::Cursor;
+use cursor::ranks::next_jump;
+use format::Position;
+use format::Rank;
+use format::View;
+use search::stored_position;
+ghost use mathlib.Core.Path.{_≡_};
+ghost use Prim.Native.Nat.{_+_, _<_};
+ghost use lib.ListN.{getD};
+ghost use Rattle.format.specs.Accepted.{positionsOf};
+ghost use Rattle.header.specs.Search.{ViewOf};
+ghost use Rattle.box_rows.specs.Ready.{Ready, Reached, Around};
+
+// A rank that stands below a position, and a later one, or N, that does not; `at` is where the later one stands.
+pub struct Gap {
+    pub low: u32,
+    pub high: u32,
+    pub at: u32,
+}
+
+// From a rank below p on, by steps that double.
+fn gallop(file: &[u8], v: View, from: u32, p: Position) -> Gap
+    requires { ⌜ ViewOf (now file) v × (from < v .words) × (getD (positionsOf (now file)) from 0 < p .0) ⌝ }
+    ensures { λ r. ⌜ Around (now (file .entry)) v (p .0) r ⌝ }
+{
+    let mut low = from;
+    let mut step: u32 = 1;
+    while step < v.words - low {
+        let next = low + step;
+        let at = stored_position(file, v, Rank(next));
+        if p.0 <= at.0 {
+            return Gap {
+                low,
+                high: next,
+                at: at.0,
+            };
+        }
+        low = next;
+        step = 2 * step;
+    }
+    Gap {
+        low,
+        high: v.words,
+        at: 0,
+    }
+}
+
+// By halves, until the two ranks are neighbours.
+fn narrowed(file: &[u8], v: View, mut g: Gap, p: Position) -> Gap
+    requires { ⌜ ViewOf (now file) v × Around (now file) v (p .0) g ⌝ }
+    ensures { λ r. ⌜ Around (now (file .entry)) v (p .0) r × (r .high ≡ r .low + 1) ⌝ }
+{
+    while 1 < g.high - g.low {
+        let middle = g.low + (g.high - g.low) / 2;
+        let at = stored_position(file, v, Rank(middle));
+        if at.0 < p.0 {
+            g.low = middle;
+        } else {
+            g.high = middle;
+            g.at = at.0;
+        }
+    }
+    g
+}
+
+// Kind 4.
+fn seek_jump(file: &[u8], v: View, mut c: Cursor, p: Position) -> Cursor
+    requires { ⌜ ViewOf (now file) v × (v .kind ≡ 4) × Ready (now file) v c (p .0) ⌝ }
+    ensures { λ r. ⌜ Reached (now (file .entry)) v r (p .0) ⌝ }
+{
+    let wanted = p.0;
+    while c.rank < v.words {
+        if wanted <= c.at {
+            return c;
+        }
+        c = next_jump(file, v, c);
+    }
+    c
+}
+
+// The first rank at or after p; N where there is none.
+pub fn seek(file: &[u8], v: View, mut c: Cursor, p: Position) -> Cursor
+    requires { ⌜ ViewOf (now file) v × Ready (now file) v c (p .0) ⌝ }
+    ensures { λ r. ⌜ Reached (now (file .entry)) v r (p .0) ⌝ }
+{
+    if v.words <= c.rank {
+        return c;
+    }
+    if p.0 <= c.at {
+        return c;
+    }
+    if v.kind == 4 {
+        return seek_jump(file, v, c, p);
+    }
+    let g = narrowed(file, v, gallop(file, v, c.rank, p), p);
+    c.rank = g.high;
+    c.at = g.at;
+    c
+}
