@@ -1,13 +1,21 @@
 /*
  * Radar picture archive: the C interface.
  *
- * A picture is dimensions, an empty word E and one 32-bit word for each cell, in row order (the last dimension runs fastest).
- * A file keeps the words that are not E, and a header of one of five kinds that says where they stood.
+ * A picture is 1 to 4 dimensions, an empty word E and one 32-bit word for each cell, in row order (the last dimension runs fastest); at
+ * most 16,777,216 cells. A file keeps the words that are not E, and a header of one of five kinds that says where they stood. A setting
+ * is kind, width and step:
  *
- * Every call is total: any bytes and any numbers may be handed in, and the caller owes no earlier check. A slice is a pointer and then
- * a length in elements; a pointer may be anything where the length is 0. Buffers lent to one call must not overlap.
+ *    kind 1  runs             width 0        step 0
+ *    kind 2  positions        width 0        step 0
+ *    kind 3  base and offset  width 1 or 2   step 1 to 255
+ *    kind 4  jumps            width 1 or 2   step 0
+ *    kind 5  paged runs       width 0        step 2 to 64
  *
- * A plain answer is a number: 0 (accepted), or the number of the signal list:
+ * Every call is total: any bytes and any numbers may be handed in, and the caller owes no earlier check. A buffer is a pointer and then
+ * a length in elements; a pointer may be anything where the length is 0. Buffers lent to one call must not overlap. No call allocates,
+ * keeps a pointer or has state, so calls may run at the same time in several threads.
+ *
+ * A plain answer is a number: 0 (accepted), or the first of these that applies, in the order that the call names:
  *
  *    1 short    file under 52 bytes
  *    2 kind     kind not 1 to 5
@@ -22,9 +30,19 @@
  *   11 other    two files whose dimensions, E or words differ
  *
  * A refused call leaves the destination unchanged to the last element. An accepted result fills the destination's first elements and
- * leaves the rest unchanged; a file's length stands in its bytes 48 to 51, lowest byte first.
+ * leaves the rest unchanged; a file's length stands in its bytes 48 to 51, lowest byte first. No file is longer than 167,772,212 bytes.
  *
- * A lookup's answer is 64 bits: the low 32 the value, the high 32 the code: 0 given, 1 to 11 refused with that number, 255 empty.
+ * A lookup's answer is 64 bits: the low 32 the value, the high 32 the code: 0 given, 1 to 11 refused with that number (the value is then
+ * 0), 255 empty.
+ *
+ * The examples are C11. Each stands on its own beside this sample, a picture of 12 cells with E = 0 and its file of kind 2:
+ *
+ * Sample:
+ *     static const uint32_t extents[4] = {12, 1, 1, 1};
+ *     static const uint32_t words[12] = {0, 0, 7, 9, 0, 5, 0, 0, 0, 0, 300, 0};
+ *     static const uint8_t file[84] = {
+ *         2, 1, 0, 0, 12, 0, 0, 0, 1, 0, 0, 0, 1, 0, 0, 0, 1, 0, 0, 0, 0, 0, 0, 0, 4, 0, 0, 0, 4, 0, 0, 0, 0, 0, 0, 0, 52, 0, 0, 0, 68, 0,
+ *         0, 0, 68, 0, 0, 0, 84, 0, 0, 0, 2, 0, 0, 0, 3, 0, 0, 0, 5, 0, 0, 0, 10, 0, 0, 0, 7, 0, 0, 0, 9, 0, 0, 0, 5, 0, 0, 0, 44, 1, 0, 0};
  */
 #ifndef RADAR_ARCHIVE_H
 #define RADAR_ARCHIVE_H
@@ -43,51 +61,238 @@ extern "C" {
 #define RA_VALUE(answer) ((uint32_t)(answer))
 #define RA_CODE(answer) ((uint32_t)((answer) >> 32))
 
-/* The complete check of a file: 0, or the first of 1 to 6 that applies. */
+/*
+ * The complete check of a file.
+ *
+ *   file, len   the file's bytes
+ *
+ * Answers 0 if some picture has these bytes, else the first of 1 to 6.
+ *
+ * Example:
+ *     assert(ra_check(file, 84) == 0);
+ *     assert(ra_check(file, 83) == 5);
+ *     assert(ra_check(file, 51) == 1);
+ */
 uint32_t ra_check(const uint8_t *file, size_t len);
 
 /*
- * Makes the file of a picture. Tests 2, 3, 4, 7, 9, 10 in that order. `extents` has four numbers, 1 past the dimension count (another
- * number of them is 4); `words` has one word for each cell.
+ * Makes the file of a picture.
+ *
+ *   kind, width, step      the setting
+ *   dims                   the number of dimensions
+ *   extents, extents_len   four numbers, 1 past the number of dimensions; another number of them is 4
+ *   empty                  the empty word E
+ *   words, words_len       one word for each cell, in row order
+ *   dst, dst_len           the destination, in bytes
+ *
+ * Answers 0, or the first of 2, 3, 4, 7, 9, 10. Accepted: the file stands in the destination's first bytes.
+ *
+ * Example:
+ *     uint8_t made[100] = {0};
+ *     assert(ra_make(2, 0, 0, 1, extents, 4, 0, words, 12, made, 100) == 0);
+ *     assert(memcmp(made, file, 84) == 0);
+ *     assert(ra_make(2, 0, 0, 1, extents, 4, 0, words, 11, made, 100) == 7);
+ *     assert(ra_make(2, 0, 0, 1, extents, 4, 0, words, 12, made, 83) == 10);
  */
 uint32_t ra_make(uint32_t kind, uint32_t width, uint32_t step, uint32_t dims, const uint32_t *extents, size_t extents_len,
                  uint32_t empty, const uint32_t *words, size_t words_len, uint8_t *dst, size_t dst_len);
 
-/* Puts out the file after writing one cell, in the file's own setting: 1 to 6, 8, 9, 10. Writing E empties the cell. */
+/*
+ * Puts out the file after writing one cell, in the file's own setting. Writing E empties the cell; writing the word already there is
+ * accepted.
+ *
+ *   file, len      the file's bytes
+ *   position       where
+ *   word           what
+ *   dst, dst_len   the destination, in bytes
+ *
+ * Answers 0, or the first of 1 to 6, 8, 9, 10. Accepted: the new file stands in the destination's first bytes.
+ *
+ * Example:
+ *     uint8_t written[92] = {0};
+ *     assert(ra_write(file, 84, 6, 41, written, 92) == 0);
+ *     assert(written[48] == 92);
+ *     assert(RA_VALUE(ra_cell(written, 92, 6)) == 41);
+ *     assert(ra_write(file, 84, 12, 41, written, 92) == 8);
+ */
 uint32_t ra_write(const uint8_t *file, size_t len, uint32_t position, uint32_t word, uint8_t *dst, size_t dst_len);
 
-/* Puts out the file in another setting: 1 to 6 of the file, then 2 and 3 of the setting, 9, 10. */
+/*
+ * Puts out the file in another setting.
+ *
+ *   file, len           the file's bytes
+ *   kind, width, step   the new setting
+ *   dst, dst_len        the destination, in bytes
+ *
+ * Answers 0, or the first of 1 to 6 of the file, then 2, 3 of the setting, 9, 10. Accepted: the new file stands in the destination's
+ * first bytes.
+ *
+ * Example:
+ *     uint8_t changed[84] = {0};
+ *     assert(ra_change(file, 84, 4, 1, 0, changed, 84) == 0);
+ *     assert(changed[48] == 76);
+ *     assert(ra_check(changed, 76) == 0);
+ *     assert(ra_change(file, 84, 5, 0, 65, changed, 84) == 3);
+ */
 uint32_t ra_change(const uint8_t *file, size_t len, uint32_t kind, uint32_t width, uint32_t step, uint8_t *dst, size_t dst_len);
 
-/* All words of the picture: 1 to 6, 10. The destination counts words. */
+/*
+ * All words of the picture, in row order.
+ *
+ *   file, len      the file's bytes
+ *   dst, dst_len   the destination, in words
+ *
+ * Answers 0, or the first of 1 to 6, 10. Accepted: the words stand in the destination's first elements.
+ *
+ * Example:
+ *     uint32_t out[13] = {0};
+ *     out[12] = 99;
+ *     assert(ra_expand(file, 84, out, 13) == 0);
+ *     assert(memcmp(out, words, sizeof words) == 0 && out[12] == 99);
+ *     assert(ra_expand(file, 84, out, 11) == 10);
+ */
 uint32_t ra_expand(const uint8_t *file, size_t len, uint32_t *dst, size_t dst_len);
 
-/* The word at a position; the rank at a position, or empty; the position of a rank. Each makes the complete check first: 1 to 6, 8. */
+/*
+ * The word at a position. The complete check comes first.
+ *
+ *   file, len   the file's bytes
+ *   position    where
+ *
+ * Answers the word (code 0; E for an empty cell), or the first of 1 to 6, 8.
+ *
+ * Example:
+ *     uint64_t answer = ra_cell(file, 84, 10);
+ *     assert(RA_CODE(answer) == 0 && RA_VALUE(answer) == 300);
+ *     assert(RA_CODE(ra_cell(file, 84, 12)) == 8);
+ */
 uint64_t ra_cell(const uint8_t *file, size_t len, uint32_t position);
+
+/*
+ * The rank at a position: the number of stored cells before it. The complete check comes first.
+ *
+ *   file, len   the file's bytes
+ *   position    where
+ *
+ * Answers the rank (code 0), RA_EMPTY for an empty cell, or the first of 1 to 6, 8.
+ *
+ * Example:
+ *     uint64_t answer = ra_rank(file, 84, 5);
+ *     assert(RA_CODE(answer) == 0 && RA_VALUE(answer) == 2);
+ *     assert(RA_CODE(ra_rank(file, 84, 6)) == RA_EMPTY);
+ */
 uint64_t ra_rank(const uint8_t *file, size_t len, uint32_t position);
+
+/*
+ * The position of a rank. The complete check comes first.
+ *
+ *   file, len   the file's bytes
+ *   rank        which of the stored cells
+ *
+ * Answers the position (code 0), or the first of 1 to 6, 8.
+ *
+ * Example:
+ *     uint64_t answer = ra_position(file, 84, 3);
+ *     assert(RA_CODE(answer) == 0 && RA_VALUE(answer) == 10);
+ *     assert(RA_CODE(ra_position(file, 84, 4)) == 8);
+ */
 uint64_t ra_position(const uint8_t *file, size_t len, uint32_t rank);
 
-/* The position of four coordinates (those past the dimension count 0): 4, 8. Another number of coordinates is 8. */
+/*
+ * The position of coordinates, in row order.
+ *
+ *   dims, extents, extents_len   the dimensions, as for ra_make
+ *   at, at_len                   four coordinates, those past the number of dimensions 0; another number of them is 8
+ *
+ * Answers the position (code 0), or the first of 4, 8.
+ *
+ * Example:
+ *     uint32_t three_by_four[4] = {3, 4, 1, 1};
+ *     uint32_t at[4] = {1, 2, 0, 0};
+ *     assert(RA_VALUE(ra_coordinates_position(2, three_by_four, 4, at, 4)) == 6);
+ *     at[1] = 4;
+ *     assert(RA_CODE(ra_coordinates_position(2, three_by_four, 4, at, 4)) == 8);
+ */
 uint64_t ra_coordinates_position(uint32_t dims, const uint32_t *extents, size_t extents_len, const uint32_t *at, size_t at_len);
 
-/* The four coordinates of a position: 4, 8, then 10 for a destination shorter than four. */
+/*
+ * The coordinates of a position.
+ *
+ *   dims, extents, extents_len   the dimensions, as for ra_make
+ *   position                     which
+ *   dst, dst_len                 the destination, in numbers
+ *
+ * Answers 0, or the first of 4, 8, 10. Accepted: the four coordinates stand in the destination's first elements.
+ *
+ * Example:
+ *     uint32_t three_by_four[4] = {3, 4, 1, 1};
+ *     uint32_t at[4] = {0};
+ *     assert(ra_position_coordinates(2, three_by_four, 4, 6, at, 4) == 0);
+ *     assert(at[0] == 1 && at[1] == 2 && at[2] == 0 && at[3] == 0);
+ */
 uint32_t ra_position_coordinates(uint32_t dims, const uint32_t *extents, size_t extents_len, uint32_t position, uint32_t *dst,
                                  size_t dst_len);
 
-/* The words of a box, both corners inclusive, in row order: 1 to 6, 8, 10. The destination counts words. */
+/*
+ * The words of a box, in row order.
+ *
+ *   file, len        the file's bytes
+ *   low, low_len     four coordinates of the low corner, those past the number of dimensions 0
+ *   high, high_len   four coordinates of the high corner, which belongs to the box
+ *   dst, dst_len     the destination, in words
+ *
+ * Answers 0, or the first of 1 to 6, 8, 10; a corner of another number of coordinates is 8. Accepted: the words stand in the
+ * destination's first elements.
+ *
+ * Example:
+ *     uint32_t low[4] = {2, 0, 0, 0}, high[4] = {5, 0, 0, 0}, out[4] = {0};
+ *     assert(ra_box(file, 84, low, 4, high, 4, out, 4) == 0);
+ *     assert(out[0] == 7 && out[1] == 9 && out[2] == 0 && out[3] == 5);
+ */
 uint32_t ra_box(const uint8_t *file, size_t len, const uint32_t *low, size_t low_len, const uint32_t *high, size_t high_len,
                 uint32_t *dst, size_t dst_len);
 
-/* Where the stored bytes of the ranks from `from` up to but not including `to` begin; they are 4 * (to - from) bytes: 1 to 6, 8. */
+/*
+ * Where the stored bytes of some ranks begin in the caller's file; they are 4 * (to - from) bytes.
+ *
+ *   file, len   the file's bytes
+ *   from, to    the ranks, `to` not included
+ *
+ * Answers the offset (code 0), or the first of 1 to 6, 8.
+ *
+ * Example:
+ *     uint64_t answer = ra_ranks(file, 84, 1, 3);
+ *     assert(RA_CODE(answer) == 0 && RA_VALUE(answer) == 72);
+ *     assert(file[72] == 9 && file[76] == 5);
+ */
 uint64_t ra_ranks(const uint8_t *file, size_t len, uint32_t from, uint32_t to);
 
-/* Which of two files of one picture is shorter, 0 the first (also on equal length) or 1 the second: 1 to 6 of a, 1 to 6 of b, 11. */
+/*
+ * Which of two files of one picture is the shorter.
+ *
+ *   a, a_len   the first file's bytes
+ *   b, b_len   the second file's bytes
+ *
+ * Answers 0 (the first, also on equal length) or 1 (the second), code 0; or the first of 1 to 6 of a, 1 to 6 of b, 11.
+ *
+ * Example:
+ *     uint8_t jumps[76] = {0};
+ *     assert(ra_change(file, 84, 4, 1, 0, jumps, 76) == 0);
+ *     assert(RA_VALUE(ra_shorter(file, 84, jumps, 76)) == 1);
+ */
 uint64_t ra_shorter(const uint8_t *a, size_t a_len, const uint8_t *b, size_t b_len);
 
 /*
- * The lookups over the header's own counts, nothing checked: on an accepted file they answer as the lookups above do, in the time of
- * the search alone. On any other bytes they end with an answer in range: 8, empty, or a number below what the header claims.
- * Fewer than 52 bytes give 8.
+ * The three lookups over the header's own counts, nothing checked, for a file that ra_check has accepted and that has not changed since:
+ * there they answer as ra_cell, ra_rank and ra_position do, in the time of the search alone. On any other bytes they end all the same,
+ * inside what was lent, with 8, empty, a number below what the header claims, or (ra_opened_cell) any word. Under 52 bytes: 8.
+ *
+ * Example:
+ *     assert(ra_check(file, 84) == 0);
+ *     for (uint32_t p = 0; p < 12; p++)
+ *         assert(RA_VALUE(ra_opened_cell(file, 84, p)) == words[p]);
+ *     assert(RA_VALUE(ra_opened_rank(file, 84, 5)) == 2);
+ *     assert(RA_VALUE(ra_opened_position(file, 84, 2)) == 5);
  */
 uint64_t ra_opened_cell(const uint8_t *file, size_t len, uint32_t position);
 uint64_t ra_opened_rank(const uint8_t *file, size_t len, uint32_t position);
