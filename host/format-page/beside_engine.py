@@ -51,7 +51,7 @@ class Comparison:
         self.numbers, self.made, self.not_expanded = collections.Counter(), 0, 0
 
     def agree(self, data):
-        """Whether both give these bytes the same number and, where they are accepted, the same words."""
+        """Whether both give these bytes the same number and, where they are accepted, the same words and lookups."""
         number = self.engine.check(data)
         self.numbers[number] += 1
         if self.page.number(data) != number:
@@ -62,7 +62,20 @@ class Comparison:
         if cells > MOST_EXPANDED:
             self.not_expanded += 1
             return True
-        return self.page.words(data) == self.engine.expand(data, cells)
+        return self.page.words(data) == self.engine.expand(data, cells) and self.lookups_agree(data)
+
+    def lookups_agree(self, data):
+        """Whether the page's lookups give what the engine's give, at some ranks and positions."""
+        file, lookup = self.page.open(data), self.engine.lookup
+        words = file.expand()
+        ranks = {0, file.N // 2, file.N - 1} if file.N > 0 else ()
+        if any(lookup("position", data, rank) != file.positions[rank] for rank in ranks):
+            return False
+        for position in {file.positions[rank] for rank in ranks} | {0, file.cells // 2, file.cells - 1}:
+            rank = file.positions.index(position) if position in file.positions else None
+            if lookup("rank", data, position) != rank or lookup("cell", data, position) != words[position]:
+                return False
+        return True
 
     def picture(self, chance, each):
         """The files of one picture, made and damaged."""

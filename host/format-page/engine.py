@@ -13,6 +13,7 @@ ARGUMENTS = {
     "ra_make": (NUMBER,) * 4 + SLICE + (NUMBER,) + SLICE + SLICE,
     "ra_expand": SLICE + SLICE,
 }
+LOOKUPS = ("ra_cell", "ra_rank", "ra_position")
 
 
 def static_library():
@@ -34,6 +35,9 @@ class Engine:
         for name, arguments in ARGUMENTS.items():
             call = getattr(self.library, name)
             call.argtypes, call.restype = arguments, NUMBER
+        for name in LOOKUPS:
+            call = getattr(self.library, name)
+            call.argtypes, call.restype = SLICE + (NUMBER,), ctypes.c_uint64
 
     def check(self, data):
         """The number of a file, 0 when it is accepted."""
@@ -51,6 +55,13 @@ class Engine:
         if number != 0:
             raise ValueError("ra_make gives %d" % number)
         return file[:int.from_bytes(file[48:52], "little")].tobytes()
+
+    def lookup(self, name, data, number):
+        """What cell, rank or position gives on an accepted file: its value, or None where the cell is empty."""
+        code, value = divmod(getattr(self.library, "ra_" + name)(data, len(data), number), 2 ** 32)
+        if code not in (0, 255):
+            raise ValueError("ra_%s gives %d" % (name, code))
+        return value if code == 0 else None
 
     def expand(self, data, cells):
         """All words of an accepted file."""

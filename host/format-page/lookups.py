@@ -1,6 +1,21 @@
-"""The page's searches and readings of runs, written out as its sentences say them."""
+"""The page's coordinates, searches and readings of runs, written out as its sentences say them."""
+import itertools
+
 from counting import Together
 from layout import levels_of, runs_of
+
+
+def coordinates(page):
+    """the page's way from coordinates to a position and back, taken by the word"""
+    for e0, e1, e2, e3 in ((12, 1, 1, 1), (3, 4, 1, 1), (4, 3, 5, 1), (2, 3, 4, 5), (5, 1, 2, 3), (1, 1, 1, 7)):
+        with Together("extents", e0, e1, e2, e3) as each:
+            in_row_order = itertools.product(range(e0), range(e1), range(e2), range(e3))
+            for place, (c0, c1, c2, c3) in enumerate(in_row_order):
+                each(((c0 * e1 + c1) * e2 + c2) * e3 + c3 == place, "position", place)
+                quotient, back3 = divmod(place, e3)
+                quotient, back2 = divmod(quotient, e2)
+                back0, back1 = divmod(quotient, e1)
+                each((back0, back1, back2, back3) == (c0, c1, c2, c3), "coordinates of", place)
 
 
 def lookups(page):

@@ -20,12 +20,17 @@ class Page:
         self.samples = [(ROOT / "samples" / ("m%d.radar" % k)).read_bytes() for k in range(1, 6)]
         blocks = re.findall(r"^```python\n(.*?)^```$", self.text, re.M | re.S)
         expect(len(blocks) == 1, "the page has", len(blocks), "blocks of Python")
+        self.reader = blocks[-1]
         self.reader_file = str(pathlib.Path(folder) / "reader.py")
-        pathlib.Path(self.reader_file).write_text(blocks[-1], encoding="utf-8")
+        pathlib.Path(self.reader_file).write_text(self.reader, encoding="utf-8")
         spec = importlib.util.spec_from_file_location("format_page_reader", self.reader_file)
         reader = importlib.util.module_from_spec(spec)
         spec.loader.exec_module(reader)
-        self.check, self.words = reader.check, reader.words
+        self.check, self.open = reader.check, reader.File
+
+    def words(self, data):
+        """The words of all cells of an accepted file."""
+        return self.open(data).expand()
 
     def number(self, data):
         """check(data), or the text of what it raised."""

@@ -1,9 +1,11 @@
-"""The page's hexadecimal, and the sample files in the reader."""
+"""The page's hexadecimal, the form of its reader, and the sample files in the reader."""
+import ast
 import re
+import sys
 
 from counting import expect
 from layout import file_of
-from page import SAMPLE, SETTINGS
+from page import SAMPLE, SETTINGS, STORED
 
 
 def hexadecimal(page):
@@ -19,9 +21,22 @@ def hexadecimal(page):
         expect(made == data, "m%d: bytes" % k)
 
 
+def reader_form(page):
+    """the reader has about 150 lines of plain Python, standard library only"""
+    lines = page.reader.splitlines()
+    expect(len(lines) <= 160, "lines:", len(lines))
+    expect(max(map(len, lines)) <= 100, "longest line:", max(map(len, lines)))
+    nodes = list(ast.walk(ast.parse(page.reader)))
+    imported = {alias.name for node in nodes if isinstance(node, ast.Import) for alias in node.names}
+    imported |= {node.module for node in nodes if isinstance(node, ast.ImportFrom)}
+    expect(imported <= set(sys.stdlib_module_names), "imports", sorted(imported))
+
+
 def sample_files(page):
     """the samples are accepted, with their words"""
     for k, data in enumerate(page.samples, 1):
         expect(page.number(data) == 0, "m%d" % k)
         expect(page.words(data) == SAMPLE, "m%d: words" % k)
+        file = page.open(data)
+        expect(file.positions == [2, 3, 5, 10] and file.words == STORED, "m%d: positions and stored words" % k)
         expect(file_of(SAMPLE, SETTINGS[k - 1]) == data, "m%d: made again" % k)
