@@ -1,0 +1,76 @@
+# Completion of radar-archive for bash: source this file, or save it as
+# ~/.local/share/bash-completion/completions/radar-archive.
+
+_radar_archive() {
+    local commands="check info list cell rank position box expand make set change shorter best completion man help"
+    local word=${COMP_WORDS[COMP_CWORD]}
+    local before=${COMP_WORDS[COMP_CWORD - 1]}
+    local options=
+    COMPREPLY=()
+
+    if [ "$COMP_CWORD" -eq 1 ]; then
+        COMPREPLY=($(compgen -W "$commands --help --version" -- "$word"))
+        return
+    fi
+
+    # bash takes --name=value for three words.
+    if [ "$word" = "=" ]; then
+        word=
+    elif [ "$before" = "=" ]; then
+        before=${COMP_WORDS[COMP_CWORD - 2]}
+    fi
+
+    case $before in
+        --kind)
+            COMPREPLY=($(compgen -W "runs positions base-offset jumps paged-runs" -- "$word"))
+            return
+            ;;
+        --width)
+            COMPREPLY=($(compgen -W "1 2" -- "$word"))
+            return
+            ;;
+        --at | --low | --high | --rank | --dims | --empty | --step | --max-length)
+            # A number or a place: no file names here.
+            compopt +o default 2>/dev/null
+            return
+            ;;
+        --word)
+            COMPREPLY=($(compgen -W "empty" -- "$word"))
+            compopt +o default 2>/dev/null
+            return
+            ;;
+        -o | --output)
+            return
+            ;;
+    esac
+
+    case ${COMP_WORDS[1]} in
+        check) options="--json --quiet -q --all --no-progress" ;;
+        info) options="--json" ;;
+        list) options="" ;;
+        cell) options="--at --hex --json" ;;
+        rank) options="--at --json" ;;
+        position) options="--rank --json" ;;
+        box) options="--low --high --hex --json --output -o --force -f" ;;
+        expand) options="--output -o --force -f" ;;
+        make) options="--dims --empty --kind --width --step --output -o --force -f --max-length" ;;
+        set) options="--at --word --output -o --force -f --max-length" ;;
+        change) options="--kind --width --step --output -o --force -f --max-length" ;;
+        shorter) options="--json" ;;
+        best) options="--output -o --force -f --max-length" ;;
+        completion)
+            COMPREPLY=($(compgen -W "bash --help" -- "$word"))
+            return
+            ;;
+        help)
+            COMPREPLY=($(compgen -W "$commands --help" -- "$word"))
+            return
+            ;;
+    esac
+    case $word in
+        -*) COMPREPLY=($(compgen -W "$options --help -h" -- "$word")) ;;
+    esac
+}
+
+# Without an answer of its own, bash completes file names.
+complete -o bashdefault -o default -F _radar_archive radar-archive

@@ -1,0 +1,117 @@
+//! The commands, and the choice among them.
+
+mod best;
+mod box_words;
+mod cell;
+mod change;
+mod check;
+mod completion;
+mod expand;
+mod help;
+mod info;
+mod list;
+mod make;
+mod man;
+mod position;
+mod put_out;
+mod rank;
+mod set;
+mod shorter;
+mod walk;
+
+#[cfg(test)]
+pub(crate) use completion::BASH;
+#[cfg(test)]
+pub(crate) use man::PAGE;
+
+use std::ffi::{OsStr, OsString};
+
+use crate::arguments::{nearest, parse, Command, Request};
+use crate::failure::{Failure, DONE};
+use crate::help::PROGRAM;
+use crate::output::Results;
+use crate::shown;
+
+/// All commands, in the order of the program's help.
+pub static ALL: [&Command; 16] = [
+    &check::COMMAND,
+    &info::COMMAND,
+    &list::COMMAND,
+    &cell::COMMAND,
+    &rank::COMMAND,
+    &position::COMMAND,
+    &box_words::COMMAND,
+    &expand::COMMAND,
+    &make::COMMAND,
+    &set::COMMAND,
+    &change::COMMAND,
+    &shorter::COMMAND,
+    &best::COMMAND,
+    &completion::COMMAND,
+    &man::COMMAND,
+    &help::COMMAND,
+];
+
+/// Runs the command that the first argument names on the others, and gives the exit status.
+pub fn run(mut arguments: impl Iterator<Item = OsString>) -> Result<u8, Failure> {
+    let Some(first) = arguments.next() else {
+        return Err(usage("no command is given".to_string()));
+    };
+    match first.to_str() {
+        Some("--help" | "-h") => return tell(PROGRAM),
+        Some("--version" | "-V") => return tell(&version()),
+        Some(word) if word.starts_with('-') => return Err(unknown_option(word)),
+        _ => {}
+    }
+    let command = named(&first)?;
+    match parse(command, arguments)? {
+        Request::Help => tell(command.help),
+        Request::Run(given) => (command.run)(&given),
+    }
+}
+
+/// The command of a name.
+fn named(name: &OsStr) -> Result<&'static Command, Failure> {
+    if let Some(command) = ALL.into_iter().find(|command| name == command.name) {
+        return Ok(command);
+    }
+    let names = ALL.into_iter().map(|command| command.name);
+    let hint = name
+        .to_str()
+        .and_then(|name| nearest(name, names))
+        .map_or(String::new(), |name| format!("; did you mean {name}?"));
+    let name = shown::quoted(name);
+    Err(usage(format!("there is no command {name}{hint}")))
+}
+
+/// What is said of an option before the command that is not the program's.
+fn unknown_option(word: &str) -> Failure {
+    let typed = word.trim_start_matches('-');
+    let hint = match nearest(typed, ["help", "version"].into_iter()) {
+        Some(name) => format!("did you mean --{name}?"),
+        None => "a command's options stand after its name".to_string(),
+    };
+    let word = shown::quoted(OsStr::new(word));
+    usage(format!("unknown option {word}; {hint}"))
+}
+
+/// A usage error of the program.
+fn usage(message: String) -> Failure {
+    Failure::Usage {
+        command: None,
+        message,
+    }
+}
+
+/// The program's name and version.
+fn version() -> String {
+    format!("radar-archive {}\n", env!("CARGO_PKG_VERSION"))
+}
+
+/// Puts a text on standard output.
+fn tell(text: &str) -> Result<u8, Failure> {
+    let mut results = Results::open()?;
+    results.put(text.as_bytes())?;
+    results.finish()?;
+    Ok(DONE)
+}

@@ -1,0 +1,64 @@
+//! `best`: the picture in the setting whose file is shortest.
+
+use radar_archive::Setting;
+
+use crate::arguments::{Command, Given, Operands, Opt};
+use crate::commands::put_out;
+use crate::failure::{note, Failure};
+use crate::input::Input;
+use crate::lengths::Lengths;
+use crate::{kinds, refused};
+
+pub(super) static COMMAND: Command = Command {
+    name: "best",
+    options: &[Opt::OUTPUT, Opt::FORCE, Opt::MAX_LENGTH],
+    operands: Operands::each(&["FILE"]),
+    help: include_str!("../help/best.txt"),
+    run,
+};
+
+fn run(given: &Given) -> Result<u8, Failure> {
+    let most = given.number(&Opt::MAX_LENGTH)?;
+    let output = put_out::output(given)?;
+    let file = Input::picture(&given.operands[0])?;
+    let archive = file.open()?;
+    // Kind 2 takes every picture, so that there is always a shortest.
+    let shortest = Lengths::of(&archive).shortest();
+    let setting = shortest.map_or(Setting::positions(), |offer| offer.setting);
+    let changed = put_out::file(
+        &file.path,
+        setting.longest_file(archive.stored_count() as usize),
+        most,
+        |destination| archive.change_into(setting, destination),
+        |refusal| refused::setting(refusal, setting),
+    )?;
+    let status = put_out::put(output, &changed)?;
+    let message = told(archive.setting(), file.bytes.len(), setting, changed.len());
+    note(&file.path, &message);
+    Ok(status)
+}
+
+/// Which setting was chosen, and both lengths.
+fn told(old: Setting, old_length: usize, new: Setting, new_length: usize) -> String {
+    let (from, to) = (written(old), written(new));
+    format!("{old_length} bytes with {from}; {new_length} bytes with {to}, the shortest")
+}
+
+/// A setting as the options that give it.
+pub(super) fn written(setting: Setting) -> String {
+    let name = kinds::name(setting.kind).unwrap_or("");
+    format!("--kind {name}{}", width_and_step(setting))
+}
+
+/// Width and step as options, those that are 0 left out.
+pub(super) fn width_and_step(setting: Setting) -> String {
+    let option = |name: &str, value: u32| match value {
+        0 => String::new(),
+        value => format!(" --{name} {value}"),
+    };
+    format!(
+        "{}{}",
+        option("width", setting.width),
+        option("step", setting.step)
+    )
+}

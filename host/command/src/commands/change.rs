@@ -1,0 +1,38 @@
+//! `change`: the picture in another setting.
+
+use crate::arguments::{Command, Given, Operands, Opt};
+use crate::commands::put_out;
+use crate::failure::Failure;
+use crate::input::Input;
+use crate::refused;
+
+pub(super) static COMMAND: Command = Command {
+    name: "change",
+    options: &[
+        Opt::KIND,
+        Opt::WIDTH,
+        Opt::STEP,
+        Opt::OUTPUT,
+        Opt::FORCE,
+        Opt::MAX_LENGTH,
+    ],
+    operands: Operands::each(&["FILE"]),
+    help: include_str!("../help/change.txt"),
+    run,
+};
+
+fn run(given: &Given) -> Result<u8, Failure> {
+    let setting = given.setting()?;
+    let most = given.number(&Opt::MAX_LENGTH)?;
+    let output = put_out::output(given)?;
+    let file = Input::picture(&given.operands[0])?;
+    let archive = file.open()?;
+    let changed = put_out::file(
+        &file.path,
+        setting.longest_file(archive.stored_count() as usize),
+        most,
+        |destination| archive.change_into(setting, destination),
+        |refusal| refused::setting(refusal, setting),
+    )?;
+    put_out::put(output, &changed)
+}

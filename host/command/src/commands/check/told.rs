@@ -1,0 +1,119 @@
+//! What came out for one file.
+
+use std::ffi::OsStr;
+
+use radar_archive::{Archive, Refusal};
+
+use crate::diagnosis::{self, Finding};
+use crate::input::Input;
+use crate::json::Object;
+use crate::refused;
+
+/// What came out for one file.
+pub(super) enum Told<'a> {
+    /// It is accepted.
+    Accepted {
+        path: &'a OsStr,
+        archive: Archive<'a>,
+    },
+    /// It is refused.
+    Refused {
+        path: &'a OsStr,
+        refusal: Refusal,
+        finding: Finding,
+        length: usize,
+    },
+    /// It could not be read.
+    Unread { path: &'a OsStr, message: String },
+}
+
+impl<'a> Told<'a> {
+    /// Checks a file.
+    pub(super) fn file(file: &'a Input) -> Told<'a> {
+        let path = &file.path;
+        match Archive::open(&file.bytes) {
+            Ok(archive) => Told::Accepted { path, archive },
+            Err(refusal) => Told::Refused {
+                path,
+                refusal,
+                finding: diagnosis::of(&file.bytes, refusal),
+                length: file.bytes.len(),
+            },
+        }
+    }
+
+    /// A file that could not be read.
+    pub(super) fn unread(path: &'a OsStr, message: String) -> Told<'a> {
+        Told::Unread { path, message }
+    }
+
+    pub(super) fn is_accepted(&self) -> bool {
+        matches!(self, Told::Accepted { .. })
+    }
+
+    pub(super) fn path(&self) -> &OsStr {
+        match self {
+            Told::Accepted { path, .. } => path,
+            Told::Refused { path, .. } => path,
+            Told::Unread { path, .. } => path,
+        }
+    }
+
+    /// What is told after the path.
+    pub(super) fn sentence(&self) -> String {
+        match self {
+            Told::Accepted { .. } => "accepted".to_string(),
+            Told::Refused {
+                refusal, finding, ..
+            } => refused::sentence(*refusal, finding),
+            Told::Unread { message, .. } => message.clone(),
+        }
+    }
+
+    /// The same as an object.
+    pub(super) fn object(&self) -> Object {
+        let mut object = Object::new();
+        object.path("path", self.path());
+        object.truth("accepted", self.is_accepted());
+        match self {
+            Told::Accepted { archive, .. } => {
+                object.number("number", 0).text("word", "accepted");
+                facts(&mut object, archive);
+                object.number("length", archive.bytes().len() as u64);
+            }
+            Told::Refused {
+                refusal,
+                finding,
+                length,
+                ..
+            } => {
+                object.number("number", refusal.number().into());
+                object.text("word", refusal.word());
+                object.text("message", &finding.message);
+                match finding.byte {
+                    Some(byte) => object.number("byte", byte as u64),
+                    None => object.null("byte"),
+                };
+                object.number("length", *length as u64);
+            }
+            Told::Unread { message, .. } => {
+                object.text("error", message);
+            }
+        }
+        object
+    }
+}
+
+/// Setting, dimensions, empty word and counts of a file.
+fn facts(object: &mut Object, archive: &Archive<'_>) {
+    let (setting, dimensions) = (archive.setting(), archive.dimensions());
+    let extents = &dimensions.extents[..dimensions.count as usize];
+    object
+        .number("kind", setting.kind.into())
+        .number("width", setting.width.into())
+        .number("step", setting.step.into())
+        .numbers("dimensions", extents)
+        .number("cells", archive.cells().into())
+        .number("empty", archive.empty().into())
+        .number("stored", archive.stored_count().into());
+}

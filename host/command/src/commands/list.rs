@@ -1,0 +1,62 @@
+//! `list`: the stored cells of a file, as the lister lists them.
+
+use radar_archive::{Archive, Rank, Setting};
+
+use crate::arguments::{Command, Given, Operands};
+use crate::failure::{Failure, DONE};
+use crate::input::Input;
+use crate::numbers;
+use crate::output::Results;
+
+pub(super) static COMMAND: Command = Command {
+    name: "list",
+    options: &[],
+    operands: Operands::each(&["FILE"]),
+    help: include_str!("../help/list.txt"),
+    run,
+};
+
+/// The bytes before the positions of a kind 2 file.
+const HEADER_LENGTH: usize = 52;
+
+fn run(given: &Given) -> Result<u8, Failure> {
+    let file = Input::picture(&given.operands[0])?;
+    let mut results = Results::open()?;
+    let archive = match Archive::open(&file.bytes) {
+        Ok(archive) => archive,
+        Err(refusal) => {
+            results.put(format!("refused {}\n", refusal.number()).as_bytes())?;
+            results.finish()?;
+            return Err(file.refused(refusal));
+        }
+    };
+    let (kind, cells) = (archive.setting().kind, archive.cells());
+    let stored = archive.stored_count();
+    results.put(format!("{kind} {cells} {stored}\n").as_bytes())?;
+    lines(&file, &archive, &mut results)?;
+    results.finish()?;
+    Ok(DONE)
+}
+
+/// Puts a line for each stored cell. The positions are those of the picture's kind 2 file.
+fn lines(file: &Input, archive: &Archive<'_>, results: &mut Results) -> Result<(), Failure> {
+    let stored = archive.stored_count();
+    let refused = |refusal| file.refused(refusal);
+    let words = archive.ranks(Rank(0), Rank(stored)).map_err(refused)?;
+    let positions = archive.change(Setting::positions()).map_err(refused)?;
+    let positions = &positions[HEADER_LENGTH..];
+    let number = |bytes: &[u8]| u32::from_le_bytes([bytes[0], bytes[1], bytes[2], bytes[3]]);
+    let cells = positions.chunks_exact(4).zip(words.chunks_exact(4));
+    let mut line = Vec::new();
+    for (rank, (position, word)) in (0..stored).zip(cells) {
+        line.clear();
+        numbers::put(&mut line, rank);
+        line.push(b' ');
+        numbers::put(&mut line, number(position));
+        line.push(b' ');
+        numbers::put(&mut line, number(word));
+        line.push(b'\n');
+        results.put(&line)?;
+    }
+    Ok(())
+}

@@ -1,0 +1,56 @@
+//! What the commands that put out a file share.
+
+use std::ffi::OsStr;
+
+use radar_archive::Refusal;
+
+use crate::arguments::{Given, Opt};
+use crate::failure::{Failure, DONE};
+use crate::output::{Content, Output};
+use crate::refused;
+
+/// The target that `-o` names, looked at.
+pub(super) fn output(given: &Given) -> Result<Output, Failure> {
+    look(given, given.required(&Opt::OUTPUT)?)
+}
+
+/// Looks at a target.
+pub(super) fn look(given: &Given, name: &OsStr) -> Result<Output, Failure> {
+    if name.is_empty() {
+        return Err(given.bad_value(&Opt::OUTPUT, "'' names no file"));
+    }
+    Output::look(name, given.has(&Opt::FORCE))
+}
+
+/// Puts out a picture file and gives the exit status.
+pub(super) fn put(output: Output, file: &[u8]) -> Result<u8, Failure> {
+    output.put(file, Content::Picture)?;
+    Ok(DONE)
+}
+
+/// A file that a call puts out in a destination of at most `most` bytes, if so many are allowed.
+///
+/// `longest` is a length that the file does not exceed. A refusal with 10 tells the length that the file has; any other is told by
+/// `why`.
+pub(super) fn file(
+    path: &OsStr,
+    longest: usize,
+    most: Option<u32>,
+    mut call: impl FnMut(&mut [u8]) -> Result<usize, Refusal>,
+    why: impl FnOnce(Refusal) -> String,
+) -> Result<Vec<u8>, Failure> {
+    let lent = most.map_or(longest, |most| longest.min(most as usize));
+    let mut destination = vec![0; lent];
+    match (call(&mut destination), most) {
+        (Ok(length), _) => {
+            destination.truncate(length);
+            Ok(destination)
+        }
+        (Err(Refusal::Small), Some(most)) => {
+            let length = call(&mut vec![0; longest]).unwrap_or(longest);
+            let message = refused::small(length, most);
+            Err(Failure::refused(path, Refusal::Small, message))
+        }
+        (Err(refusal), _) => Err(Failure::refused(path, refusal, why(refusal))),
+    }
+}

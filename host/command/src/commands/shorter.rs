@@ -1,0 +1,81 @@
+//! `shorter`: the shorter of two files of one picture.
+
+use radar_archive::{Archive, Dimensions, Position};
+
+use crate::arguments::{Command, Given, Operands, Opt};
+use crate::commands::position::put_line;
+use crate::failure::{Failure, DONE};
+use crate::input::Input;
+use crate::json::Object;
+use crate::numbers;
+use crate::output::Results;
+use crate::shown;
+
+pub(super) static COMMAND: Command = Command {
+    name: "shorter",
+    options: &[Opt::JSON],
+    operands: Operands::each(&["A", "B"]),
+    help: include_str!("../help/shorter.txt"),
+    run,
+};
+
+fn run(given: &Given) -> Result<u8, Failure> {
+    let first = Input::picture(&given.operands[0])?;
+    let second = Input::picture(&given.operands[1])?;
+    let (a, b) = (first.open()?, second.open()?);
+    let shorter = a.shorter(&b).map_err(|refusal| {
+        let message = format!("{}: {}", shown::quoted(&second.path), difference(&a, &b));
+        Failure::refused(
+            &first.path,
+            refusal,
+            format!("not the picture of {message}"),
+        )
+    })?;
+    let is_first = std::ptr::eq(shorter.bytes(), a.bytes());
+    let path = if is_first { &first.path } else { &second.path };
+    if given.has(&Opt::JSON) {
+        return put_line(&Object::new().path("shorter", path).line());
+    }
+    let mut results = Results::open()?;
+    results.put_path(path, "\n")?;
+    results.finish()?;
+    Ok(DONE)
+}
+
+/// In what the pictures of two files differ.
+fn difference(a: &Archive<'_>, b: &Archive<'_>) -> String {
+    if a.dimensions() != b.dimensions() {
+        let (a, b) = (extents(a.dimensions()), extents(b.dimensions()));
+        return format!("the dimensions are {a} and {b}");
+    }
+    if a.empty() != b.empty() {
+        return format!("the empty words are {} and {}", a.empty(), b.empty());
+    }
+    let (words, others) = (a.expand(), b.expand());
+    match words
+        .iter()
+        .zip(&others)
+        .position(|(word, other)| word != other)
+    {
+        Some(at) => {
+            let (word, other) = (words[at], others[at]);
+            let place = place(a.dimensions(), at as u32);
+            format!("the words at {place} are {word} and {other}")
+        }
+        None => "the pictures differ".to_string(),
+    }
+}
+
+/// Extents as `--dims` takes them.
+fn extents(dimensions: Dimensions) -> String {
+    numbers::joined(&dimensions.extents[..dimensions.count as usize], "x")
+}
+
+/// The coordinates of a position.
+fn place(dimensions: Dimensions, position: u32) -> String {
+    let coordinates = dimensions.coordinates(Position(position));
+    match coordinates.map(|four| numbers::joined(&four[..dimensions.count as usize], ",")) {
+        Ok(text) => text,
+        Err(_) => format!("@{position}"),
+    }
+}

@@ -1,0 +1,74 @@
+//! Kind 4: differences and jumps.
+
+use super::header::{Header, HEADER};
+use super::positions::Rising;
+use super::{fault, many, number, Test};
+
+/// Tests both parts, in the order of the ranks.
+pub(super) fn parts(file: &[u8], header: &Header) -> Test {
+    let width = header.width();
+    let mut rising = Rising::new(header);
+    let mut jumps = 0;
+    for rank in 0..header.stored as usize {
+        let at = header.second_at as usize + width * rank;
+        let difference = number(file, at, width);
+        if difference != 0 {
+            step(&mut rising, rank, difference, at)?;
+            continue;
+        }
+        if jumps == header.first {
+            let message =
+                format!("the difference of rank {rank} is 0, and there is no jump {jumps} for it");
+            return fault(at, message);
+        }
+        jump(file, header, &mut rising, rank, jumps as usize)?;
+        jumps += 1;
+    }
+    left_over(header, jumps)
+}
+
+/// Tests a difference that is not 0.
+fn step(rising: &mut Rising, rank: usize, difference: u64, at: usize) -> Test {
+    let Some(before) = rising.before() else {
+        let message = format!("the difference of rank {rank} is {difference}, not 0");
+        return fault(at, message);
+    };
+    let position = before + difference;
+    rising.add(position, at, || {
+        format!("difference {difference} from position {before} puts rank {rank} at position {position}")
+    })
+}
+
+/// Tests the jump of a rank.
+fn jump(file: &[u8], header: &Header, rising: &mut Rising, rank: usize, index: usize) -> Test {
+    let at = HEADER + 4 * index;
+    let position = number(file, at, 4);
+    let before = rising.before();
+    rising.add(position, at, || {
+        format!("jump {index} puts rank {rank} at position {position}")
+    })?;
+    let Some(before) = before else {
+        return Ok(());
+    };
+    let width = header.width();
+    let largest = (1 << (8 * width)) - 1;
+    let difference = position - before;
+    if difference <= largest {
+        let message = format!(
+            "jump {index} goes from position {before} to {position}, but a difference of {difference} fits width {width}"
+        );
+        return fault(at, message);
+    }
+    Ok(())
+}
+
+/// Tests that each jump is that of a rank.
+fn left_over(header: &Header, taken: u64) -> Test {
+    if taken == header.first {
+        return Ok(());
+    }
+    let jumps = many(header.first, "jump");
+    let zeros = many(taken, "difference");
+    let message = format!("{jumps} for {zeros} of 0; jump {taken} belongs to no rank");
+    fault(HEADER + 4 * taken as usize, message)
+}

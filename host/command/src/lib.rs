@@ -1,0 +1,36 @@
+//! The command `radar-archive`: check, read, make and change radar picture files at a shell.
+//!
+//! [`run`] is the whole program. A command of [`commands`] reads its files by [`input`], asks the engine through the crate
+//! `radar_archive`, and puts results on standard output or, by [`output`], in a file. What goes wrong is a [`failure::Failure`].
+#![deny(warnings, missing_docs, unsafe_code)]
+
+pub mod arguments;
+pub mod commands;
+pub mod diagnosis;
+pub mod failure;
+pub mod help;
+pub mod input;
+pub mod json;
+pub mod kinds;
+pub mod lengths;
+pub mod numbers;
+pub mod output;
+pub mod place;
+pub mod progress;
+pub mod refused;
+pub mod shown;
+#[allow(unsafe_code)]
+pub mod signals;
+
+use std::ffi::OsString;
+
+/// Runs the program on its arguments, the program's name left out, and gives the exit status.
+pub fn run(arguments: impl Iterator<Item = OsString>) -> u8 {
+    match commands::run(arguments) {
+        Ok(status) => status,
+        Err(failure) => {
+            failure.tell();
+            failure.status()
+        }
+    }
+}

@@ -1,0 +1,65 @@
+//! Output: results on standard output, and files that are written whole or not at all.
+
+mod standard;
+mod target;
+mod temporary;
+
+use std::ffi::OsStr;
+use std::io::{self, IsTerminal};
+
+use radar_archive::calls;
+
+use crate::failure::Failure;
+
+pub use standard::Results;
+use target::Target;
+
+/// What the bytes of an output file are.
+#[derive(Clone, Copy, Debug, PartialEq, Eq)]
+pub enum Content {
+    /// A picture file, which the engine checks once more before it takes its place.
+    Picture,
+    /// Raw words.
+    Raw,
+}
+
+/// Where a command's file goes.
+#[derive(Debug)]
+pub struct Output {
+    target: Option<Target>,
+}
+
+impl Output {
+    /// Looks at the target that `-o` names; one that may not be written is refused here, before anything is computed.
+    pub fn look(name: &OsStr, force: bool) -> Result<Output, Failure> {
+        if name != "-" {
+            let target = Some(Target::look(name, force)?);
+            return Ok(Output { target });
+        }
+        if io::stdout().is_terminal() && !force {
+            let message = "is a terminal; these are bytes, not text: name a file, pipe them on, or use --force";
+            return Err(Failure::file("standard output", message));
+        }
+        Ok(Output { target: None })
+    }
+
+    /// Puts the bytes there.
+    pub fn put(self, bytes: &[u8], content: Content) -> Result<(), Failure> {
+        if content == Content::Picture {
+            if let Err(refusal) = calls::check(bytes) {
+                let name = self.target.map_or("standard output".into(), |t| t.name);
+                let message =
+                    format!("not written: the engine refuses its own file with {refusal}");
+                return Err(Failure::file(name, message));
+            }
+        }
+        match self.target {
+            Some(target) => target.put(bytes),
+            None => {
+                let mut results = Results::open()?;
+                results.put(bytes)?;
+                results.finish()
+            }
+        }
+    }
+}

@@ -1,0 +1,9 @@
+//! The diagnosis of refused files: each sentence word for word, and many damaged and forged files.
+
+mod files;
+mod forged;
+mod header;
+mod parts;
+mod positions;
+mod rows;
+mod runs;

@@ -1,0 +1,121 @@
+//! `--json` of the lookups and of `info`: one JSON object on one line.
+
+mod support;
+
+use support::files::{Picture, SAMPLE};
+use support::json::Json;
+use support::Folder;
+
+#[test]
+fn the_parser_is_strict() {
+    let wrong = [
+        "",
+        "nul",
+        "{",
+        "[1,]",
+        "[1 2]",
+        "{\"a\":1,}",
+        "{\"a\":1,\"a\":2}",
+        "{a:1}",
+        "01",
+        "1.",
+        ".5",
+        "+1",
+        "-",
+        "1e",
+        "\"\n\"",
+        "\"\\x\"",
+        "\"\\u12g4\"",
+        "\"\\ud800\"",
+        "\"",
+        "1 1",
+        "'a'",
+        "[1]]",
+        "NaN",
+        "True",
+    ];
+    for text in wrong {
+        assert!(Json::parse(text).is_err(), "{text}");
+    }
+    assert_eq!(Json::of(" [1, -2.5e1,\"\\u00e9\\ud83d\\ude00\\n\"] "), {
+        let text = Json::String("\u{e9}\u{1f600}\n".to_string());
+        Json::Array(vec![Json::Number(1), Json::Fraction(-25.0), text])
+    });
+    assert_eq!(Json::of("{\"a\":[],\"b\":{}}").keys(), ["a", "b"]);
+}
+
+#[test]
+fn the_lookups() {
+    let folder = Folder::with_samples();
+    folder.write(
+        "plane",
+        &Picture::of(&[3, 4], 0, SAMPLE.to_vec()).file([2, 0, 0]),
+    );
+    let cases = [
+        ("cell m2.radar --at 10", "{\"word\":300}"),
+        ("cell m2.radar --at 0", "{\"word\":0}"),
+        ("rank m2.radar --at 10", "{\"rank\":3}"),
+        ("rank m2.radar --at 9", "{\"rank\":null}"),
+        (
+            "position m2.radar --rank 3",
+            "{\"position\":10,\"coordinates\":[10]}",
+        ),
+        (
+            "position plane --rank 3",
+            "{\"position\":10,\"coordinates\":[2,2]}",
+        ),
+        (
+            "box plane --low 0,1 --high 1,3",
+            "{\"dimensions\":[2,3],\"words\":[0,7,9,5,0,0]}",
+        ),
+        (
+            "box m2.radar --low 2 --high 2",
+            "{\"dimensions\":[1],\"words\":[7]}",
+        ),
+        ("shorter m1.radar m2.radar", "{\"shorter\":\"m2.radar\"}"),
+    ];
+    for (call, expected) in cases {
+        let run = folder.run(&format!("{call} --json"));
+        assert_eq!(run.json(), Json::of(expected), "{}", run.story());
+    }
+}
+
+#[test]
+fn info_has_what_it_prints_as_text() {
+    let folder = Folder::new();
+    let picture = Picture::of(&[3, 4], 0, SAMPLE.to_vec());
+    folder.write("p", &picture.file([3, 1, 2]));
+    let run = folder.run("info --json p");
+    let info = run.json();
+    let expected = [
+        ("kind", "3"),
+        ("width", "1"),
+        ("step", "2"),
+        ("dimensions", "[3,4]"),
+        ("cells", "12"),
+        ("empty", "0"),
+        ("stored", "4"),
+        ("runs", "3"),
+        ("length", "80"),
+        ("path", "\"p\""),
+    ];
+    for (key, value) in expected {
+        assert_eq!(*info.at(key), Json::of(value), "{key}: {}", run.story());
+    }
+}
+
+#[test]
+fn a_refusal_with_json_is_told_on_standard_error() {
+    let folder = Folder::with_samples();
+    for call in [
+        "cell m2.radar --at 12",
+        "rank m2.radar --at 12",
+        "position m2.radar --rank 4",
+    ] {
+        let run = folder.run(&format!("{call} --json"));
+        run.refused(8);
+        for line in run.text().lines() {
+            Json::parse(line).unwrap_or_else(|e| panic!("{e}\n{}", run.story()));
+        }
+    }
+}

@@ -1,0 +1,69 @@
+//! The commands and their options, as the specification has them.
+
+/// A command and the options it takes besides `--help`.
+pub type Command = (&'static str, &'static [&'static str]);
+
+/// The commands on files.
+pub const COMMANDS: [Command; 13] = [
+    (
+        "check",
+        &["--json", "-q", "--quiet", "--all", "--no-progress"],
+    ),
+    ("info", &["--json"]),
+    ("list", &[]),
+    ("cell", &["--at", "--hex", "--json"]),
+    ("rank", &["--at", "--json"]),
+    ("position", &["--rank", "--json"]),
+    (
+        "box",
+        &[
+            "--low", "--high", "--hex", "--json", "-o", "--output", "-f", "--force",
+        ],
+    ),
+    ("expand", &["-o", "--output", "-f", "--force"]),
+    (
+        "make",
+        &[
+            "--dims",
+            "--empty",
+            "--kind",
+            "--width",
+            "--step",
+            "-o",
+            "--output",
+            "-f",
+            "--force",
+            "--max-length",
+        ],
+    ),
+    (
+        "set",
+        &[
+            "--at",
+            "--word",
+            "-o",
+            "--output",
+            "-f",
+            "--force",
+            "--max-length",
+        ],
+    ),
+    (
+        "change",
+        &[
+            "--kind",
+            "--width",
+            "--step",
+            "-o",
+            "--output",
+            "-f",
+            "--force",
+            "--max-length",
+        ],
+    ),
+    ("shorter", &["--json"]),
+    ("best", &["-o", "--output", "-f", "--force", "--max-length"]),
+];
+
+/// The commands that read no file.
+pub const OTHERS: [&str; 3] = ["completion", "man", "help"];
