@@ -29,7 +29,7 @@ both-assoc true c d = refl
 both-assoc false c d = refl
 
 -- a group from its base's own rank on
-group-start : (base next o : ℕ) (os : List ℕ) → groupRight base next (o ∷ os) ≡ both (eqb o 0) (climbs 1 (next - base) os)
+pub group-start : (base next o : ℕ) (os : List ℕ) → groupRight base next (o ∷ os) ≡ both (eqb o 0) (climbs 1 (next - base) os)
 unfolding groupRight climbs
 group-start base next o os =
     cases (eqb o 0)

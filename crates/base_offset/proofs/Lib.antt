@@ -1,5 +1,6 @@
 pub mod RankByRank
 pub mod Groups
+pub mod Falls
 pub mod Pieces
 pub mod Known
 pub mod PartsRight

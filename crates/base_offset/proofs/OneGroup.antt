@@ -6,15 +6,15 @@ use mathlib.Core.List.{List}
 use native.Mathlib.Nat.{mul-suc}
 use native.Mathlib.Omega.{arith}
 use lib.ListN.{drop}
-use lib.Dec.{eqb}
-use borrow.Author.Tests.{eq-eqb, ne-eqb, le-leb, le-ltb}
+use lib.Dec.{eqb, ltb}
+use borrow.Author.Tests.{eq-eqb, ne-eqb, le-ltb}
 use Rattle.format.specs.Tools.{both, first}
 use Rattle.format.specs.Bytes.{field, numbersOf}
 use Rattle.wire.specs.Wire.{entrySize}
 use Rattle.wire.proofs.Laws.{field-zero, size-none}
-use Rattle.header.specs.Body.{rises}
 use Rattle.laws.proofs.Numbers.{numbers-turn}
-use Rattle.base_offset.specs.Group.{groupRight}
+use Rattle.base_offset.specs.Group.{groupEnds, lastAfter}
+use Rattle.base_offset.proofs.Falls.{last-entry}
 
 -- an entry of another width than 1 and 2
 pub entry-none : (w at : ℕ) (b : List ℕ) → (w ≡ 1 → ⊥) → (w ≡ 2 → ⊥) → 0 ≡ field (entrySize w) at b
@@ -26,20 +26,20 @@ room w zero place size h k = absurd (omega arith)
 room w (suc n) place size h k = let e : suc n - 1 ≡ n = omega arith in let m = mul-suc w n in rw e (omega arith, omega arith)
 
 module _ (w n at base next : ℕ) (b : List ℕ) (some : 1 ≤ n) where
-  pub group-past : next ≤ base → false ≡ groupRight base next (numbersOf w n (drop at b))
-  unfolding groupRight rises
-  group-past h =
+  pub ends-past : next ≤ base → false ≡ groupEnds base next (numbersOf w n (drop at b))
+  unfolding groupEnds
+  ends-past h =
       let e : next - base ≡ 0 = omega arith in
-      sym (rw (numbers-turn w n at b some, e, le-leb 0 (field w at b) (omega arith), le-ltb (field w at b) 0 (omega arith)) (never (eqb (field w at b) 0)))
+      sym (rw (numbers-turn w n at b some, e, le-ltb (lastAfter (field w at b) (numbersOf w (n - 1) (drop (at + w) b))) 0 (omega arith)) (never (eqb (field w at b) 0)))
     where
       never : (t : Bool) → both t false ≡ false
       never true = refl
       never false = refl
 
-  pub group-first : (field w at b ≡ 0 → ⊥) → false ≡ groupRight base next (numbersOf w n (drop at b))
-  unfolding groupRight
-  group-first h = sym (rw (numbers-turn w n at b some, ne-eqb (field w at b) 0 h))
+  pub ends-first : (field w at b ≡ 0 → ⊥) → false ≡ groupEnds base next (numbersOf w n (drop at b))
+  unfolding groupEnds
+  ends-first h = sym (rw (numbers-turn w n at b some, ne-eqb (field w at b) 0 h))
 
-  pub group-rest : field w at b ≡ 0 → rises 0 (next - base) (numbersOf w n (drop at b)) ≡ groupRight base next (numbersOf w n (drop at b))
-  unfolding groupRight
-  group-rest h = sym (rw (numbers-turn w n at b some, eq-eqb (field w at b) 0 h))
+  pub ends-last : field w at b ≡ 0 → ltb (field w (at + w * (n - 1)) b) (next - base) ≡ groupEnds base next (numbersOf w n (drop at b))
+  unfolding groupEnds
+  ends-last h = sym (rw (numbers-turn w n at b some, last-entry w (n - 1) at b, eq-eqb (field w at b) 0 h))

@@ -1,51 +1,28 @@
 -- The check of kind 3 along the groups: its start, one turn, and its end. Assumes nothing.
-use Prim.Native.Nat.{ℕ, zero, suc, _+_, _-_, _*_, _≤_, _<_}
-use mathlib.Core.Path.{_≡_, sym, ap, _∙_}
+use Prim.Native.Nat.{ℕ, _+_, _-_, _*_, _≤_, _<_}
+use mathlib.Core.Path.{_≡_, refl, sym, ap, _∙_}
 use mathlib.Core.Bool.{true, false}
 use mathlib.Core.List.{List, [], _∷_}
 use native.Mathlib.Nat.{mul-sub, mul-le-mul-left}
 use native.Mathlib.Omega.{arith}
 use lib.ListN.{length, drop}
 use lib.Dec.{eqb}
-use borrow.Author.Tests.{eqb-true, eqb-false, le-leb}
+use borrow.Author.Tests.{eq-eqb, ne-eqb, le-leb}
 use Rattle.format.specs.declared.View.{View}
 use Rattle.format.specs.Tools.{Below, both, upTo}
 use Rattle.format.specs.Bytes.{field, numbersOf}
-use Rattle.laws.proofs.Tools.{cases}
-use Rattle.laws.proofs.Bounds.{upTo-suc, upTo-zero}
 use Rattle.laws.proofs.Check.{length-numbersOf}
 use Rattle.wire.specs.Wire.{entrySize}
 use Rattle.header.specs.View.{secondPlace}
 use Rattle.header.specs.Body.{partsRight}
 use Rattle.laws.proofs.Numbers.{numbers-turn, numbers-end}
-use Rattle.base_offset.specs.Group.{groupRight}
+use Rattle.base_offset.specs.Group.{falls, groupEnds, endsRight, endsOf}
 use Rattle.base_offset.proofs.RankByRank.{ranksRight}
-use Rattle.base_offset.proofs.Groups.{groupsRight, groups-ranks}
+use Rattle.base_offset.proofs.Groups.{groups-ranks}
+use Rattle.base_offset.proofs.Falls.{count-next, count-some, count-left, groups-ends}
 use Rattle.base_offset.proofs.Pieces.{take-numbers, drop-numbers}
 use Rattle.base_offset.proofs.Known.{Known, basesOf, offsetsOf}
 use Rattle.base_offset.proofs.PartsRight.{bases-count, ranks-are}
-
--- ---- the number of groups
-
-count-next : (l left more : ℕ) → 1 ≤ l → 0 < more → more + 1 ≡ upTo left l → (l < left) × (more - 1 + 1 ≡ upTo (left - l) l)
-count-next l zero more h g e = absurd (omega (arith, upTo-zero l h))
-count-next l (suc m) more h g e =
-    let s = upTo-suc m l h in
-    let z : more ≡ upTo (m - (l - 1)) l = omega arith in
-    let q : suc m - l ≡ m - (l - 1) = omega arith in (
-      cases (eqb (m - (l - 1)) 0)
-          (λ t. let y : more ≡ upTo 0 l = z ∙ ap (λ (x : ℕ). upTo x l) (eqb-true (m - (l - 1)) 0 t) in absurd (omega (arith, upTo-zero l h)))
-          (λ t. let y = eqb-false (m - (l - 1)) 0 t in omega arith),
-      rw q (omega arith),
-    )
-
-count-some : (l left : ℕ) → 1 ≤ l → 0 < left → 0 < upTo left l
-count-some l zero h k = absurd (omega arith)
-count-some l (suc m) h k = omega (arith, upTo-suc m l h)
-
-count-left : (l left more : ℕ) → 1 ≤ l → more + 1 ≡ upTo left l → 1 ≤ left
-count-left l zero more h e = absurd (omega (arith, upTo-zero l h))
-count-left l (suc m) more h e = omega arith
 
 -- ---- before a turn: the group of `base` is next, with `more` groups after it and `left` ranks in all
 
@@ -53,7 +30,7 @@ pub record Turn (b : List ℕ) (v : View) (base place at left more : ℕ) : Type
   pub bases : place + 4 * more ≤ length b
   pub ranks : at + entrySize (v .width) * left ≤ length b
   pub count : more + 1 ≡ upTo left (v .step)
-  pub rest : groupsRight (v .step) (v .cells) base (numbersOf 4 more (drop place b)) (numbersOf (entrySize (v .width)) left (drop at b)) ≡ partsRight b
+  pub rest : endsRight (v .step) (v .cells) base (numbersOf 4 more (drop place b)) (numbersOf (entrySize (v .width)) left (drop at b)) ≡ endsOf b v
 
 module _ {b : List ℕ} {v : View} (k : Known b v) where
   pub no-ranks : Below 256 b → v .words ≡ 0 → true ≡ partsRight b
@@ -66,31 +43,45 @@ module _ {b : List ℕ} {v : View} (k : Known b v) where
   pub firsts-some : 0 < v .words → 0 < v .firsts
   firsts-some h = rw (k .bases) (count-some (v .step) (v .words) (k .step-least) h)
 
-  pub turn-start : Below 256 b → 0 < v .words → Turn b v (field 4 52 b) 56 (secondPlace v) (v .words) (v .firsts - 1)
-  turn-start s h =
+  parts-ends : Below 256 b → 0 < v .words → both (eqb (falls (offsetsOf b v)) (v .firsts - 1)) (endsOf b v) ≡ partsRight b
+  unfolding endsOf
+  parts-ends s h =
+      let f = firsts-some h in
+      let bs = numbersOf 4 (v .firsts - 1) (drop 56 b) in
+      let n : basesOf b v ≡ field 4 52 b ∷ bs = numbers-turn 4 (v .firsts) 52 b f in
+      let z : length (offsetsOf b v) ≡ v .words = length-numbersOf (entrySize (v .width)) (v .words) (drop (secondPlace v) b) in
+      let y : length bs ≡ v .firsts - 1 = length-numbersOf 4 (v .firsts - 1) (drop 56 b) in
+      let c : length (field 4 52 b ∷ bs) ≡ upTo (length (offsetsOf b v)) (v .step) = ap length (sym n) ∙ bases-count b v k in
+      ap (λ (x : ℕ). both (eqb (falls (offsetsOf b v)) x) (endsOf b v)) (sym y)
+      ∙ groups-ends (v .step) (v .cells) (field 4 52 b) bs (offsetsOf b v) (k .step-least) (omega arith)
+      ∙ groups-ranks (v .step) (v .cells) (field 4 52 b) bs (offsetsOf b v) (k .step-least) (omega arith) c
+      ∙ ap (λ (x : List ℕ). ranksRight (v .step) 0 0 0 (v .cells) x (offsetsOf b v)) (sym n)
+      ∙ ranks-are b v k s
+
+  pub falls-other : Below 256 b → 0 < v .words → (falls (offsetsOf b v) ≡ v .firsts - 1 → ⊥) → false ≡ partsRight b
+  falls-other s h n = rw (ne-eqb (falls (offsetsOf b v)) (v .firsts - 1) n) at (parts-ends s h)
+
+  pub falls-same : Below 256 b → 0 < v .words → falls (offsetsOf b v) ≡ v .firsts - 1 → endsOf b v ≡ partsRight b
+  falls-same s h e = rw (eq-eqb (falls (offsetsOf b v)) (v .firsts - 1) e) at (parts-ends s h)
+
+  pub turn-start : 0 < v .words → Turn b v (field 4 52 b) 56 (secondPlace v) (v .words) (v .firsts - 1)
+  turn-start h =
       let f = firsts-some h in
       let t = k .there in
       let p = k .second-place in
-      let n : basesOf b v ≡ field 4 52 b ∷ numbersOf 4 (v .firsts - 1) (drop 56 b) = numbers-turn 4 (v .firsts) 52 b f in
-      let z : length (offsetsOf b v) ≡ v .words = length-numbersOf (entrySize (v .width)) (v .words) (drop (secondPlace v) b) in
-      let c : length (field 4 52 b ∷ numbersOf 4 (v .firsts - 1) (drop 56 b)) ≡ upTo (length (offsetsOf b v)) (v .step)
-      = ap length (sym n) ∙ bases-count b v k in
       record {
         bases = omega arith;
         ranks = t;
         count = rw (← (k .bases)) (omega arith);
-        rest =
-            groups-ranks (v .step) (v .cells) (field 4 52 b) (numbersOf 4 (v .firsts - 1) (drop 56 b)) (offsetsOf b v) (k .step-least) (omega arith) c
-            ∙ ap (λ (x : List ℕ). ranksRight (v .step) 0 0 0 (v .cells) x (offsetsOf b v)) (sym n)
-            ∙ ranks-are b v k s;
+        rest = unfold endsOf in refl;
       }
 
   module _ {base place at left more : ℕ} (t : Turn b v base place at left more) where
     pub some-left : 1 ≤ left
     some-left = count-left (v .step) left more (k .step-least) (t .count)
 
-    pub turn-end : more ≤ 0 → groupRight base (v .cells) (numbersOf (entrySize (v .width)) left (drop at b)) ≡ partsRight b
-    unfolding groupsRight
+    pub turn-end : more ≤ 0 → groupEnds base (v .cells) (numbersOf (entrySize (v .width)) left (drop at b)) ≡ endsOf b v
+    unfolding endsRight
     turn-end h = rw (numbers-end 4 more (drop place b) h) at (t .rest)
 
     module _ (next : ℕ) (h : 0 < more) (e : next ≡ field 4 place b) where
@@ -105,11 +96,11 @@ module _ {b : List ℕ} {v : View} (k : Known b v) where
           let r = t .ranks in
           omega arith
 
-      parted : both (groupRight base next (numbersOf (entrySize (v .width)) (v .step) (drop at b)))
-          (groupsRight (v .step) (v .cells) next (numbersOf 4 (more - 1) (drop (place + 4) b))
+      parted : both (groupEnds base next (numbersOf (entrySize (v .width)) (v .step) (drop at b)))
+          (endsRight (v .step) (v .cells) next (numbersOf 4 (more - 1) (drop (place + 4) b))
           (numbersOf (entrySize (v .width)) (left - v .step) (drop (at + entrySize (v .width) * v .step) b)))
-          ≡ partsRight b
-      unfolding groupsRight
+          ≡ endsOf b v
+      unfolding endsRight
       parted =
           let g = whole-group in
           let z : v .step ≤ left = omega arith in
@@ -121,10 +112,10 @@ module _ {b : List ℕ} {v : View} (k : Known b v) where
           )
           at (t .rest)
 
-      pub turn-bad : groupRight base next (numbersOf (entrySize (v .width)) (v .step) (drop at b)) ≡ false → false ≡ partsRight b
+      pub turn-bad : groupEnds base next (numbersOf (entrySize (v .width)) (v .step) (drop at b)) ≡ false → false ≡ endsOf b v
       turn-bad f = rw f at parted
 
-      pub turn-next : groupRight base next (numbersOf (entrySize (v .width)) (v .step) (drop at b)) ≡ true
+      pub turn-next : groupEnds base next (numbersOf (entrySize (v .width)) (v .step) (drop at b)) ≡ true
           → Turn b v next (place + 4) (at + entrySize (v .width) * v .step) (left - v .step) (more - 1)
       turn-next f =
           let g = whole-group in

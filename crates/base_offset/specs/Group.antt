@@ -1,11 +1,48 @@
 -- Kind 3, a group: a base and the offsets of the ranks that it serves. Assumes nothing.
-use Prim.Native.Nat.{ℕ, _-_}
-use mathlib.Core.Bool.{Bool}
-use mathlib.Core.List.{List}
-use lib.Dec.{eqb}
-use Rattle.format.specs.Tools.{both, first}
+use Prim.Native.Nat.{ℕ, _+_, _-_}
+use mathlib.Core.Bool.{Bool, true, false}
+use mathlib.Core.List.{List, [], _∷_}
+use lib.ListN.{take, drop}
+use lib.Dec.{eqb, ltb}
+use Rattle.format.specs.declared.View.{View}
+use Rattle.format.specs.Tools.{both, first, others}
+use Rattle.format.specs.Bytes.{field, numbersOf}
+use Rattle.wire.specs.Wire.{entrySize}
+use Rattle.header.specs.View.{secondPlace}
 use Rattle.header.specs.Body.{rises}
 
 -- the offset of the base's own rank is 0, and the positions rise below `next`
 unfoldable pub groupRight : ℕ → ℕ → List ℕ → Bool
 groupRight base next os = both (eqb (first os) 0) (rises 0 (next - base) os)
+
+-- 0 where a test of a rise holds, and 1 where it fails
+unfoldable pub fallen : Bool → ℕ
+fallen true = 0
+fallen false = 1
+
+-- how many numbers are not above the one before them, which is p for the first
+unfoldable pub fallsAfter : ℕ → List ℕ → ℕ
+fallsAfter p [] = 0
+fallsAfter p (x ∷ xs) = fallen (ltb p x) + fallsAfter x xs
+
+-- the last of the numbers; p where there is none
+unfoldable pub lastAfter : ℕ → List ℕ → ℕ
+lastAfter p [] = p
+lastAfter p (x ∷ xs) = lastAfter x xs
+
+unfoldable pub falls : List ℕ → ℕ
+falls os = fallsAfter (first os) (others os)
+
+-- a group by its first and its last offset alone: they are 0 and below the next base
+unfoldable pub groupEnds : ℕ → ℕ → List ℕ → Bool
+groupEnds base next os = both (eqb (first os) 0) (ltb (lastAfter (first os) (others os)) (next - base))
+
+-- the group of `base`, then those of the bases bs, by their ends
+unfoldable pub endsRight : ℕ → ℕ → ℕ → List ℕ → List ℕ → Bool
+endsRight l bound base [] os = groupEnds base bound os
+endsRight l bound base (next ∷ bs) os = both (groupEnds base next (take l os)) (endsRight l bound next bs (drop l os))
+
+-- the groups of a view with words, by their ends
+unfoldable pub endsOf : List ℕ → View → Bool
+endsOf b v =
+    endsRight (v .step) (v .cells) (field 4 52 b) (numbersOf 4 (v .firsts - 1) (drop 56 b)) (numbersOf (entrySize (v .width)) (v .words) (drop (secondPlace v) b))

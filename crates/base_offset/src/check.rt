@@ -8,11 +8,12 @@ use wire::get_u32;
 ghost use mathlib.Core.Path.{_≡_};
 ghost use Prim.Native.Nat.{_+_, _*_, _≤_, _<_};
 ghost use lib.ListN.{length, drop};
+ghost use lib.Dec.{ltb};
 ghost use Rattle.format.specs.Bytes.{field, numbersOf};
 ghost use Rattle.wire.specs.Wire.{entrySize};
-ghost use Rattle.header.specs.Body.{rises, partsRight};
+ghost use Rattle.header.specs.Body.{partsRight};
 ghost use Rattle.header.specs.Search.{HeaderView};
-ghost use Rattle.base_offset.specs.Group.{groupRight};
+ghost use Rattle.base_offset.specs.Group.{fallen, falls, groupEnds, endsOf};
 
 // An entry of the widths 1 and 2; 0 for any other.
 fn get_entry(file: &[u8], at: usize, width: u32) -> u32
@@ -26,33 +27,65 @@ fn get_entry(file: &[u8], at: usize, width: u32) -> u32
     }
 }
 
-// The n entries of a width from an offset on rise below a bound: each is above the one before, and the last is below the bound.
-fn entries_rise(file: &[u8], at: usize, width: u32, n: u32, bound: u32) -> bool
-    requires { ⌜ at + entrySize width * n ≤ length (now file) ⌝ }
-    ensures { λ r. ⌜ r ≡ rises 0 bound (numbersOf (entrySize width) n (drop at (now (file .entry)))) ⌝ }
+// 1 where y is not above x.
+fn fall(x: u32, y: u32) -> u32
+    ensures { λ r. ⌜ (r ≡ fallen (ltb x y)) × (r ≤ 1) ⌝ }
 {
-    if n == 0 {
-        return true;
-    }
-    let size = entry_size(width);
-    let mut before = get_entry(file, at, width);
-    let mut place = at + size;
-    let mut left = n - 1;
-    let mut right = true;
-    while 0 < left {
-        let x = get_entry(file, place, width);
-        right = right & (before < x);
-        before = x;
-        place += size;
-        left -= 1;
-    }
-    right & (before < bound)
+    if x < y { 0 } else { 1 }
 }
 
-// A group of n >= 1 ranks: its first offset is 0, and its positions rise below the next base.
-fn group_right(file: &[u8], at: usize, width: u32, n: u32, base: u32, next: u32) -> bool
+// How many of the n >= 1 entries of one byte from an offset on are not above the one before.
+fn falls_u8(file: &[u8], at: usize, n: u32) -> u32
+    requires { ⌜ (1 ≤ n) × (at + 1 * n ≤ length (now file)) ⌝ }
+    ensures { λ r. ⌜ r ≡ falls (numbersOf 1 n (drop at (now (file .entry)))) ⌝ }
+{
+    let mut place = at;
+    let mut left = n - 1;
+    let mut count = 0;
+    while 0 < left {
+        let x = get_u8(file, place);
+        let y = get_u8(file, place + 1);
+        count += fall(x, y);
+        place += 1;
+        left -= 1;
+    }
+    count
+}
+
+// The same for entries of two bytes.
+fn falls_u16(file: &[u8], at: usize, n: u32) -> u32
+    requires { ⌜ (1 ≤ n) × (at + 2 * n ≤ length (now file)) ⌝ }
+    ensures { λ r. ⌜ r ≡ falls (numbersOf 2 n (drop at (now (file .entry)))) ⌝ }
+{
+    let mut place = at;
+    let mut left = n - 1;
+    let mut count = 0;
+    while 0 < left {
+        let x = get_u16(file, place);
+        let y = get_u16(file, place + 2);
+        count += fall(x, y);
+        place += 2;
+        left -= 1;
+    }
+    count
+}
+
+// The same for entries of a width. Entries of any other width than 1 and 2 are 0.
+fn count_falls(file: &[u8], at: usize, width: u32, n: u32) -> u32
     requires { ⌜ (1 ≤ n) × (at + entrySize width * n ≤ length (now file)) ⌝ }
-    ensures { λ r. ⌜ r ≡ groupRight base next (numbersOf (entrySize width) n (drop at (now (file .entry)))) ⌝ }
+    ensures { λ r. ⌜ r ≡ falls (numbersOf (entrySize width) n (drop at (now (file .entry)))) ⌝ }
+{
+    match width {
+        1 => falls_u8(file, at, n),
+        2 => falls_u16(file, at, n),
+        _ => n - 1,
+    }
+}
+
+// A group of n >= 1 ranks by its ends: its first offset is 0, and its last position is below the next base.
+fn ends_right(file: &[u8], at: usize, width: u32, n: u32, base: u32, next: u32) -> bool
+    requires { ⌜ (1 ≤ n) × (at + entrySize width * n ≤ length (now file)) ⌝ }
+    ensures { λ r. ⌜ r ≡ groupEnds base next (numbersOf (entrySize width) n (drop at (now (file .entry)))) ⌝ }
 {
     if next <= base {
         return false;
@@ -60,17 +93,15 @@ fn group_right(file: &[u8], at: usize, width: u32, n: u32, base: u32, next: u32)
     if get_entry(file, at, width) != 0 {
         return false;
     }
-    entries_rise(file, at, width, n, next - base)
+    let last = at + entry_size(width) * ((n - 1) as usize);
+    get_entry(file, last, width) < next - base
 }
 
-// The parts are those of rising positions below cells, as many as the words. The last group's positions rise below cells.
-pub fn parts_right(file: &[u8], v: View) -> bool
-    requires { ⌜ HeaderView 3 (now file) v ⌝ }
-    ensures { λ r. ⌜ r ≡ partsRight (now (file .entry)) ⌝ }
+// The groups of a view with words, each by its ends. The last group's positions are below cells.
+fn groups_right(file: &[u8], v: View) -> bool
+    requires { ⌜ (HeaderView 3 (now file) v) × (0 < v .words) ⌝ }
+    ensures { λ r. ⌜ r ≡ endsOf (now (file .entry)) v ⌝ }
 {
-    if v.words == 0 {
-        return true;
-    }
     let stride = entry_size(v.width) * v.step as usize;
     let mut base = get_u32(file, 52);
     let mut place = 56;
@@ -79,7 +110,7 @@ pub fn parts_right(file: &[u8], v: View) -> bool
     let mut more = v.firsts - 1;
     while 0 < more {
         let next = get_u32(file, place);
-        if !group_right(file, at, v.width, v.step, base, next) {
+        if !ends_right(file, at, v.width, v.step, base, next) {
             return false;
         }
         base = next;
@@ -88,5 +119,20 @@ pub fn parts_right(file: &[u8], v: View) -> bool
         left -= v.step;
         more -= 1;
     }
-    group_right(file, at, v.width, left, base, v.cells)
+    ends_right(file, at, v.width, left, base, v.cells)
+}
+
+// The parts are those of rising positions below cells, as many as the words: every group has its ends right, and the offsets fall
+// from group to group alone. At a group's start they always fall, as its first offset is 0.
+pub fn parts_right(file: &[u8], v: View) -> bool
+    requires { ⌜ HeaderView 3 (now file) v ⌝ }
+    ensures { λ r. ⌜ r ≡ partsRight (now (file .entry)) ⌝ }
+{
+    if v.words == 0 {
+        return true;
+    }
+    if count_falls(file, second_at(v), v.width, v.words) != v.firsts - 1 {
+        return false;
+    }
+    groups_right(file, v)
 }

@@ -1,171 +1,60 @@
 use mathlib.Core.Path.{sym, _∙_}
 use native.Mathlib.Omega.{arith}
-use borrow.Author.Tests.{not-true, not-false}
 use Rattle.format.specs.Tools.{Below}
 use Rattle.header.proofs.Body.{below-elements}
 use Rattle.base_offset.proofs.Known.{Known, known}
-use Rattle.base_offset.proofs.Places.{entries-fit}
-use Rattle.base_offset.proofs.Turn.{Turn, no-ranks, firsts-some, turn-start, some-left, turn-end, whole-group, group-there, turn-bad, turn-next}
+use Rattle.base_offset.proofs.Turn.{no-ranks, firsts-some, falls-other, falls-same}
 use borrow.Author.Needs.{needs}
 use Rattle.base_offset.proofs.check.parts_right.Statement.{statement}
 use Rattle.base_offset.proofs.check.parts_right.Tie as tie
 
-abbrev Inv-loop : tie.InvT-loop
-Inv-loop file v stride base₀ place₀ at₀ left₀ more₀ base place at left more = Turn file v base place at left more
-
-abbrev μ-loop : tie.MeasureT-loop
-μ-loop file v stride base₀ place₀ at₀ left₀ more₀ base place at left more = more
-
-know : (c : tie.Start Inv-loop μ-loop) → Known (c .args .file .now) (c .args .v)
+know : (c : tie.Start) → Known (c .args .file .now) (c .args .v)
 know c = known (c .args .file .now) (c .args .v) (c .pre)
 
-bytes-below : (c : tie.After-shared-slice-known Inv-loop μ-loop) → Below 256 (c .before .args .file .now)
+bytes-below : (c : tie.After-shared-slice-known) → Below 256 (c .before .args .file .now)
 bytes-below c = below-elements 256 (c .before .args .file .now) (λ i. c .shared-slice-known .given i .fits)
 
--- src/check.rt:72:9
-returns : tie.Need-returns Inv-loop μ-loop
-returns c =
-    no-ranks (know (c .before .before .before)) (bytes-below (c .before .before)) (c .if1 .taken)
+returns : tie.Need-returns
+returns c = no-ranks (know (c .before .before .before)) (bytes-below (c .before .before)) (c .if1 .taken)
 
--- src/check.rt:74:18
-entry-size-requires : tie.Need-entry-size-requires Inv-loop μ-loop
-entry-size-requires c κs = search needs
-
--- src/check.rt:74:40
-cast-stride : tie.Need-cast-stride Inv-loop μ-loop
-cast-stride c = search needs
-
--- src/check.rt:74:18
-mul-stride : tie.Need-mul-stride Inv-loop μ-loop
-mul-stride c =
-    let e = c .before .entry-size .ensures .1 in
-    let m = entries-fit (c .before .entry-size .result) (c .before .before .before .before .before .args .v .step) e (omega arith) in
-    record { fits = omega arith }
-
--- src/check.rt:75:9
-get-u32-requires : tie.Need-get-u32-requires Inv-loop μ-loop
-get-u32-requires c κs =
-    let k = know (c .before .before .before .before .before) in
-    let f = firsts-some k (omega arith) in
-    let t = k .there in
-    let p = k .second-place in
-    omega arith
-
--- src/check.rt:77:9
-second-at-requires : tie.Need-second-at-requires Inv-loop μ-loop
+second-at-requires : tie.Need-second-at-requires
 second-at-requires c κs = search needs
 
--- src/check.rt:79:20
-sub-more : tie.Need-sub-more Inv-loop μ-loop
-sub-more c =
-    let n = c .before .before .before .before .before .if1 .left in
-    firsts-some (know (c .before .before .before .before .before .before .before .before)) (omega arith)
+count-falls-requires : tie.Need-count-falls-requires
+count-falls-requires c κs =
+    let n = c .before .if1 .left in
+    rw (c .second-at .ensures .0) (omega arith, know (c .before .before .before .before) .there)
 
--- src/check.rt:80:5
-loop-holds : tie.Need-loop-holds Inv-loop μ-loop
-loop-holds c =
-    let n = c .before .before .before .before .before .if1 .left in
-    rw (c .before .before .get-u32 .ensures .0, c .before .second-at .ensures .0)
-    (turn-start (know (c .before .before .before .before .before .before .before .before))
-    (bytes-below (c .before .before .before .before .before .before .before)) (omega arith))
+sub-if2 : tie.Need-sub-if2
+sub-if2 c =
+    let n = c .before .before .before .if1 .left in
+    firsts-some (know (c .before .before .before .before .before .before)) (omega arith)
 
--- src/check.rt:81:13
-get-u32-requires-2 : tie.Need-get-u32-requires-2 Inv-loop μ-loop
-get-u32-requires-2 c κs =
-    let t = c .before .loop .inv .bases in
-    omega arith
-
--- src/check.rt:82:13
-group-right-requires : tie.Need-group-right-requires Inv-loop μ-loop
-group-right-requires c κs =
-    let k = know (c .before .before .before .before .before .before .before .before .before .before .before) in
-    (k .step-least, group-there k (c .before .before .loop .inv) _ (c .before .loop-test .taken) (c .get-u322 .ensures .0))
-
--- src/check.rt:83:13
-returns-2 : tie.Need-returns-2 Inv-loop μ-loop
+returns-2 : tie.Need-returns-2
 returns-2 c =
-    let k = know (c .before .before .before .before .before .before .before .before .before .before .before .before .before) in
-    turn-bad k (c .before .before .before .before .loop .inv) _ (c .before .before .before .loop-test .taken) (c .before .before .get-u322 .ensures .0)
-    (sym (c .before .group-right .ensures) ∙ not-true _ (c .if2 .taken))
+    let n = c .before .before .before .before .if1 .left in
+    falls-other (know (c .before .before .before .before .before .before .before)) (bytes-below (c .before .before .before .before .before .before)) (omega arith)
+    (λ q. c .if2 .taken (rw (c .before .before .before .second-at .ensures .0) at (c .before .before .count-falls .ensures) ∙ q))
 
--- src/check.rt:86:9
-add-place : tie.Need-add-place Inv-loop μ-loop
-add-place c =
-    let t = c .before .before .before .before .loop .inv .bases in
-    let g = c .before .before .before .before .before .before .before .before .before .before .before .before .before .good in
-    let h = c .before .before .before .loop-test .taken in
-    omega arith
+groups-right-requires : tie.Need-groups-right-requires
+groups-right-requires c κs = search needs
 
--- src/check.rt:87:9
-add-at : tie.Need-add-at Inv-loop μ-loop
-add-at c =
-    let k = know (c .before .before .before .before .before .before .before .before .before .before .before .before .before) in
-    let g = c .before .before .before .before .before .before .before .before .before .before .before .before .before .good in
-    let t = group-there k (c .before .before .before .before .loop .inv) _ (c .before .before .before .loop-test .taken) (c .before .before .get-u322 .ensures .0) in
-    rw (c .before .before .before .before .before .before .before .before .before .entry-size .ensures .0) (omega arith)
-
--- src/check.rt:88:9
-sub-left : tie.Need-sub-left Inv-loop μ-loop
-sub-left c =
-    let k = know (c .before .before .before .before .before .before .before .before .before .before .before .before .before .before) in
-    let t = whole-group k (c .before .before .before .before .before .loop .inv) _
-    (c .before .before .before .before .loop-test .taken) (c .before .before .before .get-u322 .ensures .0) in
-    omega arith
-
--- src/check.rt:89:9
-sub-more-2 : tie.Need-sub-more-2 Inv-loop μ-loop
-sub-more-2 c = search needs
-
--- src/check.rt:80:5
-loop-less : tie.Need-loop-less Inv-loop μ-loop
-loop-less c =
-    let h = c .before .before .before .before .loop-test .taken in
-    omega arith
-
--- src/check.rt:80:5
-loop-again : tie.Need-loop-again Inv-loop μ-loop
-loop-again c =
-    let k = know (c .before .before .before .before .before .before .before .before .before .before .before .before .before .before) in
-    rw (c .before .before .before .before .before .before .before .before .before .before .entry-size .ensures .0)
-    (turn-next k (c .before .before .before .before .before .loop .inv) _
-    (c .before .before .before .before .loop-test .taken) (c .before .before .before .get-u322 .ensures .0)
-    (sym (c .before .before .group-right .ensures) ∙ not-false _ (c .before .if2 .left)))
-
--- src/check.rt:91:5
-group-right-requires-2 : tie.Need-group-right-requires-2 Inv-loop μ-loop
-group-right-requires-2 c κs =
-    let k = know (c .before .before .before .before .before .before .before .before .before .before) in
-    let t = c .before .loop .inv in
-    (some-left k t, t .ranks)
-
--- src/check.rt:67:1
-returns-3 : tie.Need-returns-3 Inv-loop μ-loop
+returns-3 : tie.Need-returns-3
 returns-3 c =
-    let k = know (c .before .before .before .before .before .before .before .before .before .before .before) in
-    c .group-right2 .ensures ∙ turn-end k (c .before .before .loop .inv) (c .before .loop-test .left)
+    let n = c .before .before .before .before .before .if1 .left in
+    let e = rw (c .before .before .before .before .second-at .ensures .0) at (c .before .before .before .count-falls .ensures) in
+    c .groups-right .ensures
+    ∙ falls-same (know (c .before .before .before .before .before .before .before .before))
+    (bytes-below (c .before .before .before .before .before .before .before)) (omega arith) (sym e ∙ c .before .if2 .left)
 
 pub parts-right-spec : {M : Type 1} → statement M
 parts-right-spec =
     tie.close
     (tie.spec
-    Inv-loop
-    μ-loop
     returns
-    entry-size-requires
-    cast-stride
-    mul-stride
-    get-u32-requires
     second-at-requires
-    sub-more
-    loop-holds
-    get-u32-requires-2
-    group-right-requires
+    count-falls-requires
+    sub-if2
     returns-2
-    add-place
-    add-at
-    sub-left
-    sub-more-2
-    loop-less
-    loop-again
-    group-right-requires-2
+    groups-right-requires
     returns-3)
