@@ -1,6 +1,4 @@
-// A stretch of consecutive positions at once, for the kinds that store runs, 1 and 5: to measure, and to write.
-use super::measure::pages_taken;
-use super::measure::runs_taken;
+// A stretch of consecutive positions written at once, for the kinds that store runs, 1 and 5.
 use super::state::Encoder;
 use super::write::pages_put;
 use super::write::runs_put;
@@ -24,17 +22,6 @@ fn grow(mut e: Encoder, m: u32) -> Encoder
     e.rank += m;
     e.last += m;
     e
-}
-
-// The encoder after n positions from p on, with nothing put out.
-pub fn advance_run(s: Setting, e: Encoder, p: u32, n: u32) -> Encoder
-    requires { ⌜ (settingAllowed s ≡ true) × storesRuns (s .kind) × (1 ≤ n) × Sound e × (passed e ≤ p) × (p + n ≤ 16777216) ⌝ }
-    ensures { λ r. ⌜ r ≡ takenAll s e (range p n) ⌝ }
-{
-    if s.kind == 1 {
-        return grow(runs_taken(e, p), n - 1);
-    }
-    grow(pages_taken(s.step, e, p), n - 1)
 }
 
 // The bytes that n positions from p on add; the encoder after them.

@@ -8,11 +8,8 @@ use wire::get_u32;
 ghost use mathlib.Core.Path.{_≡_};
 ghost use Prim.Native.Nat.{_≤_};
 ghost use lib.ListN.{length};
-ghost use lib.Dec.{ltb};
-ghost use Rattle.format.specs.Tools.{pick};
-ghost use Rattle.format.specs.File.{headerLength};
 ghost use Rattle.format.specs.Accepted.{settingOf, dimensionsOf};
-ghost use Rattle.format.specs.Opened.{viewOf, noView};
+ghost use Rattle.format.specs.Opened.{viewOf};
 ghost use Rattle.header.specs.Fields.{countsIn};
 
 // N, and the entry counts of the first and second part.
@@ -81,23 +78,4 @@ pub fn read_view(file: &[u8]) -> View
         firsts: counts.firsts,
         seconds: counts.seconds,
     }
-}
-
-// The same of any bytes: all counts 0 where there is no whole header.
-pub fn view_or_none(file: &[u8]) -> View
-    ensures { λ r. ⌜ r ≡ pick (ltb (length (now (file .entry))) headerLength) noView (viewOf (now (file .entry))) ⌝ }
-{
-    if file.len() < 52 {
-        return View {
-            kind: 0,
-            width: 0,
-            step: 0,
-            cells: 0,
-            empty: 0,
-            words: 0,
-            firsts: 0,
-            seconds: 0,
-        };
-    }
-    read_view(file)
 }

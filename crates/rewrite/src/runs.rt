@@ -1,10 +1,9 @@
-// Ranks of a file into an encoder run by run, where both the file's kind and the new one store runs: to measure, and to write.
+// Ranks of a file put out run by run, where both the file's kind and the new one store runs.
 use super::walk::Walk;
 use cursor::Cursor;
 use cursor::runs::past_cells;
 use cursor::runs::stretch;
 use encode::state::Encoder;
-use encode::stretch::advance_run;
 use encode::stretch::emit_run;
 use format::Setting;
 use format::View;
@@ -26,21 +25,6 @@ pub fn stores_runs(kind: u32) -> bool
         return true;
     }
     kind == 5
-}
-
-// The next n ranks, with nothing put out.
-pub fn measure_runs(file: &[u8], v: View, s: Setting, mut c: Cursor, mut e: Encoder, n: u32) -> Walk
-    requires { ⌜ (settingAllowed s ≡ true) × storesRuns (s .kind) × storesRuns (v .kind) × Along e (walked (now file) v c n) ⌝ }
-    ensures { λ r. ⌜ r ≡ along s (now (file .entry)) v c e n ⌝ }
-{
-    let mut left = n;
-    while 0 < left {
-        let k = stretch(c, left);
-        e = advance_run(s, e, c.at, k);
-        c = past_cells(file, v, c, k - 1);
-        left -= k;
-    }
-    Walk { c, e }
 }
 
 // The next n ranks, put out.

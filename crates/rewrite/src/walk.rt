@@ -1,6 +1,5 @@
 // A stretch of ranks of a file into an encoder, by runs or in batches: to measure, and to write.
 use super::Edit;
-use super::runs::measure_runs;
 use super::runs::put_runs;
 use super::runs::stores_runs;
 use cursor::Cursor;
@@ -41,8 +40,15 @@ pub fn skip(file: &[u8], v: View, mut c: Cursor, mut n: u32) -> Cursor
     c
 }
 
-// The next n ranks in batches, with nothing put out.
-fn measure_batches(file: &[u8], v: View, s: Setting, mut c: Cursor, mut e: Encoder, n: u32) -> Walk
+// The next n ranks, with nothing put out: where the sizes are measured, source and target do not both store runs.
+pub fn measure_ranks(
+    file: &[u8],
+    v: View,
+    s: Setting,
+    mut c: Cursor,
+    mut e: Encoder,
+    n: u32,
+) -> Walk
     requires { ⌜ (settingAllowed s ≡ true) × Along e (walked (now file) v c n) ⌝ }
     ensures { λ r. ⌜ r ≡ along s (now (file .entry)) v c e n ⌝ }
 {
@@ -79,19 +85,6 @@ fn put_batches(
         left -= k as u32;
     }
     Walk { c, e }
-}
-
-// The next n ranks, with nothing put out.
-pub fn measure_ranks(file: &[u8], v: View, s: Setting, c: Cursor, e: Encoder, n: u32) -> Walk
-    requires { ⌜ (settingAllowed s ≡ true) × Along e (walked (now file) v c n) ⌝ }
-    ensures { λ r. ⌜ r ≡ along s (now (file .entry)) v c e n ⌝ }
-{
-    if stores_runs(s.kind) {
-        if stores_runs(v.kind) {
-            return measure_runs(file, v, s, c, e, n);
-        }
-    }
-    measure_batches(file, v, s, c, e, n)
 }
 
 // The next n ranks, put out.
