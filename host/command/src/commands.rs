@@ -10,6 +10,7 @@ mod expand;
 mod help;
 mod info;
 mod list;
+mod lookup;
 mod make;
 mod man;
 mod position;

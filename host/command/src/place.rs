@@ -2,7 +2,7 @@
 
 use std::ffi::OsStr;
 
-use radar_archive::{Dimensions, Position};
+use radar_archive::{Dimensions, Position, Refusal};
 
 use crate::{numbers, refused, shown};
 
@@ -20,8 +20,8 @@ pub enum Place {
 pub enum Outside {
     /// It has another number of coordinates than the picture has dimensions.
     Count(String),
-    /// It lies outside: 8.
-    Beyond(String),
+    /// The engine refuses it with a number.
+    Refused(Refusal, String),
 }
 
 impl Place {
@@ -81,7 +81,10 @@ impl Place {
         four[..at.len()].copy_from_slice(at);
         match dimensions.position(four) {
             Ok(_) => Ok(four),
-            Err(_) => Err(Outside::Beyond(refused::coordinates(at, dimensions))),
+            Err(refusal) => Err(Outside::Refused(
+                refusal,
+                refused::coordinates(at, dimensions),
+            )),
         }
     }
 
@@ -90,7 +93,7 @@ impl Place {
         let at = self.coordinates(dimensions)?;
         dimensions
             .position(at)
-            .map_err(|_| Outside::Beyond(refused::coordinates(&at, dimensions)))
+            .map_err(|refusal| Outside::Refused(refusal, refused::coordinates(&at, dimensions)))
     }
 }
 
@@ -99,7 +102,7 @@ fn coordinates_of(position: u32, dimensions: Dimensions) -> Result<[u32; 4], Out
     let cells = dimensions.extents.iter().product();
     dimensions
         .coordinates(Position(position))
-        .map_err(|_| Outside::Beyond(refused::position(position, cells)))
+        .map_err(|refusal| Outside::Refused(refusal, refused::position(position, cells)))
 }
 
 /// A number of things.

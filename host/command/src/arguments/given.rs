@@ -2,7 +2,7 @@
 
 use std::ffi::{OsStr, OsString};
 
-use radar_archive::{Refusal, Setting};
+use radar_archive::Setting;
 
 use crate::arguments::{nearest, Command, Opt};
 use crate::failure::Failure;
@@ -128,9 +128,9 @@ impl Given {
     pub fn outside(&self, option: &Opt, path: &OsStr, outside: Outside) -> Failure {
         match outside {
             Outside::Count(message) => self.bad_value(option, &message),
-            Outside::Beyond(message) => {
+            Outside::Refused(refusal, message) => {
                 let message = format!("{} {message}", option.written());
-                Failure::refused(path, Refusal::Beyond, message)
+                Failure::refused(path, refusal, message)
             }
         }
     }

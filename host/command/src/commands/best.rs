@@ -6,8 +6,8 @@ use crate::arguments::{Command, Given, Operands, Opt};
 use crate::commands::put_out;
 use crate::failure::{note, Failure};
 use crate::input::Input;
+use crate::kinds;
 use crate::lengths::Lengths;
-use crate::{kinds, refused};
 
 pub(super) static COMMAND: Command = Command {
     name: "best",
@@ -25,13 +25,7 @@ fn run(given: &Given) -> Result<u8, Failure> {
     // Kind 2 takes every picture, so that there is always a shortest.
     let shortest = Lengths::of(&archive).shortest();
     let setting = shortest.map_or(Setting::positions(), |offer| offer.setting);
-    let changed = put_out::file(
-        &file.path,
-        setting.longest_file(archive.stored_count() as usize),
-        most,
-        |destination| archive.change_into(setting, destination),
-        |refusal| refused::setting(refusal, setting),
-    )?;
+    let changed = put_out::changed(&file, &archive, setting, most)?;
     let status = put_out::put(output, &changed)?;
     let message = told(archive.setting(), file.bytes.len(), setting, changed.len());
     note(&file.path, &message);

@@ -4,7 +4,6 @@ use crate::arguments::{Command, Given, Operands, Opt};
 use crate::commands::put_out;
 use crate::failure::Failure;
 use crate::input::Input;
-use crate::refused;
 
 pub(super) static COMMAND: Command = Command {
     name: "change",
@@ -27,12 +26,6 @@ fn run(given: &Given) -> Result<u8, Failure> {
     let output = put_out::output(given)?;
     let file = Input::picture(&given.operands[0])?;
     let archive = file.open()?;
-    let changed = put_out::file(
-        &file.path,
-        setting.longest_file(archive.stored_count() as usize),
-        most,
-        |destination| archive.change_into(setting, destination),
-        |refusal| refused::setting(refusal, setting),
-    )?;
+    let changed = put_out::changed(&file, &archive, setting, most)?;
     put_out::put(output, &changed)
 }

@@ -1,13 +1,12 @@
-//! `position`: the position of a rank; and what the lookups share.
+//! `position`: the position of a rank.
 
-use radar_archive::{Archive, Position, Rank, Refusal};
+use radar_archive::{Position, Rank};
 
 use crate::arguments::{Command, Given, Operands, Opt};
-use crate::failure::{Failure, DONE};
+use crate::commands::lookup::put_line;
+use crate::failure::Failure;
 use crate::input::Input;
 use crate::json::Object;
-use crate::output::Results;
-use crate::place::Place;
 use crate::{numbers, refused};
 
 pub(super) static COMMAND: Command = Command {
@@ -26,9 +25,9 @@ fn run(given: &Given) -> Result<u8, Failure> {
     let found = archive
         .position(Rank(rank))
         .and_then(|position| Ok((position, dimensions.coordinates(position)?)));
-    let (Position(position), four) = found.map_err(|_| {
+    let (Position(position), four) = found.map_err(|refusal| {
         let message = refused::rank(rank, archive.stored_count());
-        Failure::refused(&file.path, Refusal::Beyond, message)
+        Failure::refused(&file.path, refusal, message)
     })?;
     let coordinates = &four[..dimensions.count as usize];
     if given.has(&Opt::JSON) {
@@ -39,24 +38,4 @@ fn run(given: &Given) -> Result<u8, Failure> {
     }
     let coordinates = numbers::joined(coordinates, ",");
     put_line(format!("{position} {coordinates}\n").as_bytes())
-}
-
-/// The position of a place in a file's picture.
-pub(super) fn place_in(
-    given: &Given,
-    file: &Input,
-    archive: &Archive<'_>,
-    place: &Place,
-) -> Result<Position, Failure> {
-    place
-        .position(archive.dimensions())
-        .map_err(|outside| given.outside(&Opt::AT, &file.path, outside))
-}
-
-/// Puts one line on standard output and gives the exit status.
-pub(super) fn put_line(line: &[u8]) -> Result<u8, Failure> {
-    let mut results = Results::open()?;
-    results.put(line)?;
-    results.finish()?;
-    Ok(DONE)
 }

@@ -2,10 +2,11 @@
 
 use std::ffi::OsStr;
 
-use radar_archive::Refusal;
+use radar_archive::{Archive, Refusal, Setting};
 
 use crate::arguments::{Given, Opt};
 use crate::failure::{Failure, DONE};
+use crate::input::Input;
 use crate::output::{Content, Output};
 use crate::refused;
 
@@ -53,4 +54,20 @@ pub(super) fn file(
         }
         (Err(refusal), _) => Err(Failure::refused(path, refusal, why(refusal))),
     }
+}
+
+/// The picture of an opened file in another setting.
+pub(super) fn changed(
+    file: &Input,
+    archive: &Archive<'_>,
+    setting: Setting,
+    most: Option<u32>,
+) -> Result<Vec<u8>, Failure> {
+    self::file(
+        &file.path,
+        setting.longest_file(archive.stored_count() as usize),
+        most,
+        |destination| archive.change_into(setting, destination),
+        |refusal| refused::setting(refusal, setting),
+    )
 }

@@ -1,13 +1,11 @@
 //! `rank`: the rank at a place.
 
-use radar_archive::{Rank, Refusal};
+use radar_archive::Rank;
 
 use crate::arguments::{Command, Given, Operands, Opt};
-use crate::commands::position::{place_in, put_line};
+use crate::commands::lookup::{at_place, put_line};
 use crate::failure::Failure;
-use crate::input::Input;
 use crate::json::Object;
-use crate::refused;
 
 pub(super) static COMMAND: Command = Command {
     name: "rank",
@@ -18,14 +16,7 @@ pub(super) static COMMAND: Command = Command {
 };
 
 fn run(given: &Given) -> Result<u8, Failure> {
-    let place = given.place(&Opt::AT)?;
-    let file = Input::picture(&given.operands[0])?;
-    let archive = file.open()?;
-    let position = place_in(given, &file, &archive, &place)?;
-    let rank = archive.rank(position).map_err(|_| {
-        let message = refused::position(position.0, archive.cells());
-        Failure::refused(&file.path, Refusal::Beyond, message)
-    })?;
+    let rank = at_place(given, |archive, position| archive.rank(position))?;
     let line = match (rank, given.has(&Opt::JSON)) {
         (Some(Rank(rank)), false) => format!("{rank}\n").into_bytes(),
         (None, false) => b"empty\n".to_vec(),

@@ -3,7 +3,7 @@
 use radar_archive::{Archive, Refusal};
 
 use crate::arguments::{Command, Given, Operands, Opt};
-use crate::commands::position::place_in;
+use crate::commands::lookup::place_in;
 use crate::commands::put_out;
 use crate::failure::Failure;
 use crate::input::Input;

@@ -3,7 +3,7 @@
 use radar_archive::{Archive, Dimensions, Position};
 
 use crate::arguments::{Command, Given, Operands, Opt};
-use crate::commands::position::put_line;
+use crate::commands::lookup::put_line;
 use crate::failure::{Failure, DONE};
 use crate::input::Input;
 use crate::json::Object;
