@@ -149,7 +149,7 @@ fn an_input_without_the_right_to_read() {
     folder.folder("open");
     fs::set_permissions(folder.path("open"), PermissionsExt::from_mode(0o777)).expect("bits");
     for name in ["large", "raw"] {
-        fs::set_permissions(folder.path(name), PermissionsExt::from_mode(0)).expect("bits");
+        fs::set_permissions(folder.path(name), PermissionsExt::from_mode(0o000)).expect("bits");
     }
     for call in WRITERS {
         let input = if call.contains("raw") { "raw" } else { "large" };
