@@ -191,7 +191,7 @@ fn an_unreadable_file_and_folder() {
     folder.write("d/secret", b"");
     folder.write("d/closed/x", b"");
     for name in ["d/secret", "d/closed"] {
-        let none = PermissionsExt::from_mode(0);
+        let none = PermissionsExt::from_mode(0o000);
         std::fs::set_permissions(folder.path(name), none).expect("permissions");
     }
     let program = folder.path("program");
