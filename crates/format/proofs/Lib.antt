@@ -1,4 +1,5 @@
 -- Facts by computing that hold the definitions to document 01's numbers.
 pub mod Sample
 pub mod Examples
+pub mod Edges
 pub mod Calls

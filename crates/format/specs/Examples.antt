@@ -3,8 +3,10 @@ use Prim.Native.Nat.{ℕ}
 use mathlib.Core.List.{List, [], _∷_, _++_}
 use lib.ListN.{length, take, replicate, set}
 use Rattle.format.specs.declared.Dimensions.{Dimensions}
+use Rattle.format.specs.declared.Setting.{Setting}
 use Rattle.format.specs.Answers.{leaves}
 use Rattle.format.specs.Picture.{positionAt, coordinatesAt}
+use Rattle.format.specs.Codec.{Parts}
 use Rattle.format.specs.Runs.{runParts}
 use Rattle.format.specs.PagedRuns.{level, upperLevels, upperEntries, flatSpans, spansIn}
 use Rattle.format.specs.File.{fileFrom, layout}
@@ -27,16 +29,20 @@ abbrev pub gridFile : List ℕ
 gridFile = layout (setting 2 0 0) grid 0 (1 ∷ 2 ∷ 3 ∷ 4 ∷ 5 ∷ 6 ∷ 7 ∷ 8 ∷ 9 ∷ 10 ∷ 11 ∷ 12 ∷ [])
 
 -- coordinates in it
-abbrev at : ℕ → ℕ → List ℕ
+abbrev pub at : ℕ → ℕ → List ℕ
 at a b = a ∷ b ∷ 0 ∷ 0 ∷ []
 
 -- what check gives of the file of M2 with the byte x at i
-abbrev damaged : ℕ → ℕ → ℕ
+abbrev pub damaged : ℕ → ℕ → ℕ
 damaged i x = checkNumber (set (file 2 0 0) i x)
 
--- what check gives of a kind 1 file with these runs and n words, all else in agreement
-abbrev claimed : List ℕ → ℕ → ℕ
-claimed ls n = checkNumber (fileFrom (setting 1 0 0) (row 12) 0 (runParts ls) (replicate n 1))
+-- what check gives of a file of 12 cells with these parts and n words, all else in agreement
+abbrev pub claimed : Setting → Parts → ℕ → ℕ
+claimed s q n = checkNumber (fileFrom s (row 12) 0 q (replicate n 1))
+
+-- the same in kind 1, of the runs of these positions
+abbrev pub claimedRuns : List ℕ → ℕ → ℕ
+claimedRuns ls n = claimed (setting 1 0 0) (runParts ls) n
 
 abbrev pub examples : List Row
 examples =
@@ -56,7 +62,7 @@ examples =
     ∷ M 0 (damaged 28 3 ∷ damaged 40 67 ∷ damaged 48 83 ∷ []) (5 ∷ 5 ∷ 5 ∷ [])
     ∷ M 0 (checkNumber (take 83 (file 2 0 0)) ∷ checkNumber (file 2 0 0 ++ (0 ∷ [])) ∷ []) (5 ∷ 5 ∷ [])
     -- N above cells is 5; N that the runs do not hold, and no runs for 4 words, is 6
-    ∷ M 0 (claimed sampleL 13 ∷ claimed sampleL 12 ∷ claimed [] 4 ∷ claimed sampleL 4 ∷ []) (5 ∷ 6 ∷ 6 ∷ 0 ∷ [])
+    ∷ M 0 (claimedRuns sampleL 13 ∷ claimedRuns sampleL 12 ∷ claimedRuns [] 4 ∷ claimedRuns sampleL 4 ∷ []) (5 ∷ 6 ∷ 6 ∷ 0 ∷ [])
     -- a position twice; a stored word that is E
     ∷ M 0 (damaged 56 2 ∷ damaged 68 0 ∷ []) (6 ∷ 6 ∷ [])
     -- 11 and 13 words for 12 cells

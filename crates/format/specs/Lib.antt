@@ -26,3 +26,4 @@ pub mod Demand3
 pub mod Sample
 pub mod Lister
 pub mod Examples
+pub mod Edges

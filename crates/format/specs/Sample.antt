@@ -45,12 +45,12 @@ pair q = set (set (replicate 300 0) 2 7) q 9
 abbrev pub shown : Answer → List ℕ
 shown a = numberOf a ∷ valuesOf a
 
--- the same rank, or position, by kind 1's rule and by kind 5's descent
-abbrev byRuns : ℕ → List ℕ
-byRuns p = shown (runRank (runs sampleL) p) ++ shown (rankAtPlace (descent allCells 2 (spans (runs sampleL)) p))
+-- the same rank, or position, by kind 1's rule and by kind 5's descent, over the stored positions ls
+abbrev pub byRuns : List ℕ → ℕ → List ℕ
+byRuns ls p = shown (runRank (runs ls) p) ++ shown (rankAtPlace (descent allCells 2 (spans (runs ls)) p))
 
-abbrev byRunsBack : ℕ → List ℕ
-byRunsBack r = shown (runPosition (runs sampleL) r) ++ shown (positionAtPlace (descent storedCells 2 (spans (runs sampleL)) r))
+abbrev pub byRunsBack : List ℕ → ℕ → List ℕ
+byRunsBack ls r = shown (runPosition (runs ls) r) ++ shown (positionAtPlace (descent storedCells 2 (spans (runs ls)) r))
 
 -- a row: the number of the case (3 for M3, 0 for what has no number), what the definitions give, and what document 01 says
 pub record Row : Type 0 where
@@ -86,11 +86,11 @@ rows =
     ∷ M 5 (one (length (file 5 0 2))) (one 108)
     -- M6 rank at 5 is 2; M7 at 6 and at 11: empty; M8 rank 3 is at 10; rank 4: 8. In each kind's file, and by the runs
     ∷ M 6 (inEach (λ b. shown (rankAnswer b 5))) (inEach (λ b. 0 ∷ 2 ∷ []))
-    ∷ M 6 (byRuns 5) (0 ∷ 2 ∷ 0 ∷ 2 ∷ [])
+    ∷ M 6 (byRuns sampleL 5) (0 ∷ 2 ∷ 0 ∷ 2 ∷ [])
     ∷ M 7 (inEach (λ b. shown (rankAnswer b 6) ++ shown (rankAnswer b 11))) (inEach (λ b. 0 ∷ 0 ∷ []))
-    ∷ M 7 (byRuns 6 ++ byRuns 11) (0 ∷ 0 ∷ 0 ∷ 0 ∷ [])
+    ∷ M 7 (byRuns sampleL 6 ++ byRuns sampleL 11) (0 ∷ 0 ∷ 0 ∷ 0 ∷ [])
     ∷ M 8 (inEach (λ b. shown (positionAnswer b 3) ++ shown (positionAnswer b 4))) (inEach (λ b. 0 ∷ 10 ∷ 8 ∷ []))
-    ∷ M 8 (byRunsBack 3 ++ byRunsBack 4) (0 ∷ 10 ∷ 0 ∷ 10 ∷ 8 ∷ 8 ∷ [])
+    ∷ M 8 (byRunsBack sampleL 3 ++ byRunsBack sampleL 4) (0 ∷ 10 ∷ 0 ∷ 10 ∷ 8 ∷ 8 ∷ [])
     -- M9 all twelve cells 0, kind 1: 52 bytes; M10 all twelve stored: one run (11,0)
     ∷ M 9 (one (length (layout (setting 1 0 0) (row 12) 0 (replicate 12 0)))) (one 52)
     ∷ M 10 (flatRuns (runs (stored 0 (replicate 12 1)))) (11 ∷ 0 ∷ [])
