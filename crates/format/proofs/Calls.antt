@@ -46,6 +46,11 @@ pub list-file : tableFile (row 12) 0 (tableRun (row 12) 0 (newTable (row 12) 0 (
 unfolding listed range bytes bytesOf product cells storedFrom stored kept bases offsets offsetsFit basedParts basedKind difference differencesFrom differences jumpsOf jumps jumpParts jumpsKind codec kindAllowed settingAllowed header fileFrom layout outNumber settingNumber writeSignal changeSignal newTable tableFile tableNumber tableNext tableRun
 list-file = refl
 
+-- the header's N is the number of stored cells
+pub file-counts : wordsCount (file 2 0 0) ≡ 4
+unfolding bytes number bytesOf field storedFrom stored kept positionParts positionsKind codec header fileFrom layout wordsCount
+file-counts = refl
+
 -- a write in the file of M2 puts out the file of the words after it; writing E empties the cell
 pub write-puts : writtenFile (file 2 0 0) 0 4 ≡ layout (setting 2 0 0) (row 12) 0 (set sample 0 4)
 unfolding bytes number bytesOf field numbersOf product cells storedFrom stored kept placedFrom placed positionParts positionsKind codec header fileFrom layout settingOf dimensionsOf emptyOf wordsCount firstCount secondCount secondAt wordsAt positionsOf keptOf wordsOf writtenFile
