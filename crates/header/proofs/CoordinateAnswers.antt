@@ -59,7 +59,7 @@ module _ (d : Dimensions) (p : ℕ) where
     number-none h = rw (count-some d some, lt-ltb p (cells d) (rw (some-count d some) at h))
 
   -- where the number is 0, the position is below the count, which is the product of the extents
-  pub number-inside : coordinatesNumber d p ≡ 0 → p < countOf d
+  number-inside : coordinatesNumber d p ≡ 0 → p < countOf d
   unfolding coordinatesNumber
   number-inside h =
       let t = refuse-zero 3 (not (dimensionsAllowed d)) _ h in

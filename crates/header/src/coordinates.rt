@@ -31,7 +31,7 @@ pub fn position_at(d: Dimensions, at: [u32; 4]) -> PositionAnswer
     PositionAnswer::Position(Position(p))
 }
 
-// The number of the coordinates of a position.
+// The number that coordinates of a position give: 4, then 8, or 0.
 pub fn coordinates_number(d: Dimensions, p: Position) -> u32
     ensures { λ r. ⌜ r ≡ coordinatesNumber d (p .0) ⌝ }
 {
@@ -63,7 +63,7 @@ pub fn coordinates_inside(d: Dimensions, p: Position) -> [u32; 4]
     at
 }
 
-// The coordinates of a position.
+// The coordinates of a position. The proof is a walk of this code, so the work stands in the two functions above.
 pub fn coordinates_at(d: Dimensions, p: Position) -> CoordinatesAnswer
     ensures { λ r. ⌜ CoordinatesOf d (p .0) (coordinatesNumberOf r) (coordinatesValuesOf r) ⌝ }
 {

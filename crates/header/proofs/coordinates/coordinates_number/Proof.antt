@@ -1,4 +1,5 @@
 use mathlib.Core.Path.{_≡_, sym, _∙_}
+use native.Mathlib.Omega.{arith}
 use borrow.Author.Needs.{needs}
 use Rattle.header.proofs.CoordinateAnswers.{countOf, number-extent, number-beyond, number-none}
 use Rattle.header.proofs.coordinates.coordinates_number.Statement.{statement}
@@ -13,12 +14,14 @@ returns c = number-extent (c .before .before .args .d) (c .before .before .args 
 returns-2 : tie.Need-returns-2
 returns-2 c =
     let s = c .before .before .before .before in
-    number-beyond (s .args .d) (s .args .p .0) (some (c .before .before)) (rw (c .before .before .before .cell-count .ensures .0) at (c .if2 .taken))
+    let n = c .before .before .before .cell-count .ensures .0 in
+    number-beyond (s .args .d) (s .args .p .0) (some (c .before .before)) (omega arith)
 
 returns-3 : tie.Need-returns-3
 returns-3 c =
     let s = c .before .before .before .before in
-    number-none (s .args .d) (s .args .p .0) (some (c .before .before)) (rw (c .before .before .before .cell-count .ensures .0) at (c .if2 .left))
+    let n = c .before .before .before .cell-count .ensures .0 in
+    number-none (s .args .d) (s .args .p .0) (some (c .before .before)) (omega arith)
 
 pub coordinates-number-spec : {M : Type 1} → statement M
 coordinates-number-spec = tie.close (tie.spec (λ c κs. search needs) returns returns-2 returns-3)
