@@ -11,9 +11,9 @@ use Rattle.format.specs.declared.Dimensions.{Dimensions}
 use Rattle.format.specs.Signals.{BEYOND, SMALL}
 use Rattle.format.specs.Answers.{Answer, refused}
 use Rattle.format.specs.Picture.{coordinatesAt, mostDimensions}
-use Rattle.format.specs.Coordinates.{PositionOf, CoordinatesOf, positionNumber, coordinatesNumber}
+use Rattle.format.specs.Coordinates.{PositionOf, positionNumber, coordinatesNumber}
 use Rattle.header.proofs.CellCount.{count-some}
-use Rattle.header.proofs.CoordinateAnswers.{countOf, coordinates-extent}
+use Rattle.header.proofs.CoordinateAnswers.{countOf, number-extent}
 use Rattle.handed.proofs.Range.{first-refused}
 use Rattle.scatter.proofs.Scattered.{set-seam}
 use Rattle.exports.specs.Extents.{dimensions, CoordinatesOut}
@@ -37,15 +37,12 @@ position-not-four d cs some h = record { said = rw (count-some d some, not-insid
 
 -- the same extents and coordinates
 module _ (c : ℕ) (es fs : List ℕ) (e : es ≡ fs) where
-  pub same-count : (n : ℕ) → n ≡ countOf (dimensions c es) → n ≡ countOf (dimensions c fs)
-  same-count n h = h ∙ ap (λ (t : List ℕ). countOf (dimensions c t)) e
+  pub same-extents : {X : Type 0} (f : Dimensions → X) {x : X} → x ≡ f (dimensions c es) → x ≡ f (dimensions c fs)
+  same-extents f h = h ∙ ap (λ (t : List ℕ). f (dimensions c t)) e
 
   pub same-position : (cs ds : List ℕ) → cs ≡ ds → (a : Answer) → PositionOf (dimensions c es) cs a → PositionOf (dimensions c fs) ds a
   same-position cs ds f a p =
       subst (λ (t : List ℕ). PositionOf (dimensions c t) ds a) e (subst (λ (t : List ℕ). PositionOf (dimensions c es) t a) f p)
-
-  pub same-coordinates : (p n : ℕ) (cs : List ℕ) → CoordinatesOf (dimensions c es) p n cs → CoordinatesOf (dimensions c fs) p n cs
-  same-coordinates p n cs o = subst (λ (t : List ℕ). CoordinatesOf (dimensions c t) p n cs) e o
 
 -- ---- position to coordinates
 
@@ -54,19 +51,11 @@ module _ (d : Dimensions) (p : ℕ) (before : List ℕ) where
   out-refused n e h = record { number = first-refused n (coordinatesNumber d p) _ e h; left = unaltered n _ before h }
 
   pub out-extent : (length (d .extents) ≡ 4 → ⊥) → CoordinatesOut d p before 4 before
-  out-extent h = out-refused 4 (coordinates-extent d p (no-count d h) .number) (λ z. omega arith)
+  out-extent h = out-refused 4 (number-extent d p (no-count d h)) (λ z. omega arith)
 
-  module _ (n : ℕ) (cs : List ℕ) (o : CoordinatesOf d p n cs) (z : n ≡ 0) where
-    none : coordinatesNumber d p ≡ 0
-    none = sym (o .number) ∙ z
-
+  module _ (none : coordinatesNumber d p ≡ 0) where
     pub out-small : length before < 4 → CoordinatesOut d p before SMALL before
     out-small h = record { number = rw (none, lt-ltb (length before) mostDimensions h); left = refl }
 
-    pub out-given : (after : List ℕ) → 4 ≤ length before → after ≡ cs ++ drop (length cs) before → CoordinatesOut d p before 0 after
-    out-given after h a =
-        let e : cs ≡ coordinatesAt d p = rw z at (o .coordinates) in
-        record {
-          number = rw (none, le-ltb (length before) mostDimensions h);
-          left = a ∙ ap (λ (l : List ℕ). l ++ drop (length l) before) e;
-        }
+    pub out-given : (cs after : List ℕ) → cs ≡ coordinatesAt d p → 4 ≤ length before → after ≡ cs ++ drop (length cs) before → CoordinatesOut d p before 0 after
+    out-given cs after e h a = record { number = rw (none, le-ltb (length before) mostDimensions h); left = a ∙ ap (λ (l : List ℕ). l ++ drop (length l) before) e }

@@ -4,7 +4,8 @@ use crate::code::position_code;
 use crate::extents::four;
 use format::Dimensions;
 use format::Position;
-use header::coordinates::coordinates_at;
+use header::coordinates::coordinates_inside;
+use header::coordinates::coordinates_number;
 use header::coordinates::position_at;
 use header::extents::cell_count;
 ghost use mathlib.Core.Path.{_≡_};
@@ -65,14 +66,15 @@ pub extern "C" fn ra_position_coordinates(
         count: dims,
         extents: four(extents),
     };
-    let c = coordinates_at(d, Position(place));
-    if c.number != 0 {
-        return c.number;
+    let p = Position(place);
+    let number = coordinates_number(d, p);
+    if number != 0 {
+        return number;
     }
     if dst.len() < 4 {
         return 10;
     }
-    let at = c.at;
+    let at = coordinates_inside(d, p);
     put_numbers(&at, dst);
     0
 }

@@ -10,6 +10,8 @@ use Rattle.format.specs.declared.RankAnswer.{RankAnswer}
 use Rattle.format.specs.declared.RankAnswer.the-variants as ra
 use Rattle.format.specs.declared.PositionAnswer.{PositionAnswer}
 use Rattle.format.specs.declared.PositionAnswer.the-variants as pa
+use Rattle.format.specs.declared.CoordinatesAnswer.{CoordinatesAnswer}
+use Rattle.format.specs.declared.CoordinatesAnswer.the-variants as co
 
 -- an answer: a refusal's number, "empty", or a word, rank or position
 pub data Answer : Type 0 where
@@ -46,6 +48,15 @@ rankSays (ra.Refused n) = refused n
 abbrev pub positionSays : PositionAnswer → Answer
 positionSays (pa.Position p) = given (p .0)
 positionSays (pa.Refused n) = refused n
+
+-- the number and the values of coordinates, which are four
+abbrev pub coordinatesNumberOf : CoordinatesAnswer → ℕ
+coordinatesNumberOf (co.Coordinates cs) = 0
+coordinatesNumberOf (co.Refused n) = n
+
+abbrev pub coordinatesValuesOf : CoordinatesAnswer → List ℕ
+coordinatesValuesOf (co.Coordinates cs) = cs
+coordinatesValuesOf (co.Refused n) = []
 
 -- A destination that held `before`, after a call with this number: an accepted result fills its first elements and leaves the rest unchanged,
 -- a refusal alters nothing.

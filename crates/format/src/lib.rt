@@ -38,10 +38,10 @@ pub enum PositionAnswer {
     Refused(u32),
 }
 
-// Coordinates of a position. An enum holds no array, so the number stands beside the coordinates, which are 0 on a refusal.
-pub struct CoordinatesAnswer {
-    pub number: u32,
-    pub at: [u32; 4],
+// Coordinates of a position.
+pub enum CoordinatesAnswer {
+    Coordinates([u32; 4]),
+    Refused(u32),
 }
 
 // The header's numbers that the lookups need. An opened file keeps them.

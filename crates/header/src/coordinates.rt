@@ -4,8 +4,10 @@ use format::CoordinatesAnswer;
 use format::Dimensions;
 use format::Position;
 use format::PositionAnswer;
-ghost use Rattle.format.specs.Answers.{positionSays};
-ghost use Rattle.format.specs.Coordinates.{PositionOf, CoordinatesOf};
+ghost use mathlib.Core.Path.{_≡_};
+ghost use Rattle.format.specs.Answers.{positionSays, coordinatesNumberOf, coordinatesValuesOf};
+ghost use Rattle.format.specs.Picture.{coordinatesAt};
+ghost use Rattle.format.specs.Coordinates.{PositionOf, CoordinatesOf, coordinatesNumber};
 
 // The position of coordinates in row order, the last dimension running fastest.
 pub fn position_at(d: Dimensions, at: [u32; 4]) -> PositionAnswer
@@ -29,20 +31,28 @@ pub fn position_at(d: Dimensions, at: [u32; 4]) -> PositionAnswer
     PositionAnswer::Position(Position(p))
 }
 
-// The coordinates of a position, the last dimension first.
-pub fn coordinates_at(d: Dimensions, p: Position) -> CoordinatesAnswer
-    ensures { λ r. ⌜ CoordinatesOf d (p .0) (r .number) (r .at) ⌝ }
+// The number that coordinates of a position give: 4, then 8, or 0.
+pub fn coordinates_number(d: Dimensions, p: Position) -> u32
+    ensures { λ r. ⌜ r ≡ coordinatesNumber d (p .0) ⌝ }
 {
-    let mut at = [0u32; 4];
     let cells = cell_count(d);
     if cells == 0 {
-        return CoordinatesAnswer { number: 4, at };
+        return 4;
     }
-    let mut rest = p.0;
-    if cells <= rest {
-        return CoordinatesAnswer { number: 8, at };
+    if cells <= p.0 {
+        return 8;
     }
+    0
+}
+
+// The coordinates of a position inside the picture, the last dimension first.
+pub fn coordinates_inside(d: Dimensions, p: Position) -> [u32; 4]
+    requires { ⌜ coordinatesNumber d (p .0) ≡ 0 ⌝ }
+    ensures { λ r. ⌜ r ≡ coordinatesAt d (p .0) ⌝ }
+{
     let extents = d.extents;
+    let mut at = [0u32; 4];
+    let mut rest = p.0;
     let mut i: usize = 4;
     while 0 < i {
         i -= 1;
@@ -50,5 +60,16 @@ pub fn coordinates_at(d: Dimensions, p: Position) -> CoordinatesAnswer
         at[i] = rest % e;
         rest = rest / e;
     }
-    CoordinatesAnswer { number: 0, at }
+    at
+}
+
+// The coordinates of a position. The proof is a walk of this code, so the work stands in the two functions above.
+pub fn coordinates_at(d: Dimensions, p: Position) -> CoordinatesAnswer
+    ensures { λ r. ⌜ CoordinatesOf d (p .0) (coordinatesNumberOf r) (coordinatesValuesOf r) ⌝ }
+{
+    let number = coordinates_number(d, p);
+    if number != 0 {
+        return CoordinatesAnswer::Refused(number);
+    }
+    CoordinatesAnswer::Coordinates(coordinates_inside(d, p))
 }

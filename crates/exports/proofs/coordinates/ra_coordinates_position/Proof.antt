@@ -3,7 +3,7 @@ use Rattle.format.specs.Signals.{EXTENT, BEYOND}
 use Rattle.format.specs.Answers.{refused, positionSays}
 use Rattle.header.proofs.CoordinateAnswers.{countOf, position-extent}
 use Rattle.exports.specs.Extents.{dimensions}
-use Rattle.exports.proofs.CoordinateCalls.{no-count, position-not-four, same-count, same-position}
+use Rattle.exports.proofs.CoordinateCalls.{no-count, position-not-four, same-extents, same-position}
 use borrow.Author.Needs.{needs}
 use Rattle.exports.proofs.coordinates.ra_coordinates_position.Statement.{statement}
 use Rattle.exports.proofs.coordinates.ra_coordinates_position.Tie as tie
@@ -27,7 +27,7 @@ cell-count-requires c κs = search needs
 cells-counted : (c : tie.After-cell-count) → c .cell-count .result ≡ countOf (dimensions (c .before .before .before .before .before .args .dims) (c .before .before .before .before .before .args .extents .now))
 cells-counted c =
     let a = c .before .before .before .before .before .args in
-    same-count (a .dims) _ (a .extents .now) (c .before .four .ensures) _ (c .cell-count .ensures .0)
+    same-extents (a .dims) _ (a .extents .now) (c .before .four .ensures) countOf (c .cell-count .ensures .0)
 
 code-and-value-requires-2 : tie.Need-code-and-value-requires-2
 code-and-value-requires-2 c κs = search needs
