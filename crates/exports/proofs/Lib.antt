@@ -1,4 +1,5 @@
 pub mod Answered
+pub mod Decoded
 pub mod Four
 pub mod CoordinateCalls
 pub mod PartCalls

@@ -1,5 +1,5 @@
 -- A lookup's answer in 64 bits. Assumes nothing.
-use Prim.Native.Nat.{ℕ, _+_, _*_, _^_}
+use Prim.Native.Nat.{ℕ, _+_, _*_, _^_, _≤_, _<_}
 use mathlib.Core.Path.{_≡_}
 use Rattle.format.specs.Answers.{Answer, refused, empty, given}
 
@@ -15,6 +15,12 @@ abbrev pub coded : Answer → ℕ
 coded (refused n) = codeAndValue n 0
 coded empty = codeAndValue EMPTY 0
 coded (given x) = codeAndValue 0 x
+
+-- an answer that a lookup gives: the number of a refusal, "empty", or a number of 32 bits
+abbrev pub FromLookup : Answer → Type 0
+FromLookup (refused n) = (1 ≤ n) × (n ≤ 16)
+FromLookup empty = Unit
+FromLookup (given x) = x < 2 ^ 32
 
 -- r is the code of an answer of which `Right` holds
 pub record Coded (Right : Answer → Type 0) (r : ℕ) : Type 0 where

@@ -28,6 +28,7 @@ pub mod Fits
 pub mod Listing
 -- Demand 3.
 pub mod Demand3
+pub mod Starts
 -- For code: other ways to the same answer.
 pub mod Check
 pub mod Search

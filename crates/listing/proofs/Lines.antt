@@ -12,7 +12,7 @@ use Rattle.format.specs.Bytes.{field}
 use Rattle.format.specs.Picture.{cells}
 use Rattle.format.specs.Accepted.{settingOf, dimensionsOf, wordsCount, positionsOf, keptOf}
 use Rattle.format.specs.Opened.{viewOf}
-use Rattle.format.specs.Lister.{line, rankLines, fileLines}
+use Rattle.format.specs.Lister.{mostListed, line, rankLines, fileLines}
 use Rattle.laws.proofs.Acceptance.{accepted, header-right}
 use Rattle.laws.proofs.Limits.{small-setting}
 use Rattle.laws.proofs.Bounds.{below-rising, below-widen}
@@ -26,9 +26,9 @@ use Rattle.cursor.specs.declared.Cursor.{Cursor}
 use Rattle.cursor.specs.Cursor.{walked}
 use Rattle.cursor.proofs.Walks.{Turned, walked-next}
 use Rattle.scatter.proofs.Turn.{words-seen, cells-seen, as-long, size-seen, word-seen, begin-rising}
-use Rattle.listing.specs.Text.{TextPut}
+use Rattle.listing.specs.Text.{Room, TextPut}
 use Rattle.listing.proofs.Decimal.{length-decimal, decimal-most}
-use Rattle.listing.proofs.Placing.{text-then, length-line}
+use Rattle.listing.proofs.Placing.{text-then, room-first, room-then, length-line}
 
 -- of the text, to be put into `before` from index at on, `rest` is left, from index to on
 pub record Left (text before : List ℕ) (at : ℕ) (rest : List ℕ) (to : ℕ) (now : List ℕ) : Type 0 where
@@ -40,16 +40,17 @@ left-turn : (text before : List ℕ) (at : ℕ) (xs ys d e : List ℕ) (to m : �
 left-turn text before at xs ys d e to m h t =
     let p = h .place in
     let q = t .place in
-    record {
-      place = omega (arith, length-append xs ys);
-      bytes = rw (t .bytes, q) (sym (put-append d to xs ys)) ∙ h .bytes;
-    }
+    record { place = omega (arith, length-append xs ys); bytes = rw (t .bytes, q) (sym (put-append d to xs ys)) ∙ h .bytes }
 
-left-end : (text before : List ℕ) (at : ℕ) (rest d : List ℕ) (to : ℕ) → rest ≡ [] → to ≤ length before → Left text before at rest to d → TextPut text before at to d
-left-end text before at rest d to e i h =
+left-end : (text before : List ℕ) (at : ℕ) (rest d : List ℕ) (to : ℕ) → rest ≡ [] → Left text before at rest to d → TextPut text before at to d
+left-end text before at rest d to e h =
     let p = h .place in
     let n : length rest ≡ 0 = ap length e in
-    record { place = omega arith; bytes = sym (put-nil d to) ∙ ap (put d to) (sym e) ∙ h .bytes; inside = i }
+    record { place = omega arith; bytes = sym (put-nil d to) ∙ ap (put d to) (sym e) ∙ h .bytes }
+
+left-room : (text before : List ℕ) (at : ℕ) (xs ys d : List ℕ) (to : ℕ) → Room text before at → length d ≡ length before
+    → Left text before at (xs ++ ys) to d → Room xs d to
+left-room text before at xs ys d to k n h = let p = h .place in room-first xs ys d to (omega arith)
 
 rank-turn : (r : ℕ) (ls vs : List ℕ) → r < length ls → r < length vs
     → rankLines r (drop r ls) (drop r vs) ≡ line r (getD ls r 0) (getD vs r 0) ++ rankLines (r + 1) (drop (r + 1) ls) (drop (r + 1) vs)
@@ -97,7 +98,7 @@ module _ (b : List ℕ) (v : View) (o : ViewOf b v) where
   unfolding wordsPlace secondPlace
   header-there = omega arith
 
-  pub few-words : length b ≤ 65536 → v .words ≤ 16371
+  few-words : length b ≤ mostListed → v .words ≤ 16371
   few-words h = omega (arith, words-seen b v o, size-seen b v o, header-there)
 
   pub word-inside : (r : ℕ) → r < v .words → wordsPlace v + 4 * r + 4 ≤ length b
@@ -111,7 +112,7 @@ module _ (b : List ℕ) (v : View) (o : ViewOf b v) where
   first-seen : line (v .kind) (v .cells) (v .words) ≡ line (settingOf b .kind) (cells (dimensionsOf b)) (wordsCount b)
   first-seen = rw (kind-seen, cells-seen b v o, frame .cells, words-seen b v o)
 
-  pub first-length : length b ≤ 65536 → length (line (v .kind) (v .cells) (v .words)) ≤ 20
+  first-length : length b ≤ mostListed → length (line (v .kind) (v .cells) (v .words)) ≤ 20
   first-length h =
       let s = small-setting (settingOf b) (header-right b (accepted b (o .accepted) .header) .setting) in
       let k = s .kind in
@@ -124,15 +125,26 @@ module _ (b : List ℕ) (v : View) (o : ViewOf b v) where
       let z = length-decimal 4 (v .words) (omega arith) in
       rw (length-line (v .kind) (v .cells) (v .words)) (omega arith)
 
-  pub first-then : (d e f : List ℕ) (m r : ℕ) → TextPut (line (v .kind) (v .cells) (v .words)) d 0 m e → TextPut lines e m r f → TextPut (fileLines b) d 0 r f
+  lines-of : line (v .kind) (v .cells) (v .words) ++ lines ≡ fileLines b
   unfolding fileLines
-  first-then d e f m r x y =
-      subst (λ (l : List ℕ). TextPut (l ++ lines) d 0 r f) first-seen (text-then (line (v .kind) (v .cells) (v .words)) lines d e f 0 m r x y)
+  lines-of = ap (λ (l : List ℕ). l ++ lines) first-seen
+
+  pub first-room : (d : List ℕ) → Room (fileLines b) d 0 → Room (line (v .kind) (v .cells) (v .words)) d 0
+  first-room d h = room-first (line (v .kind) (v .cells) (v .words)) lines d 0 (rw lines-of h)
+
+  module _ (d e : List ℕ) (m : ℕ) (x : TextPut (line (v .kind) (v .cells) (v .words)) d 0 m e) where
+    pub ranks-room : Room (fileLines b) d 0 → Room lines e m
+    ranks-room h = room-then (line (v .kind) (v .cells) (v .words)) lines d e 0 m (rw lines-of h) x
+
+    pub first-then : (f : List ℕ) (r : ℕ) → TextPut lines e m r f → TextPut (fileLines b) d 0 r f
+    first-then f r y = subst (λ (l : List ℕ). TextPut l d 0 r f) lines-of (text-then (line (v .kind) (v .cells) (v .words)) lines d e f 0 m r x y)
 
   -- all lines
-  pub file-length : length b ≤ 65536 → length (fileLines b) ≤ 426000
-  unfolding fileLines
-  file-length h =
+  pub length-file : length (fileLines b) ≡ length (line (v .kind) (v .cells) (v .words)) + length lines
+  length-file = rw (← lines-of) (length-append (line (v .kind) (v .cells) (v .words)) lines)
+
+  pub file-most : length b ≤ mostListed → length (fileLines b) ≤ 426000
+  file-most h =
       let n = few-words h in
       let w = words-seen b v o in
       let z = as-long b v o in
@@ -141,12 +153,20 @@ module _ (b : List ℕ) (v : View) (o : ViewOf b v) where
       let low = below-widen (v .cells) 16777216 (positionsOf b) (omega arith) (below-rising 0 (v .cells) (positionsOf b) (begin-rising b v o)) in
       let x = first-length h in
       let y = ranks-length 0 (positionsOf b) (keptOf b) (omega arith) low in
-      rw (← first-seen, length-append (line (v .kind) (v .cells) (v .words)) lines) (omega arith)
+      omega (arith, length-file)
 
-  pub lines-end : (before : List ℕ) (at r to : ℕ) (d : List ℕ) → v .words ≤ r → to ≤ length before → Left lines before at (linesFrom r) to d → TextPut lines before at to d
-  lines-end before at r to d h i l =
-      left-end lines before at (linesFrom r) d to
-      (rank-end r (positionsOf b) (drop r (keptOf b)) (omega (arith, words-seen b v o, as-long b v o))) i l
+  pub ranks-most : length b ≤ mostListed → length lines ≤ 426000
+  ranks-most h = omega (arith, length-file, file-most h)
+
+  -- no line is left after the last rank
+  none-left : (r : ℕ) → v .words ≤ r → linesFrom r ≡ []
+  none-left r h = rank-end r (positionsOf b) (drop r (keptOf b)) (omega (arith, words-seen b v o, as-long b v o))
+
+  pub lines-end : (before : List ℕ) (at r to : ℕ) (d : List ℕ) → v .words ≤ r → Left lines before at (linesFrom r) to d → TextPut lines before at to d
+  lines-end before at r to d h = left-end lines before at (linesFrom r) d to (none-left r h)
+
+  pub total-end : (r total : ℕ) → v .words ≤ r → total + length (linesFrom r) ≡ length lines → total ≡ length lines
+  total-end r total h e = let z : length (linesFrom r) ≡ 0 = ap length (none-left r h) in omega arith
 
   -- ---- one rank
   module _ (r : ℕ) (c : Cursor) (word : ℕ) (h : r < v .words) (walk : walked b v c (wordsCount b - r) ≡ drop r (positionsOf b))
@@ -168,9 +188,16 @@ module _ (b : List ℕ) (v : View) (o : ViewOf b v) where
         left-turn lines before from (line r (c .at) word) (linesFrom (r + 1)) d e to m
         (subst (λ (x : List ℕ). Left lines before from x to d) (sym this-line) l) t
 
-    pub line-length : length b ≤ 65536 → length (line r (c .at) word) ≤ 26
-    line-length n =
-        let p = step .in-view in
-        let m = frame .cells-most in
-        let f = few-words n in
-        rank-length r (c .at) word (omega arith) (omega arith)
+    pub line-room : (before : List ℕ) (from : ℕ) (d : List ℕ) (to : ℕ) → Room lines before from → length d ≡ length before
+        → Left lines before from (linesFrom r) to d → Room (line r (c .at) word) d to
+    line-room before from d to k n l =
+        left-room lines before from (line r (c .at) word) (linesFrom (r + 1)) d to k n
+        (subst (λ (x : List ℕ). Left lines before from x to d) (sym this-line) l)
+
+    -- measured
+    pub total-turn : (total : ℕ) → total + length (linesFrom r) ≡ length lines
+        → total + length (line r (c .at) word) + length (linesFrom (r + 1)) ≡ length lines
+    total-turn total e =
+        let n : length (linesFrom r) ≡ length (line r (c .at) word) + length (linesFrom (r + 1))
+        = ap length (sym this-line) ∙ length-append (line r (c .at) word) (linesFrom (r + 1)) in
+        omega arith

@@ -1,59 +1,73 @@
 -- What the lister prints of each input, as the code finds it. Assumes nothing.
 use Prim.Native.Nat.{ℕ, zero, suc, _≤_, _<_}
-use mathlib.Core.Path.{_≡_, refl, sym, ap, _∙_}
-use mathlib.Core.List.{List, _++_}
+use mathlib.Core.Path.{_≡_, refl, sym, subst, _∙_}
+use mathlib.Core.List.{List}
 use native.Mathlib.Nat.{zero-add}
 use native.Mathlib.Omega.{arith}
 use lib.ListN.{length, drop, length-append}
 use lib.Dec.{ltb}
-use borrow.Author.Tests.{ltb-false, lt-ltb, le-ltb}
+use borrow.Author.Tests.{ltb-false, lt-ltb, le-ltb, le-leb, lt-leb}
 use Rattle.format.specs.Accepted.{checkNumber, Checked}
 use Rattle.format.specs.Opened.{viewOf}
 use Rattle.format.specs.Lister.{mostListed, fileLines, refusedLine, tooLong, listedAs, listing}
 use Rattle.laws.proofs.Tools.{cases}
 use Rattle.stores.proofs.Laws.{put-front}
-use Rattle.listing.specs.Text.{TextPut}
+use Rattle.listing.specs.Text.{TextPut, Offered}
 use Rattle.listing.proofs.Decimal.{decimal-most}
-use Rattle.listing.proofs.Lines.{file-length}
+use Rattle.listing.proofs.Placing.{length-refused}
+use Rattle.listing.proofs.Lines.{file-most}
 
--- a text put at the beginning
-listed : (text d e : List ℕ) (r : ℕ) → TextPut text d 0 r e → (r ≡ length text) × (e ≡ text ++ drop r d)
-listed text d e r t =
-    let p : r ≡ length text = t .place ∙ zero-add (length text) in
-    (p, t .bytes ∙ put-front d text (rw (← p) (t .inside)) ∙ ap (λ (n : ℕ). text ++ drop n d) (sym p))
+-- a text that fits, put at the beginning, and one that does not
+pub offered-put : (text d e : List ℕ) (r : ℕ) → length text ≤ length d → TextPut text d 0 r e → Offered text d r e
+offered-put text d e r h t =
+    record {
+      size = t .place ∙ zero-add (length text);
+      left = t .bytes ∙ put-front d text h ∙ rw (le-leb (length text) (length d) h);
+    }
 
-module _ (b d e : List ℕ) (r : ℕ) where
-  pub listed-long : mostListed < length b → TextPut tooLong d 0 r e → (r ≡ length (listing b)) × (e ≡ listing b ++ drop r d)
+pub offered-small : (text d : List ℕ) (r : ℕ) → r ≡ length text → length d < length text → Offered text d r d
+offered-small text d r e h = record { size = e; left = rw (lt-leb (length text) (length d) h) }
+
+-- which text it is
+module _ (b : List ℕ) where
+  pub text-long : mostListed < length b → listing b ≡ tooLong
   unfolding listing
-  listed-long h t = rw (lt-ltb mostListed (length b) h) (listed tooLong d e r t)
+  text-long h = rw (lt-ltb mostListed (length b) h)
 
   module _ (h : length b ≤ mostListed) where
-    pub listed-refused : (n : ℕ) → Checked b n → (n ≡ 0 → ⊥) → TextPut (refusedLine n) d 0 r e → (r ≡ length (listing b)) × (e ≡ listing b ++ drop r d)
+    pub text-refused : (n : ℕ) → Checked b n → (n ≡ 0 → ⊥) → listing b ≡ refusedLine n
     unfolding listing
-    listed-refused zero c k t = absurd (k refl)
-    listed-refused (suc n) c k t = rw (le-ltb mostListed (length b) h, ← c .number) (listed (refusedLine (suc n)) d e r t)
+    text-refused zero c k = absurd (k refl)
+    text-refused (suc n) c k = rw (le-ltb mostListed (length b) h, ← c .number)
 
-    pub listed-file : (n : ℕ) → Checked b n → n ≡ 0 → TextPut (fileLines b) d 0 r e → (r ≡ length (listing b)) × (e ≡ listing b ++ drop r d)
+    pub text-file : (n : ℕ) → Checked b n → n ≡ 0 → listing b ≡ fileLines b
     unfolding listing
-    listed-file n c z t = rw (le-ltb mostListed (length b) h, ← c .number, z) (listed (fileLines b) d e r t)
+    text-file n c z = rw (le-ltb mostListed (length b) h, ← c .number, z)
 
--- the bytes printed are in the buffer
-pub listed-inside : (b d e : List ℕ) (r : ℕ) → (r ≡ length (listing b)) × (e ≡ listing b ++ drop r d) → r ≤ length e
-listed-inside b d e r h = rw (h .1, length-append (listing b) (drop r d), ← h .0) (omega arith)
+-- the same text
+pub same-text : (text text′ d e : List ℕ) (r : ℕ) → text ≡ text′ → Offered text′ d r e → Offered text d r e
+same-text text text′ d e r p o = subst (λ (l : List ℕ). Offered l d r e) (sym p) o
 
 -- ---- no text is longer than 426,000 bytes
 
-refused-length : (n : ℕ) → length (refusedLine n) ≤ 426000
-unfolding refusedLine
-refused-length n = let k = decimal-most n in simp length-append (omega arith)
+pub refused-most : (n : ℕ) → length (refusedLine n) ≤ 19
+refused-most n = let k = decimal-most n in omega (arith, length-refused n)
 
-text-length : (b : List ℕ) → length b ≤ mostListed → (n : ℕ) → checkNumber b ≡ n → length (listedAs n b) ≤ 426000
-text-length b h zero e = file-length b (viewOf b) (record { accepted = e; view = refl }) h
-text-length b h (suc n) e = refused-length (suc n)
+text-most : (b : List ℕ) → length b ≤ mostListed → (n : ℕ) → checkNumber b ≡ n → length (listedAs n b) ≤ 426000
+text-most b h zero e = file-most b (viewOf b) (record { accepted = e; view = refl }) h
+text-most b h (suc n) e = let k = refused-most (suc n) in omega arith
 
 pub listing-length : (b : List ℕ) → length (listing b) ≤ 426000
 unfolding listing
 listing-length b =
     cases (ltb mostListed (length b))
     (λ t. rw t (omega arith))
-    (λ t. rw t (text-length b (ltb-false mostListed (length b) t) (checkNumber b) refl))
+    (λ t. rw t (text-most b (ltb-false mostListed (length b) t) (checkNumber b) refl))
+
+-- what is printed is in a buffer that is as long
+pub listed-inside : (b d e : List ℕ) (r : ℕ) → 426000 ≤ length d → Offered (listing b) d r e → r ≤ length e
+listed-inside b d e r h o =
+    let m = listing-length b in
+    let fit : length (listing b) ≤ length d = omega arith in
+    let q = o .size in
+    rw (o .left, le-leb (length (listing b)) (length d) fit, length-append (listing b) (drop (length (listing b)) d)) (omega arith)

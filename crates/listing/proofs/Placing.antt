@@ -3,14 +3,15 @@ use Prim.Native.Nat.{ℕ, suc, _+_, _-_, _/_, _%_, _^_, _≤_, _<_}
 use mathlib.Core.Path.{_≡_, refl, sym, ap, _∙_, subst}
 use mathlib.Core.List.{List, [], _∷_, _++_, append-assoc}
 use native.Mathlib.Numerals.{add-one}
+use native.Mathlib.Nat.{zero-add}
 use native.Mathlib.Omega.{arith}
-use lib.ListN.{length, getD, set, drop, length-append, drop-of-length-le}
-use lib.Seq.{drop-cons}
+use lib.ListN.{length, getD, set, take, drop, length-append, drop-of-length-le}
+use lib.Seq.{drop-cons, take-at}
 use Rattle.format.specs.Lister.{decimal, line, refusedLine}
 use Rattle.stores.specs.Put.{put}
-use Rattle.stores.proofs.Laws.{length-put, put-append, put-comm, put-nil}
-use Rattle.listing.specs.Text.{TextPut}
-use Rattle.listing.proofs.Decimal.{decimal-most, decimal-one, decimal-more, length-decimal-more}
+use Rattle.stores.proofs.Laws.{length-put, put-append, put-comm, put-front, put-nil}
+use Rattle.listing.specs.Text.{Room, TextPut}
+use Rattle.listing.proofs.Decimal.{decimal-one, decimal-more, length-decimal-more}
 
 pub text-size : (xs d e : List ℕ) (at m : ℕ) → TextPut xs d at m e → length e ≡ length d
 text-size xs d e at m h = ap length (h .bytes) ∙ length-put d at xs
@@ -20,11 +21,21 @@ pub text-then : (xs ys d e f : List ℕ) (at m r : ℕ) → TextPut xs d at m e 
 text-then xs ys d e f at m r h k =
     let p = h .place in
     let q = k .place in
-    record {
-      place = omega (arith, length-append xs ys);
-      bytes = k .bytes ∙ rw (h .bytes, p) (sym (put-append d at xs ys));
-      inside = let i = k .inside in omega (arith, text-size xs d e at m h);
-    }
+    record { place = omega (arith, length-append xs ys); bytes = k .bytes ∙ rw (h .bytes, p) (sym (put-append d at xs ys)) }
+
+-- the room of the first, and, the first put, that of the other
+pub room-first : (xs ys d : List ℕ) (at : ℕ) → Room (xs ++ ys) d at → Room xs d at
+room-first xs ys d at h = omega (arith, length-append xs ys)
+
+pub room-then : (xs ys d e : List ℕ) (at m : ℕ) → Room (xs ++ ys) d at → TextPut xs d at m e → Room ys e m
+room-then xs ys d e at m h t = let p = t .place in omega (arith, length-append xs ys, text-size xs d e at m t)
+
+-- a text put at the beginning of a buffer that has room: it is the front
+pub text-inside : (xs d e : List ℕ) (m : ℕ) → length xs ≤ length d → TextPut xs d 0 m e → m ≤ length e
+text-inside xs d e m h t = let p = t .place in omega (arith, text-size xs d e 0 m t)
+
+pub text-front : (xs d e : List ℕ) (m : ℕ) → length xs ≤ length d → TextPut xs d 0 m e → take m e ≡ xs
+text-front xs d e m h t = rw (t .bytes, put-front d xs h, t .place, zero-add) (take-at xs (drop (length xs) d) (length xs) refl)
 
 -- one byte
 pub byte-put : (d : List ℕ) (at x : ℕ) → set d at x ≡ put d at (x ∷ [])
@@ -57,23 +68,9 @@ decimal-end d at n h = byte-put d at (48 + n) ∙ ap (put d at) (sym (decimal-on
 
 -- ---- a number and a byte
 
--- the room that they leave
-pub number-room : (n x : ℕ) (d e : List ℕ) (at m : ℕ) → TextPut (decimal n ++ (x ∷ [])) d at m e → (m ≤ at + 11) × (length e ≡ length d)
-number-room n x d e at m t =
-    let p = t .place in
-    let k = decimal-most n in
-    (omega (arith, length-append (decimal n) (x ∷ [])), text-size (decimal n ++ (x ∷ [])) d e at m t)
-
-pub byte-room : (n : ℕ) (d e : List ℕ) (at m : ℕ) → at + 11 ≤ length d → TextPut (decimal n) d at m e → m < length e
-byte-room n d e at m k t =
-    let p = t .place in
-    let q = decimal-most n in
-    let s = text-size (decimal n) d e at m t in
-    omega arith
-
-pub number-put : (n x : ℕ) (d e : List ℕ) (at m : ℕ) → m < length e → TextPut (decimal n) d at m e → TextPut (decimal n ++ (x ∷ [])) d at (m + 1) (set e m x)
-number-put n x d e at m h t =
-    text-then (decimal n) (x ∷ []) d e (set e m x) at m (m + 1) t (record { place = refl; bytes = byte-put e m x; inside = omega arith })
+pub number-put : (n x : ℕ) (d e : List ℕ) (at m : ℕ) → TextPut (decimal n) d at m e → TextPut (decimal n ++ (x ∷ [])) d at (m + 1) (set e m x)
+number-put n x d e at m t =
+    text-then (decimal n) (x ∷ []) d e (set e m x) at m (m + 1) t (record { place = refl; bytes = byte-put e m x })
 
 -- ---- lines
 
@@ -81,19 +78,53 @@ line-of : (a b c : ℕ) → (decimal a ++ (32 ∷ [])) ++ (decimal b ++ (32 ∷ 
 unfolding line
 line-of a b c = simp append-assoc
 
-pub line-put : (a b c : ℕ) (d e f g : List ℕ) (at m n r : ℕ) → TextPut (decimal a ++ (32 ∷ [])) d at m e → TextPut (decimal b ++ (32 ∷ [])) e m n f
-    → TextPut (decimal c ++ (10 ∷ [])) f n r g → TextPut (line a b c) d at r g
-line-put a b c d e f g at m n r x y z =
-    subst (λ (l : List ℕ). TextPut l d at r g) (line-of a b c)
-    (text-then ((decimal a ++ (32 ∷ [])) ++ (decimal b ++ (32 ∷ []))) (decimal c ++ (10 ∷ [])) d f g at n r
-    (text-then (decimal a ++ (32 ∷ [])) (decimal b ++ (32 ∷ [])) d e f at m n x y) z)
-
 pub length-line : (a b c : ℕ) → length (line a b c) ≡ length (decimal a) + length (decimal b) + length (decimal c) + 3
 length-line a b c = rw (← line-of a b c) (simp length-append (omega arith))
 
-pub refused-put : (n : ℕ) (d e f : List ℕ) (m r : ℕ) → TextPut (114 ∷ 101 ∷ 102 ∷ 117 ∷ 115 ∷ 101 ∷ 100 ∷ 32 ∷ []) d 0 m e
-    → TextPut (decimal n ++ (10 ∷ [])) e m r f → TextPut (refusedLine n) d 0 r f
+-- the numbers of a line, one after the other
+module _ (a b c : ℕ) (d : List ℕ) (at : ℕ) where
+  abbrev first : List ℕ
+  first = decimal a ++ (32 ∷ [])
+
+  abbrev second : List ℕ
+  second = decimal b ++ (32 ∷ [])
+
+  abbrev third : List ℕ
+  third = decimal c ++ (10 ∷ [])
+
+  numbers-room : Room (line a b c) d at → Room (first ++ second ++ third) d at
+  numbers-room h = rw (line-of a b c) h
+
+  pub first-room : Room (line a b c) d at → Room first d at
+  first-room h = room-first first second d at (room-first (first ++ second) third d at (numbers-room h))
+
+  pub second-room : (e : List ℕ) (m : ℕ) → Room (line a b c) d at → TextPut first d at m e → Room second e m
+  second-room e m h = room-then first second d e at m (room-first (first ++ second) third d at (numbers-room h))
+
+  module _ (e f : List ℕ) (m n : ℕ) (x : TextPut first d at m e) (y : TextPut second e m n f) where
+    pub third-room : Room (line a b c) d at → Room third f n
+    third-room h = room-then (first ++ second) third d f at n (numbers-room h) (text-then first second d e f at m n x y)
+
+    pub line-put : (g : List ℕ) (r : ℕ) → TextPut third f n r g → TextPut (line a b c) d at r g
+    line-put g r z =
+        subst (λ (l : List ℕ). TextPut l d at r g) (line-of a b c)
+        (text-then (first ++ second) third d f g at n r (text-then first second d e f at m n x y) z)
+
+-- the line of a refused file
+abbrev refused : List ℕ
+refused = 114 ∷ 101 ∷ 102 ∷ 117 ∷ 115 ∷ 101 ∷ 100 ∷ 32 ∷ []
+
+refused-of : (n : ℕ) → refused ++ (decimal n ++ (10 ∷ [])) ≡ refusedLine n
 unfolding refusedLine
-refused-put n d e f m r x y =
-    subst (λ (l : List ℕ). TextPut l d 0 r f) (sym (append-assoc (114 ∷ 101 ∷ 102 ∷ 117 ∷ 115 ∷ 101 ∷ 100 ∷ 32 ∷ []) (decimal n) (10 ∷ [])))
-    (text-then (114 ∷ 101 ∷ 102 ∷ 117 ∷ 115 ∷ 101 ∷ 100 ∷ 32 ∷ []) (decimal n ++ (10 ∷ [])) d e f 0 m r x y)
+refused-of n = sym (append-assoc refused (decimal n) (10 ∷ []))
+
+pub length-refused : (n : ℕ) → length (refusedLine n) ≡ 9 + length (decimal n)
+length-refused n = rw (← refused-of n) (simp length-append (omega arith))
+
+module _ (n : ℕ) (d e : List ℕ) (m : ℕ) (x : TextPut refused d 0 m e) where
+  pub number-room : Room (refusedLine n) d 0 → Room (decimal n ++ (10 ∷ [])) e m
+  number-room h = room-then refused (decimal n ++ (10 ∷ [])) d e 0 m (subst (λ (l : List ℕ). Room l d 0) (sym (refused-of n)) h) x
+
+  pub refused-put : (f : List ℕ) (r : ℕ) → TextPut (decimal n ++ (10 ∷ [])) e m r f → TextPut (refusedLine n) d 0 r f
+  refused-put f r y =
+      subst (λ (l : List ℕ). TextPut l d 0 r f) (refused-of n) (text-then refused (decimal n ++ (10 ∷ [])) d e f 0 m r x y)

@@ -1,4 +1,5 @@
 // What the lister prints for an input (document 01, "The sample picture").
+pub mod measure;
 pub mod text;
 
 use archive::check::check;
@@ -7,31 +8,49 @@ use cursor::start;
 use format::View;
 use header::places::words_at;
 use header::view::read_view;
+use measure::file_length;
 use text::put_bytes;
 use text::put_line;
 use text::put_number;
 use wire::get_u32;
-ghost use mathlib.Core.Path.{_≡_};
-ghost use mathlib.Core.List.{_++_};
 ghost use Prim.Native.Nat.{_≤_};
-ghost use lib.ListN.{length, drop};
+ghost use lib.ListN.{length};
 ghost use Rattle.format.specs.Accepted.{positionsOf, keptOf};
-ghost use Rattle.format.specs.Lister.{rankLines, fileLines, refusedLine, listing};
+ghost use Rattle.format.specs.Lister.{mostListed, rankLines, fileLines, refusedLine, listing};
 ghost use Rattle.header.specs.Search.{ViewOf};
-ghost use Rattle.listing.specs.Text.{TextPut};
+ghost use Rattle.listing.specs.Text.{Room, TextPut, Offered};
+
+// A text that is at hand, into a buffer that has room for it; its length.
+fn offer(text: &[u8], out: &mut [u8]) -> usize
+    ensures { λ r. ⌜ Offered (now (text .entry)) (now (out .entry)) r (now (out .exit)) ⌝ }
+{
+    if out.len() < text.len() {
+        return text.len();
+    }
+    put_bytes(out, 0, text)
+}
 
 // The line of a refused file.
 fn put_refused(out: &mut [u8], number: u32) -> usize
-    requires { ⌜ 19 ≤ length (now out) ⌝ }
+    requires { ⌜ Room (refusedLine number) (now out) 0 ⌝ }
     ensures { λ r. ⌜ TextPut (refusedLine number) (now (out .entry)) 0 r (now (out .exit)) ⌝ }
 {
     let at = put_bytes(out, 0, b"refused ");
     put_number(out, at, number, b'\n')
 }
 
+// The line of a refused file has at most 19 bytes: it is put together apart.
+fn offer_refused(number: u32, out: &mut [u8]) -> usize
+    ensures { λ r. ⌜ Offered (refusedLine number) (now (out .entry)) r (now (out .exit)) ⌝ }
+{
+    let mut line = [0u8; 19];
+    let n = put_refused(&mut line, number);
+    offer(&line[..n], out)
+}
+
 // A line for each rank of an accepted file.
 fn put_ranks(file: &[u8], v: View, out: &mut [u8], at: usize) -> usize
-    requires { ⌜ ViewOf (now file) v × (length (now file) ≤ 65536) × (at ≤ 20) × (426000 ≤ length (now out)) ⌝ }
+    requires { ⌜ ViewOf (now file) v × Room (rankLines 0 (positionsOf (now file)) (keptOf (now file))) (now out) at ⌝ }
     ensures { λ r. ⌜ TextPut (rankLines 0 (positionsOf (now (file .entry))) (keptOf (now (file .entry)))) (now (out .entry)) at r (now (out .exit)) ⌝ }
 {
     let words = words_at(v);
@@ -49,25 +68,36 @@ fn put_ranks(file: &[u8], v: View, out: &mut [u8], at: usize) -> usize
 
 // The lines of an accepted file.
 fn put_file(file: &[u8], v: View, out: &mut [u8]) -> usize
-    requires { ⌜ ViewOf (now file) v × (length (now file) ≤ 65536) × (426000 ≤ length (now out)) ⌝ }
+    requires { ⌜ ViewOf (now file) v × Room (fileLines (now file)) (now out) 0 ⌝ }
     ensures { λ r. ⌜ TextPut (fileLines (now (file .entry))) (now (out .entry)) 0 r (now (out .exit)) ⌝ }
 {
     let at = put_line(out, 0, v.kind, v.cells, v.words);
     put_ranks(file, v, out, at)
 }
 
-// What the lister prints, in the first bytes of out; how many they are. An input longer than 65,536 bytes is too long.
+// The lines of an accepted file, into a buffer that has room for them; their length.
+fn offer_file(file: &[u8], v: View, out: &mut [u8]) -> usize
+    requires { ⌜ ViewOf (now file) v × (length (now file) ≤ mostListed) ⌝ }
+    ensures { λ r. ⌜ Offered (fileLines (now (file .entry))) (now (out .entry)) r (now (out .exit)) ⌝ }
+{
+    let total = file_length(file, v);
+    if out.len() < total {
+        return total;
+    }
+    put_file(file, v, out)
+}
+
+// What the lister prints, in the first bytes of out where it fits; how many bytes it has. An input longer than 65,536 bytes is too long.
 // No text is longer than 426,000 bytes (proofs/Listed.antt, `listing-length`).
 pub fn list(input: &[u8], out: &mut [u8]) -> usize
-    requires { ⌜ 426000 ≤ length (now out) ⌝ }
-    ensures { λ r. ⌜ (r ≡ length (listing (now (input .entry)))) × (now (out .exit) ≡ listing (now (input .entry)) ++ drop r (now (out .entry))) ⌝ }
+    ensures { λ r. ⌜ Offered (listing (now (input .entry))) (now (out .entry)) r (now (out .exit)) ⌝ }
 {
     if 65536 < input.len() {
-        return put_bytes(out, 0, b"too long\n");
+        return offer(b"too long\n", out);
     }
     let number = check(input);
     if number != 0 {
-        return put_refused(out, number);
+        return offer_refused(number, out);
     }
-    put_file(input, read_view(input), out)
+    offer_file(input, read_view(input), out)
 }

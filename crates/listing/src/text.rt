@@ -1,14 +1,14 @@
 // Text put into a buffer: each function answers the place after it.
 ghost use mathlib.Core.Path.{_≡_};
 ghost use mathlib.Core.List.{[], _∷_, _++_};
-ghost use Prim.Native.Nat.{_+_, _≤_};
+ghost use Prim.Native.Nat.{_≤_};
 ghost use lib.ListN.{length};
 ghost use Rattle.format.specs.Lister.{decimal, line};
-ghost use Rattle.listing.specs.Text.{TextPut};
+ghost use Rattle.listing.specs.Text.{Room, TextPut};
 
 // Bytes as they are.
 pub fn put_bytes(dst: &mut [u8], at: usize, text: &[u8]) -> usize
-    requires { ⌜ at + length (now text) ≤ length (now dst) ⌝ }
+    requires { ⌜ Room (now text) (now dst) at ⌝ }
     ensures { λ r. ⌜ TextPut (now (text .entry)) (now (dst .entry)) at r (now (dst .exit)) ⌝ }
 {
     let mut i: usize = 0;
@@ -34,7 +34,7 @@ fn digit_count(n: u32) -> usize
 
 // A number in decimal, from its last digit to its first; 48 is the byte of 0.
 fn put_decimal(dst: &mut [u8], at: usize, n: u32) -> usize
-    requires { ⌜ at + 10 ≤ length (now dst) ⌝ }
+    requires { ⌜ Room (decimal n) (now dst) at ⌝ }
     ensures { λ r. ⌜ TextPut (decimal n) (now (dst .entry)) at r (now (dst .exit)) ⌝ }
 {
     let end = at + digit_count(n);
@@ -51,7 +51,7 @@ fn put_decimal(dst: &mut [u8], at: usize, n: u32) -> usize
 
 // A number and the byte after it.
 pub fn put_number(dst: &mut [u8], at: usize, n: u32, after: u8) -> usize
-    requires { ⌜ at + 11 ≤ length (now dst) ⌝ }
+    requires { ⌜ Room (decimal n ++ (after ∷ [])) (now dst) at ⌝ }
     ensures { λ r. ⌜ TextPut (decimal n ++ (after ∷ [])) (now (dst .entry)) at r (now (dst .exit)) ⌝ }
 {
     let end = put_decimal(dst, at, n);
@@ -59,9 +59,16 @@ pub fn put_number(dst: &mut [u8], at: usize, n: u32, after: u8) -> usize
     end + 1
 }
 
+// How long a line of three numbers is.
+pub fn line_length(a: u32, b: u32, c: u32) -> usize
+    ensures { λ r. ⌜ r ≡ length (line a b c) ⌝ }
+{
+    digit_count(a) + digit_count(b) + digit_count(c) + 3
+}
+
 // A line of three numbers.
 pub fn put_line(dst: &mut [u8], at: usize, a: u32, b: u32, c: u32) -> usize
-    requires { ⌜ at + 33 ≤ length (now dst) ⌝ }
+    requires { ⌜ Room (line a b c) (now dst) at ⌝ }
     ensures { λ r. ⌜ TextPut (line a b c) (now (dst .entry)) at r (now (dst .exit)) ⌝ }
 {
     let second = put_number(dst, at, a, b' ');

@@ -10,46 +10,28 @@ use Rattle.header.specs.View.{wordsPlace}
 use Rattle.cursor.specs.Cursor.{walked}
 use Rattle.cursor.proofs.Walks.{walked-start}
 use Rattle.listing.proofs.Placing.{text-size}
-use Rattle.listing.proofs.Lines.{Left, few-words, word-inside, lines-end, step, lines-turn, line-length}
+use Rattle.listing.proofs.Lines.{Left, word-inside, lines-end, step, lines-turn, line-room}
 use borrow.Author.Needs.{needs}
 use Rattle.listing.proofs.put_ranks.Statement.{statement}
 use Rattle.listing.proofs.put_ranks.Tie as tie
 
 abbrev Inv-loop : tie.InvT-loop
 Inv-loop file v out₀ at words c₀ to₀ rank₀ out c to rank =
-    (rank ≤ v .words) × (length out ≡ length out₀) × (to ≤ 20 + 26 * rank)
-    × (walked file v c (wordsCount file - rank) ≡ drop rank (positionsOf file))
+    (rank ≤ v .words) × (length out ≡ length out₀) × (walked file v c (wordsCount file - rank) ≡ drop rank (positionsOf file))
     × Left (rankLines 0 (positionsOf file) (keptOf file)) out₀ at (rankLines rank (drop rank (positionsOf file)) (drop rank (keptOf file))) to out
 
 abbrev μ-loop : tie.MeasureT-loop
 μ-loop file v out₀ at words c₀ to₀ rank₀ out c to rank = v .words - rank
 
-words-at-requires : tie.Need-words-at-requires Inv-loop μ-loop
-words-at-requires c κs = search needs
-
-start-requires : tie.Need-start-requires Inv-loop μ-loop
-start-requires c κs = search needs
-
 loop-holds : tie.Need-loop-holds Inv-loop μ-loop
 loop-holds c =
     let s = c .before .before .before .before in
-    let o = s .pre .0 in
-    let k = s .pre .2 in (
+    let o = s .pre .0 in (
       omega arith,
       refl,
-      omega arith,
       rw (c .start .ensures, o .view) (walked-start (s .args .file .now) (o .accepted)),
       record { place = refl; bytes = refl },
     )
-
-cast-get-u32 : tie.Need-cast-get-u32 Inv-loop μ-loop
-cast-get-u32 c = search needs
-
-mul-get-u32 : tie.Need-mul-get-u32 Inv-loop μ-loop
-mul-get-u32 c = search needs
-
-add-get-u32 : tie.Need-add-get-u32 Inv-loop μ-loop
-add-get-u32 c = search needs
 
 get-u32-requires : tie.Need-get-u32-requires Inv-loop μ-loop
 get-u32-requires c κs =
@@ -59,22 +41,15 @@ get-u32-requires c κs =
 put-line-requires : tie.Need-put-line-requires Inv-loop μ-loop
 put-line-requires c κs =
     let s = c .before .before .before .before .before .before .before .before .before in
+    let a = s .args in
     let l = c .before .before .before .before .loop in
-    let n = few-words (s .args .file .now) (s .args .v) (s .pre .0) (s .pre .1) in
-    let h = c .before .before .if1 .taken in
-    let z = l .inv .1 in
-    let m = l .inv .2 in
-    let k = s .pre .3 in
-    omega arith
-
-next-requires : tie.Need-next-requires Inv-loop μ-loop
-next-requires c κs = search needs
+    let w : c .before .get-u32 .result ≡ field 4 (wordsPlace (a .v) + 4 * l .rank) (a .file .now)
+    = c .before .get-u32 .ensures .0 ∙ rw (c .before .before .before .before .before .before .words-at .ensures .0) in
+    line-room (a .file .now) (a .v) (s .pre .0) (l .rank) (l .c) _ (c .before .before .if1 .taken) (l .inv .2) w (a .out .now) (a .at) (l .out) (l .to)
+    (s .pre .1) (l .inv .1) (l .inv .3)
 
 add-rank : tie.Need-add-rank Inv-loop μ-loop
 add-rank c = let h = c .before .before .before .before .before .before .if1 .taken in search needs
-
-loop-less : tie.Need-loop-less Inv-loop μ-loop
-loop-less c = search needs
 
 loop-again : tie.Need-loop-again Inv-loop μ-loop
 loop-again c =
@@ -84,31 +59,19 @@ loop-again c =
     let l = c .before .before .before .before .before .before .before .before .loop in
     let h = c .before .before .before .before .before .before .if1 .taken in
     let t = c .before .before .before .put-line .ensures in
-    let p = t .place in
-    let m = l .inv .2 in
     let w : c .before .before .before .before .before .get-u32 .result ≡ field 4 (wordsPlace (a .v) + 4 * l .rank) (a .file .now)
-    = c .before .before .before .before .before .get-u32 .ensures .0 ∙ rw (c .before .before .before .before .before .before .before .before .before .before .words-at .ensures .0) in
-    let n = line-length (a .file .now) (a .v) o (l .rank) (l .c) _ h (l .inv .3) w (s .pre .1) in (
+    = c .before .before .before .before .before .get-u32 .ensures .0 ∙ rw (c .before .before .before .before .before .before .before .before .before .before .words-at .ensures .0) in (
       omega arith,
       text-size _ (l .out) _ (l .to) _ t ∙ l .inv .1,
-      omega arith,
-      rw (c .next .ensures) (step (a .file .now) (a .v) o (l .rank) (l .c) _ h (l .inv .3) w .rest),
-      lines-turn (a .file .now) (a .v) o (l .rank) (l .c) _ h (l .inv .3) w (a .out .now) (a .at) (l .out) _ (l .to) _ (l .inv .4) t,
+      rw (c .next .ensures) (step (a .file .now) (a .v) o (l .rank) (l .c) _ h (l .inv .2) w .rest),
+      lines-turn (a .file .now) (a .v) o (l .rank) (l .c) _ h (l .inv .2) w (a .out .now) (a .at) (l .out) _ (l .to) _ (l .inv .3) t,
     )
-
-same-length : tie.Need-same-length Inv-loop μ-loop
-same-length c = search needs
 
 returns : tie.Need-returns Inv-loop μ-loop
 returns c =
     let s = c .before .before .before .before .before .before .before in
     let l = c .before .before .loop in
-    let n = few-words (s .args .file .now) (s .args .v) (s .pre .0) (s .pre .1) in
-    let h = l .inv .0 in
-    let m = l .inv .2 in
-    let k = s .pre .3 in
-    lines-end (s .args .file .now) (s .args .v) (s .pre .0) (s .args .out .now) (s .args .at) (l .rank) (l .to) (l .out) (omega (arith, c .if1 .left))
-    (omega arith) (l .inv .4)
+    lines-end (s .args .file .now) (s .args .v) (s .pre .0) (s .args .out .now) (s .args .at) (l .rank) (l .to) (l .out) (c .if1 .left) (l .inv .3)
 
 pub put-ranks-spec : {M : Type 1} → statement M
 put-ranks-spec =
@@ -116,17 +79,17 @@ put-ranks-spec =
     (tie.spec
     Inv-loop
     μ-loop
-    words-at-requires
-    start-requires
+    (λ c κs. search needs)
+    (λ c κs. search needs)
     loop-holds
-    cast-get-u32
-    mul-get-u32
-    add-get-u32
+    (λ c. search needs)
+    (λ c. search needs)
+    (λ c. search needs)
     get-u32-requires
     put-line-requires
-    next-requires
+    (λ c κs. search needs)
     add-rank
-    loop-less
+    (λ c. search needs)
     loop-again
-    same-length
+    (λ c. search needs)
     returns)

@@ -54,9 +54,7 @@ returns c =
     let a = c .before .before .args in
     let l = c .before .loop in
     let low = l .inv .0 in
-    let room = c .before .before .pre in
     record {
-      inside = omega arith;
       place = omega arith;
       bytes = sym (bytes-end (l .dst) (a .at) (a .text .now) (l .i) (c .loop-test .left)) ∙ l .inv .2;
     }

@@ -5,7 +5,7 @@ use native.Mathlib.Omega.{arith}
 use lib.ListN.{length, length-set}
 use Rattle.format.specs.Lister.{decimal}
 use Rattle.stores.specs.Put.{put}
-use Rattle.listing.proofs.Decimal.{length-decimal-more}
+use Rattle.listing.proofs.Decimal.{decimal-one, length-decimal-more}
 use Rattle.listing.proofs.Placing.{decimal-turn, decimal-end}
 use borrow.Author.Needs.{needs}
 use Rattle.listing.proofs.text.put_decimal.Statement.{statement}
@@ -13,7 +13,7 @@ use Rattle.listing.proofs.text.put_decimal.Tie as tie
 
 abbrev Inv-loop : tie.InvT-loop
 Inv-loop dst₀ at n end place₀ rest₀ dst place rest =
-    (rest ≤ n) × (length dst ≡ length dst₀) × (place ≡ at + length (decimal rest)) × (place ≤ at + 10)
+    (rest ≤ n) × (length dst ≡ length dst₀) × (place ≡ at + length (decimal rest)) × (place ≤ at + length (decimal n))
     × (put dst at (decimal rest) ≡ put dst₀ at (decimal n))
 
 abbrev μ-loop : tie.MeasureT-loop
@@ -23,12 +23,11 @@ digit-count-requires : tie.Need-digit-count-requires Inv-loop μ-loop
 digit-count-requires c κs = search needs
 
 add-end : tie.Need-add-end Inv-loop μ-loop
-add-end c = let k = c .digit-count .ensures .1 in search needs
+add-end c = let k = c .digit-count .ensures .0 in search needs
 
 loop-holds : tie.Need-loop-holds Inv-loop μ-loop
 loop-holds c =
     let e = c .digit-count .ensures .0 in
-    let k = c .digit-count .ensures .1 in
     (omega arith, refl, omega arith, omega arith, refl)
 
 sub-place : tie.Need-sub-place Inv-loop μ-loop
@@ -79,8 +78,12 @@ cast-dst-2 c = search needs
 
 slice-write-dst-2 : tie.Need-slice-write-dst-2 Inv-loop μ-loop
 slice-write-dst-2 c =
-    let e = c .before .loop .inv .1 in
+    let l = c .before .loop in
+    let e = l .inv .1 in
+    let q = l .inv .2 in
+    let k = l .inv .3 in
     let p = c .before .before .before .before .pre in
+    let o : length (decimal (l .rest)) ≡ 1 = rw (decimal-one (l .rest) (omega arith)) in
     omega arith
 
 same-length : tie.Need-same-length Inv-loop μ-loop
@@ -91,13 +94,7 @@ returns c =
     let a = c .before .before .before .before .args in
     let l = c .before .loop in
     let e = c .before .before .digit-count .ensures .0 in
-    let k = c .before .before .digit-count .ensures .1 in
-    let room = c .before .before .before .before .pre in
-    record {
-      inside = omega arith;
-      place = omega arith;
-      bytes = decimal-end (l .dst) (a .at) (l .rest) (omega arith) ∙ l .inv .4;
-    }
+    record { place = omega arith; bytes = decimal-end (l .dst) (a .at) (l .rest) (omega arith) ∙ l .inv .4 }
 
 pub put-decimal-spec : {M : Type 1} → statement M
 put-decimal-spec =
