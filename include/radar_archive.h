@@ -54,6 +54,9 @@
 extern "C" {
 #endif
 
+/* The last change request that this interface has: 0 is document 01 alone. A program can test it. */
+#define RA_REQUEST 0
+
 /* The code of a lookup's answer that says the cell is empty. */
 #define RA_EMPTY 255u
 

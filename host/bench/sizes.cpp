@@ -8,7 +8,6 @@
 #include "radar_archive.h"
 #include <fstream>
 
-static const u32 CELLS = 1u << 24;
 static const u32 EXTENTS[4] = {16, 1024, 1024, 1};
 static const Setting TIMED[] = {{1, 0, 0}, {2, 0, 0}, {3, 2, 16}, {4, 1, 0}, {4, 2, 0}, {5, 0, 16}};
 

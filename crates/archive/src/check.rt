@@ -9,6 +9,9 @@ ghost use Rattle.format.specs.Accepted.{Checked};
 ghost use Rattle.header.specs.Body.{partsRight};
 ghost use Rattle.archive.specs.Known.{HeaderKnown};
 
+// The number of a body that no picture has.
+const BODY: u32 = 6;
+
 // The parts, by the check of the kind.
 fn parts_right(file: &[u8], v: View) -> bool
     requires { ⌜ HeaderKnown (now file) v ⌝ }
@@ -35,10 +38,10 @@ pub fn check(file: &[u8]) -> u32
     }
     let v = read_view(file);
     if !parts_right(file, v) {
-        return 6;
+        return BODY;
     }
     if !words_right(file, words_at(v), v.words, v.empty) {
-        return 6;
+        return BODY;
     }
     0
 }
