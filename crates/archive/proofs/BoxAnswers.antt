@@ -11,7 +11,7 @@ use Rattle.format.specs.Tools.{pick}
 use Rattle.format.specs.Signals.{BEYOND, SMALL}
 use Rattle.format.specs.Answers.{leaves}
 use Rattle.format.specs.Picture.{dimensionsAllowed}
-use Rattle.format.specs.Accepted.{dimensionsOf, checkNumber, Checked}
+use Rattle.format.specs.Accepted.{dimensionsOf, checkNumber}
 use Rattle.format.specs.Opened.{viewOf}
 use Rattle.format.specs.Box.{boxAllowed, boxWords, boxNumber, Boxed}
 use Rattle.laws.proofs.Tools.{cases}
@@ -20,14 +20,14 @@ use Rattle.box_rows.specs.Bounds.{boxCount}
 use Rattle.box_rows.proofs.Counted.{allowed-as, count-least}
 use Rattle.box_rows.proofs.Whole.{length-box-words}
 
-pub box-refused : (b low high before : List ℕ) (n : ℕ) → Checked b n → (n ≡ 0 → ⊥) → Boxed b low high before n before
+pub box-refused : (b low high before : List ℕ) (n : ℕ) → n ≡ checkNumber b → (n ≡ 0 → ⊥) → Boxed b low high before n before
 unfolding boxNumber
-box-refused b low high before zero c h = absurd (h refl)
-box-refused b low high before (suc n) c h = record { number = let e = c .number in rw (← e); left = refl }
+box-refused b low high before zero e h = absurd (h refl)
+box-refused b low high before (suc n) e h = record { number = rw (← e); left = refl }
 
 -- the dimensions of an accepted file
-pub dimensions-right : (b : List ℕ) (n : ℕ) (d : Dimensions) → Checked b n → n ≡ 0 → d ≡ dimensionsOf b → dimensionsAllowed d ≡ true
-dimensions-right b n d c z e = rw e (header-right b (accepted b (sym (c .number) ∙ z) .header) .dims)
+pub dimensions-right : (b : List ℕ) (d : Dimensions) → checkNumber b ≡ 0 → d ≡ dimensionsOf b → dimensionsAllowed d ≡ true
+dimensions-right b d z e = rw e (header-right b (accepted b z .header) .dims)
 
 module _ (b low high before : List ℕ) (d : Dimensions) (count : ℕ) (right : checkNumber b ≡ 0) (e : d ≡ dimensionsOf b)
     (counts : count ≡ pick (boxAllowed d low high) (boxCount (d .extents) low high) 0) where

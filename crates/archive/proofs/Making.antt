@@ -12,41 +12,29 @@ use Rattle.format.specs.declared.Setting.{Setting}
 use Rattle.format.specs.Tools.{pick}
 use Rattle.format.specs.Signals.{KIND, SETTING, EXTENT, PICTURE, refuse, orElse}
 use Rattle.format.specs.Answers.{leaves}
-use Rattle.format.specs.Picture.{cells, dimensionsAllowed}
+use Rattle.format.specs.Picture.{mostDimensions, cells, dimensionsAllowed}
 use Rattle.format.specs.Kinds.{kindAllowed, settingAllowed}
 use Rattle.format.specs.Bytes.{bytesOf}
 use Rattle.format.specs.Stored.{stored, kept}
-use Rattle.format.specs.File.{header, layout}
+use Rattle.format.specs.File.{headerLength, header, layout}
 use Rattle.format.specs.Calls.{outNumber, settingNumber, makeNumber, Made}
 use Rattle.laws.proofs.Tools.{refuse-zero}
 use Rattle.laws.proofs.Limits.{small-dims}
 use Rattle.laws.proofs.Calls.{setting-zero}
 use Rattle.stores.specs.Put.{put}
 use Rattle.stores.proofs.Laws.{length-put}
-use Rattle.encode.specs.declared.state.Encoder.{Encoder}
-use Rattle.encode.specs.Encoder.{begun, firsts, seconds}
-use Rattle.heading.specs.declared.Sizes.{Sizes}
-use Rattle.heading.specs.Counted.{countsIn}
-use Rattle.shape.specs.Shape.{measuredBy, sizesOf}
-use Rattle.shape.proofs.Measures.{as-itself}
-use Rattle.levels.specs.Levels.{LevelZero}
-use Rattle.assemble.specs.Assembled.{outOf, withUpper, Goes}
-use Rattle.assemble.proofs.WholeFile.{out-number, laidOut, Laid, laid-out}
+use Rattle.parts.specs.declared.Sizes.{Sizes}
+use Rattle.parts.specs.Encoder.{begun}
+use Rattle.kinds.specs.declared.Measured.{Measured}
+use Rattle.kinds.specs.Coding.{firsts, seconds, derived}
+use Rattle.layout.specs.Laid.{countsIn, Fitting, Measures, outOf, Goes}
+use Rattle.layout.proofs.Measuring.{fitting}
+use Rattle.layout.proofs.WholeFile.{Derivable, rising, out-number, goes, laidOut, Laid, laid-out}
+use Rattle.checked.proofs.Number.{refuse-later, setting-later}
 use Rattle.header.proofs.CellCount.{count-none, count-some}
 use Rattle.archive.specs.Known.{pictureNumber}
 
 -- ---- the numbers before the file is measured
-
--- a refusal, or what comes after: the later number last
-refuse-later : (n : ℕ) (t : Bool) (first later : ℕ) → refuse (suc n) t (orElse first later) ≡ orElse (refuse (suc n) t first) later
-refuse-later n true first later = refl
-refuse-later n false first later = refl
-
-pub setting-later : (s : Setting) (first later : ℕ) → settingNumber s (orElse first later) ≡ orElse (settingNumber s first) later
-unfolding settingNumber
-setting-later s first later =
-    ap (refuse KIND (not (kindAllowed s))) (refuse-later 2 (not (settingAllowed s)) first later)
-    ∙ refuse-later 1 (not (kindAllowed s)) (refuse SETTING (not (settingAllowed s)) first) later
 
 module _ (s : Setting) (d : Dimensions) (E : ℕ) (ws : List ℕ) (room : ℕ) where
   pub make-number : makeNumber s d E ws room ≡ orElse (pictureNumber s d (length ws)) (outNumber s d E ws room)
@@ -62,7 +50,7 @@ pub record PictureRight (s : Setting) (d : Dimensions) (n : ℕ) : Type 0 where
   pub setting : settingAllowed s ≡ true
   pub dims : dimensionsAllowed d ≡ true
   pub size : n ≡ cells d
-  pub four : length (d .extents) ≡ 4
+  pub four : length (d .extents) ≡ mostDimensions
   pub few : n ≤ 16777216
 
 pub picture-right : (s : Setting) (d : Dimensions) (n : ℕ) → pictureNumber s d n ≡ 0 → PictureRight s d n
@@ -134,39 +122,49 @@ module _ (s : Setting) (d : Dimensions) (E : ℕ) (ws before : List ℕ) where
 
 -- ---- the file put out in steps
 
-module _ (s : Setting) (d : Dimensions) (E : ℕ) (ws before : List ℕ) (e : Encoder) (z : Sizes) (g : Goes s d E ws e (length before)) (q : z ≡ sizesOf s e) where
-  pub laid-by : Laid s d E ws before e z
-  laid-by = laid-out s d E ws before e z g q
+module _ (s : Setting) (d : Dimensions) (E : ℕ) (ws before : List ℕ) (z : Sizes) (four : length (d .extents) ≡ mostDimensions) (size : cells d ≡ length ws)
+    (g : Goes s d E ws z (length before)) where
+  pub laid-by : Laid s d E ws before z
+  laid-by = laid-out s d E ws before z four size g
 
   module _ (d1 : List ℕ) (h : d1 ≡ put before 0 (header s d E (countsIn z))) where
-    pub same-room : length d1 ≡ length before
-    same-room = ap length h ∙ length-put before 0 (header s d E (countsIn z))
-
-    pub words-room : 52 + z .first + z .second + 4 * length (kept E ws) ≤ length d1
-    words-room = let l = same-room in let r = laid-by .words-room in omega arith
+    pub words-room : headerLength + z .first + z .second + 4 * length (kept E ws) ≤ length d1
+    words-room = let l = ap length h ∙ length-put before 0 (header s d E (countsIn z)) in let r = laid-by .words-room in omega arith
 
     module _ (d2 : List ℕ)
-        (i : d2 ≡ put (put (put d1 52 (firsts s (begun 52 (52 + z .first)) (stored E ws))) (52 + z .first) (seconds s (begun 52 (52 + z .first)) (stored E ws)))
-        (52 + z .first + z .second) (bytesOf 4 (kept E ws))) where
+        (i : d2 ≡ put
+        (put (put d1 headerLength (firsts s (begun headerLength (headerLength + z .first)) (stored E ws))) (headerLength + z .first)
+        (seconds s (begun headerLength (headerLength + z .first)) (stored E ws)))
+        (headerLength + z .first + z .second) (bytesOf 4 (kept E ws))) where
       steps : d2 ≡ laidOut s d E ws z before
       steps =
           i
-          ∙ ap (λ (t : List ℕ). put (put (put t 52 (firsts s (begun 52 (52 + z .first)) (stored E ws))) (52 + z .first) (seconds s (begun 52 (52 + z .first)) (stored E ws)))
-          (52 + z .first + z .second) (bytesOf 4 (kept E ws))) h
+          ∙ ap
+          (λ (t : List ℕ).
+          put
+          (put (put t headerLength (firsts s (begun headerLength (headerLength + z .first)) (stored E ws))) (headerLength + z .first)
+          (seconds s (begun headerLength (headerLength + z .first)) (stored E ws)))
+          (headerLength + z .first + z .second) (bytesOf 4 (kept E ws)))
+          h
 
-      pub levels-there : s .kind ≡ 5 → LevelZero d2 (s .step) (z .seconds) (52 + z .first)
-      levels-there k = subst (λ (t : List ℕ). LevelZero t (s .step) (z .seconds) (52 + z .first)) (sym steps) (laid-by .levels k)
+      pub derivable-then : Derivable s z d2
+      derivable-then = subst (Derivable s z) (sym steps) (laid-by .derivable)
 
-      pub file-there : (after : List ℕ) → after ≡ withUpper s z d2 → after ≡ leaves 0 (layout s d E ws) before
-      file-there after f = f ∙ ap (withUpper s z) steps ∙ laid-by .file
+      pub file-there : (after : List ℕ) → after ≡ derived s z headerLength d2 → after ≡ leaves 0 (layout s d E ws) before
+      file-there after f = f ∙ ap (derived s z headerLength) steps ∙ laid-by .file
 
-module _ (s : Setting) (d : Dimensions) (E : ℕ) (ws : List ℕ) (p : pictureNumber s d (length ws) ≡ 0) (e : Encoder) (m : e ≡ measuredBy s (stored E ws)) where
-  pub measured-number : (room n : ℕ) → n ≡ outOf s e room → n ≡ outNumber s d E ws room
-  measured-number room n o =
-      let r = picture-right s d (length ws) p in
-      o ∙ ap (λ (x : Encoder). outOf s x room) m ∙ out-number s (r .setting) d (r .four) E ws (r .few) room
+-- ---- what was measured of a picture
 
-  pub goes-by : (room : ℕ) → outOf s e room ≡ 0 → Goes s d E ws e room
-  goes-by room o =
-      let r = picture-right s d (length ws) p in
-      record { allowed = r .setting; four = r .four; few = r .few; encoder = as-itself e (measuredBy s (stored E ws)) m; number = o }
+module _ (s : Setting) (d : Dimensions) (E : ℕ) (ws : List ℕ) (p : pictureNumber s d (length ws) ≡ 0) (m : Measured)
+    (k : Measures s (length ws) (stored E ws) m) where
+  r : PictureRight s d (length ws)
+  r = picture-right s d (length ws) p
+
+  pub measured-fitting : m .fits ≡ true → Fitting (m .sizes)
+  measured-fitting = fitting s (r .setting) (length ws) (stored E ws) (r .few) (rising E ws) m k
+
+  pub measured-number : (room n : ℕ) → n ≡ outOf m room → n ≡ outNumber s d E ws room
+  measured-number room n o = o ∙ out-number s (r .setting) d (r .four) E ws (sym (r .size)) (r .few) m k room
+
+  pub measured-goes : (room : ℕ) → outOf m room ≡ 0 → (cells d ≡ length ws) × Goes s d E ws (m .sizes) room
+  measured-goes room o = (sym (r .size), goes s (r .setting) d (r .four) E ws (sym (r .size)) (r .few) m k room o)

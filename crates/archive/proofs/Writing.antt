@@ -23,22 +23,25 @@ use Rattle.format.specs.Picture.{cells}
 use Rattle.format.specs.Stored.{stored, kept, rankAt}
 use Rattle.format.specs.Kinds.{codec, settingAllowed}
 use Rattle.format.specs.File.{layout}
-use Rattle.format.specs.Accepted.{settingOf, dimensionsOf, emptyOf, wordsCount, positionsOf, keptOf, wordsOf, checkNumber, Checked}
+use Rattle.format.specs.Accepted.{settingOf, dimensionsOf, emptyOf, positionsOf, keptOf, wordsOf, checkNumber}
 use Rattle.format.specs.Calls.{outNumber, settingNumber, writeSignal, changeSignal, writeNumber, changeNumber, writtenFile, changedFile, Wrote, Changed}
 use Rattle.format.specs.Lookups.{rankIn}
 use Rattle.format.specs.Opened.{viewOf, Free, number}
 use Rattle.laws.proofs.Tools.{cases, both-true}
 use Rattle.laws.proofs.Settings.{setting}
-use Rattle.laws.proofs.Acceptance.{accepted, accepted-has-file}
-use Rattle.laws.proofs.Files.{positions-back, kept-back}
-use Rattle.header.specs.Search.{ViewOf, RankSearched}
+use Rattle.parts.specs.declared.Found.{Found}
+use Rattle.parts.specs.Holds.{ViewOf, kindOf}
+use Rattle.parts.specs.Found.{countBelow, FoundIn}
+use Rattle.parts.proofs.Seen.{seen}
+use Rattle.search.specs.Searched.{rankFrom, RankSearched}
+use Rattle.search.proofs.Places.{rank-place}
 use Rattle.stores.specs.Put.{put}
 use Rattle.stores.proofs.Laws.{put-front}
 use Rattle.rewrite.specs.declared.Edit.{Edit}
-use Rattle.rewrite.specs.Edit.{edited, overlaid, Writes, countBelow}
+use Rattle.rewrite.specs.Edit.{edited, overlaid, Writes}
 use Rattle.rewrite.proofs.Edits.{keeping, keeping-positions, keeping-words, keeps, rank-below, adds, removes, replaces, same-word}
 use Rattle.archive.specs.Recoded.{wordsAfter, Recodes, Recoded, Copied, sameSetting}
-use Rattle.archive.proofs.Making.{setting-later}
+use Rattle.checked.proofs.Number.{setting-later}
 use Rattle.archive.proofs.Recoding.{after-is, recodes}
 
 -- ---- the edit of a write
@@ -61,21 +64,20 @@ module _ (b : List ℕ) (v : View) (o : ViewOf b v) (p w : ℕ) where
   abbrev ws : List ℕ
   ws = wordsOf b
 
-  empty-seen : v .empty ≡ E
-  unfolding viewOf
-  empty-seen = ap (λ (t : View). t .empty) (o .view)
-
   module _ (i : p < v .cells) where
     inside : p < length ws
-    unfolding viewOf
-    inside =
-        let f = accepted-has-file b (o .accepted) in
-        let c : v .cells ≡ cells (dimensionsOf b) = ap (λ (t : View). t .cells) (o .view) ∙ rw (f .dims) in
-        omega (arith, f .size)
+    inside = let n = seen b v o .words-size in omega arith
 
     says : (a : Answer) → RankSearched b v p a → a ≡ pick (eqb (getD ws p 0) E) empty (given (rankAt E ws p))
     unfolding rankIn
     says a s = s .right o ∙ rw (lt-ltb p (length ws) inside)
+
+    -- the answer made of a place
+    pub place-answer : (f : Found) → FoundIn (kindOf v) b v p f → (a : RankAnswer) → rankSays a ≡ rankFrom f → RankSearched b v p (rankSays a)
+    place-answer f h a e = subst (RankSearched b v p) (sym e) (rank-place b v p f i h)
+
+    pub below-place : (f : Found) → FoundIn (kindOf v) b v p f → f .below ≡ countBelow p (positionsOf b)
+    below-place f h = h .right (positionsOf b) (seen b v o .holds) .below
 
     -- the else arm knows the tag alone
     pub empty-there : (a : RankAnswer) → OneOf (1 ∷ (2 ∷ [])) (tagOf the-type a) → RankSearched b v p (rankSays a) → getD ws p 0 ≡ E
@@ -94,22 +96,20 @@ module _ (b : List ℕ) (v : View) (o : ViewOf b v) (p w : ℕ) where
     pub edit-empty : getD ws p 0 ≡ E → (k : ℕ) → k ≡ countBelow p (positionsOf b) → (t : Bool) → t ≡ not (eqb w (v .empty))
         → Writes b p w (record { before = k; put = t; position = p; after = k })
     edit-empty a k c t f =
-        let h = o .accepted in
-        let n : k ≡ rankAt E ws p = c ∙ sym (rank-below b h p w inside) in
+        let n : k ≡ rankAt E ws p = c ∙ sym (rank-below b v o p w inside) in
         subst (λ (m : ℕ). Writes b p w (record { before = m; put = t; position = p; after = m })) (sym n)
         (cases (eqb w E)
-        (λ e. rw (f, empty-seen, e) (same-word b h p w inside (a ∙ sym (eqb-true w E e))))
-        (λ e. rw (f, empty-seen, e) (adds b h p w inside a (eqb-false w E e))))
+        (λ e. rw (f, seen b v o .empty, e) (same-word b v o p w inside (a ∙ sym (eqb-true w E e))))
+        (λ e. rw (f, seen b v o .empty, e) (adds b v o p w inside a (eqb-false w E e))))
 
     -- a stored cell: none in its place, or another word
     pub edit-stored : (r : ℕ) → (getD ws p 0 ≡ E → ⊥) × (r ≡ rankAt E ws p) → (t : Bool) → t ≡ not (eqb w (v .empty))
         → Writes b p w (record { before = r; put = t; position = p; after = r + 1 })
     edit-stored r a t f =
-        let h = o .accepted in
         subst (λ (m : ℕ). Writes b p w (record { before = m; put = t; position = p; after = m + 1 })) (sym (a .1))
         (cases (eqb w E)
-        (λ e. rw (f, empty-seen, e) (removes b h p w inside (a .0) (eqb-true w E e)))
-        (λ e. rw (f, empty-seen, e) (replaces b h p w inside (a .0) (eqb-false w E e))))
+        (λ e. rw (f, seen b v o .empty, e) (removes b v o p w inside (a .0) (eqb-true w E e)))
+        (λ e. rw (f, seen b v o .empty, e) (replaces b v o p w inside (a .0) (eqb-false w E e))))
 
 -- a rank that was found is below the words
 free-below : (bound r : ℕ) → Free bound (given r) → r < bound
@@ -121,32 +121,37 @@ rank-small b v p r s = free-below (v .words) r (s .free)
 -- ---- write
 
 module _ (b : List ℕ) (p w : ℕ) (before : List ℕ) where
-  pub write-refused : (n : ℕ) → Checked b n → (n ≡ 0 → ⊥) → Wrote b p w before n before
+  pub write-refused : (n : ℕ) → n ≡ checkNumber b → (n ≡ 0 → ⊥) → Wrote b p w before n before
   unfolding writeNumber
-  write-refused zero c h = absurd (h refl)
-  write-refused (suc n) c h = record { number = let e = c .number in rw (← e); left = refl }
+  write-refused zero e h = absurd (h refl)
+  write-refused (suc n) e h = record { number = rw (← e); left = refl }
 
-  module _ (h : checkNumber b ≡ 0) where
+  module _ (v : View) (o : ViewOf b v) where
+    inside-cells : p < v .cells → p < cells (dimensionsOf b)
+    inside-cells l = let c = seen b v o .header .cells in omega arith
+
     write-signal : writeNumber b p w (length before) ≡ writeSignal (settingOf b) (dimensionsOf b) (emptyOf b) (wordsOf b) p w (length before)
     unfolding writeNumber
-    write-signal = rw h
+    write-signal = rw (o .accepted)
 
-    pub write-beyond : cells (dimensionsOf b) ≤ p → Wrote b p w before BEYOND before
+    pub write-beyond : v .cells ≤ p → Wrote b p w before BEYOND before
     unfolding writeSignal
-    write-beyond l = record { number = sym (write-signal ∙ rw (le-ltb p (cells (dimensionsOf b)) l)); left = refl }
+    write-beyond l =
+        let c = seen b v o .header .cells in
+        record { number = sym (write-signal ∙ rw (le-ltb p (cells (dimensionsOf b)) (omega arith))); left = refl }
 
     module _ (x : Edit) (m : Writes b p w x) where
       written : wordsAfter b x w ≡ set (wordsOf b) p w
-      written = after-is b h x w (set (wordsOf b) p w) (length-set (wordsOf b) p w) (m .positions) (m .words)
+      written = after-is b v o x w (set (wordsOf b) p w) (length-set (wordsOf b) p w) (m .positions) (m .words)
 
       pub write-recodes : Recodes b x w
-      write-recodes = recodes b h x w (set (wordsOf b) p w) (length-set (wordsOf b) p w) (m .positions) (m .words) (m .edit)
+      write-recodes = recodes b v o x w (set (wordsOf b) p w) (length-set (wordsOf b) p w) (m .positions) (m .words) (m .edit)
 
-      pub write-done : (n : ℕ) (after : List ℕ) → p < cells (dimensionsOf b) → Recoded b x w (settingOf b) before n after → Wrote b p w before n after
+      pub write-done : (n : ℕ) (after : List ℕ) → p < v .cells → Recoded b x w (settingOf b) before n after → Wrote b p w before n after
       unfolding writeSignal writtenFile
       write-done n after l r =
           record {
-            number = r .number ∙ rw written (sym (write-signal ∙ rw (lt-ltb p (cells (dimensionsOf b)) l)));
+            number = r .number ∙ rw written (sym (write-signal ∙ rw (lt-ltb p (cells (dimensionsOf b)) (inside-cells l))));
             left = r .left ∙ ap (λ (us : List ℕ). leaves n (layout (settingOf b) (dimensionsOf b) (emptyOf b) us) before) written;
           }
 
@@ -163,52 +168,56 @@ same-setting b s v e t =
     ap₂ (λ (x y : ℕ). setting x y (s .step)) k w ∙ ap (setting (settingOf b .kind) (settingOf b .width)) l
 
 module _ (b : List ℕ) (s : Setting) (before : List ℕ) where
-  pub change-refused : (n : ℕ) → Checked b n → (n ≡ 0 → ⊥) → Changed b s before n before
+  pub change-refused : (n : ℕ) → n ≡ checkNumber b → (n ≡ 0 → ⊥) → Changed b s before n before
   unfolding changeNumber
-  change-refused zero c h = absurd (h refl)
-  change-refused (suc n) c h = record { number = let e = c .number in rw (← e); left = refl }
+  change-refused zero e h = absurd (h refl)
+  change-refused (suc n) e h = record { number = rw (← e); left = refl }
 
-  module _ (h : checkNumber b ≡ 0) where
+  module _ (v : View) (o : ViewOf b v) where
     abbrev out : ℕ
     out = outNumber s (dimensionsOf b) (emptyOf b) (wordsOf b) (length before)
 
     change-signal : changeNumber b s (length before) ≡ orElse (settingNumber s 0) out
     unfolding changeNumber changeSignal
-    change-signal = rw h (setting-later s 0 out)
+    change-signal = rw (o .accepted) (setting-later s 0 out)
 
     pub change-setting : (n : ℕ) → n ≡ settingNumber s 0 → (n ≡ 0 → ⊥) → Changed b s before n before
     change-setting zero e z = absurd (z refl)
     change-setting (suc n) e z = record { number = sym (change-signal ∙ ap (λ (k : ℕ). orElse k out) (sym e)); left = refl }
 
-    module _ (k : ℕ) (few : k ≤ wordsCount b) where
-      same-positions : edited (keeping k 0) (positionsOf b) ≡ stored (emptyOf b) (wordsOf b)
-      same-positions =
-          keeping-positions k 0 (positionsOf b) ∙ positions-back (settingOf b) (dimensionsOf b) (emptyOf b) (wordsOf b) b (accepted-has-file b h)
+    -- all ranks kept
+    abbrev pub all : Edit
+    all = keeping (v .words) 0
 
-      same-words : overlaid (keeping k 0) 0 (keptOf b) ≡ kept (emptyOf b) (wordsOf b)
-      same-words = keeping-words k 0 0 (keptOf b) ∙ kept-back (settingOf b) (dimensionsOf b) (emptyOf b) (wordsOf b) b (accepted-has-file b h)
+    same-positions : edited all (positionsOf b) ≡ stored (emptyOf b) (wordsOf b)
+    same-positions = keeping-positions (v .words) 0 (positionsOf b) ∙ seen b v o .stored
 
-      unchanged : wordsAfter b (keeping k 0) 0 ≡ wordsOf b
-      unchanged = after-is b h (keeping k 0) 0 (wordsOf b) refl same-positions same-words
+    same-words : overlaid all 0 (keptOf b) ≡ kept (emptyOf b) (wordsOf b)
+    same-words = keeping-words (v .words) 0 0 (keptOf b) ∙ seen b v o .kept
 
-      pub change-recodes : Recodes b (keeping k 0) 0
-      change-recodes = recodes b h (keeping k 0) 0 (wordsOf b) refl same-positions same-words (keeps b h k 0 few)
+    unchanged : wordsAfter b all 0 ≡ wordsOf b
+    unchanged = after-is b v o all 0 (wordsOf b) refl same-positions same-words
 
-      pub change-done : (n : ℕ) (after : List ℕ) → settingNumber s 0 ≡ 0 → Recoded b (keeping k 0) 0 s before n after → Changed b s before n after
-      unfolding changedFile
-      change-done n after t r =
-          record {
-            number = r .number ∙ rw unchanged (sym (change-signal ∙ ap (λ (j : ℕ). orElse j out) t));
-            left = r .left ∙ ap (λ (us : List ℕ). leaves n (layout s (dimensionsOf b) (emptyOf b) us) before) unchanged;
-          }
+    pub change-recodes : Recodes b all 0
+    change-recodes =
+        let n = seen b v o .words in
+        recodes b v o all 0 (wordsOf b) refl same-positions same-words (keeps b v o (v .words) 0 (omega arith))
+
+    pub change-done : (n : ℕ) (after : List ℕ) → settingNumber s 0 ≡ 0 → Recoded b all 0 s before n after → Changed b s before n after
+    unfolding changedFile
+    change-done n after t r =
+        record {
+          number = r .number ∙ rw unchanged (sym (change-signal ∙ ap (λ (j : ℕ). orElse j out) t));
+          left = r .left ∙ ap (λ (us : List ℕ). leaves n (layout s (dimensionsOf b) (emptyOf b) us) before) unchanged;
+        }
 
     -- the file's own setting
-    pub change-own : (v : View) → v ≡ viewOf b → sameSetting s v ≡ true → settingNumber s 0 ≡ 0 → (n : ℕ) (after : List ℕ) → Copied b before n after
+    pub change-own : sameSetting s v ≡ true → settingNumber s 0 ≡ 0 → (n : ℕ) (after : List ℕ) → Copied b before n after
         → Changed b s before n after
     unfolding changedFile outNumber
-    change-own v e t z n after r =
-        let f = accepted-has-file b h in
-        let own : s ≡ settingOf b = same-setting b s v e t in
+    change-own t z n after r =
+        let f = seen b v o .file in
+        let own : s ≡ settingOf b = same-setting b s v (o .view) t in
         let l : layout s (dimensionsOf b) (emptyOf b) (wordsOf b) ≡ b = ap (λ (x : Setting). layout x (dimensionsOf b) (emptyOf b) (wordsOf b)) own ∙ f .file in
         let u : codec s .unfit (stored (emptyOf b) (wordsOf b)) ≡ false = ap (λ (x : Setting). codec x .unfit (stored (emptyOf b) (wordsOf b))) own ∙ f .fits in
         record {
@@ -242,23 +251,3 @@ copy-done b before after h e =
       number = rw (le-ltb (length before) (length b) h);
       left = e ∙ ap (put before 0) (take-length b) ∙ put-front before b h;
     }
-
--- ---- what the code knows of a checked file
-
-module _ (b : List ℕ) (n : ℕ) (c : Checked b n) (z : n ≡ 0) where
-  pub checked-zero : checkNumber b ≡ 0
-  checked-zero = sym (c .number) ∙ z
-
-  pub view-of : (v : View) → v ≡ viewOf b → ViewOf b v
-  view-of v e = record { accepted = checked-zero; view = e }
-
-  pub cells-of : (v : View) → v ≡ viewOf b → v .cells ≡ cells (dimensionsOf b)
-  unfolding viewOf
-  cells-of v e = ap (λ (t : View). t .cells) e ∙ rw (accepted-has-file b checked-zero .dims)
-
-  pub words-of : (v : View) → v ≡ viewOf b → v .words ≡ wordsCount b
-  unfolding viewOf
-  words-of v e = ap (λ (t : View). t .words) e
-
-  pub setting-of : settingAllowed (settingOf b) ≡ true
-  setting-of = accepted-has-file b checked-zero .setting

@@ -1,10 +1,10 @@
 // The setting of a file changed.
-use super::check::check;
 use super::recode::recoded;
+use checked::check;
 use format::Setting;
 use format::View;
-use header::setting::setting_number;
-use header::view::read_view;
+use format::signals::SMALL;
+use kinds::setting::setting_number;
 use rewrite::Edit;
 use rewrite::words::copy;
 ghost use mathlib.Core.Path.{_≡_};
@@ -29,7 +29,7 @@ fn copy_file(file: &[u8], dst: &mut [u8]) -> u32
     ensures { λ r. ⌜ Copied (now (file .entry)) (now (dst .entry)) r (now (dst .exit)) ⌝ }
 {
     if dst.len() < file.len() {
-        return 10;
+        return SMALL;
     }
     copy(dst, 0, file, 0, file.len());
     0
@@ -39,15 +39,15 @@ fn copy_file(file: &[u8], dst: &mut [u8]) -> u32
 pub fn change(file: &[u8], s: Setting, dst: &mut [u8]) -> u32
     ensures { λ r. ⌜ Changed (now (file .entry)) s (now (dst .entry)) r (now (dst .exit)) ⌝ }
 {
-    let number = check(file);
-    if number != 0 {
-        return number;
+    let verdict = check(file);
+    if verdict.number != 0 {
+        return verdict.number;
     }
     let number = setting_number(s);
     if number != 0 {
         return number;
     }
-    let v = read_view(file);
+    let v = verdict.view;
     if own_setting(s, v) {
         return copy_file(file, dst);
     }

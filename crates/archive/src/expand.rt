@@ -1,6 +1,6 @@
 // The words of a file, all cells in row order.
-use super::check::check;
-use header::view::read_view;
+use checked::check;
+use format::signals::SMALL;
 use scatter::expanded;
 ghost use Rattle.format.specs.Calls.{Expanded};
 
@@ -8,13 +8,13 @@ ghost use Rattle.format.specs.Calls.{Expanded};
 pub fn expand(file: &[u8], dst: &mut [u32]) -> u32
     ensures { λ r. ⌜ Expanded (now (file .entry)) (now (dst .entry)) r (now (dst .exit)) ⌝ }
 {
-    let number = check(file);
-    if number != 0 {
-        return number;
+    let found = check(file);
+    if found.number != 0 {
+        return found.number;
     }
-    let v = read_view(file);
+    let v = found.view;
     if dst.len() < v.cells as usize {
-        return 10;
+        return SMALL;
     }
     expanded(file, v, dst);
     0

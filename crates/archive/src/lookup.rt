@@ -1,11 +1,10 @@
 // The three lookups on a file's bytes: the complete check first, then the search.
-use super::check::check;
+use checked::check;
 use format::CellAnswer;
 use format::Position;
 use format::PositionAnswer;
 use format::Rank;
 use format::RankAnswer;
-use header::view::read_view;
 use search::cell_in;
 use search::position_in;
 use search::rank_in;
@@ -16,31 +15,31 @@ ghost use Rattle.format.specs.Lookups.{CellFound, RankFound, PositionFound};
 pub fn cell(file: &[u8], p: Position) -> CellAnswer
     ensures { λ r. ⌜ CellFound (now (file .entry)) (p .0) (cellSays r) ⌝ }
 {
-    let number = check(file);
-    if number != 0 {
-        return CellAnswer::Refused(number);
+    let verdict = check(file);
+    if verdict.number != 0 {
+        return CellAnswer::Refused(verdict.number);
     }
-    cell_in(file, read_view(file), p)
+    cell_in(file, verdict.view, p)
 }
 
 // The rank at a position, or empty.
 pub fn rank(file: &[u8], p: Position) -> RankAnswer
     ensures { λ r. ⌜ RankFound (now (file .entry)) (p .0) (rankSays r) ⌝ }
 {
-    let number = check(file);
-    if number != 0 {
-        return RankAnswer::Refused(number);
+    let verdict = check(file);
+    if verdict.number != 0 {
+        return RankAnswer::Refused(verdict.number);
     }
-    rank_in(file, read_view(file), p)
+    rank_in(file, verdict.view, p)
 }
 
 // The position of a rank.
 pub fn position(file: &[u8], r: Rank) -> PositionAnswer
     ensures { λ a. ⌜ PositionFound (now (file .entry)) (r .0) (positionSays a) ⌝ }
 {
-    let number = check(file);
-    if number != 0 {
-        return PositionAnswer::Refused(number);
+    let verdict = check(file);
+    if verdict.number != 0 {
+        return PositionAnswer::Refused(verdict.number);
     }
-    position_in(file, read_view(file), r)
+    position_in(file, verdict.view, r)
 }

@@ -1,21 +1,24 @@
 // A picture's words into a file.
-use assemble::out_number;
-use assemble::put_upper;
-use encode::state::Encoder;
 use format::Dimensions;
+use format::HEADER;
 use format::Setting;
+use format::signals::EXTENT;
+use format::signals::PICTURE;
 use header::extents::cell_count;
-use header::setting::setting_number;
-use heading::put_header;
+use kinds::coding::put_derived;
+use kinds::setting::setting_number;
+use layout::header_out::put_header;
+use layout::out_number;
+use parts::Sizes;
 use picture::measure;
 use picture::put_out;
-use shape::sizes;
 ghost use mathlib.Core.Path.{_≡_};
 ghost use lib.ListN.{length};
 ghost use Rattle.format.specs.Answers.{leaves};
+ghost use Rattle.format.specs.Picture.{cells};
 ghost use Rattle.format.specs.File.{layout};
 ghost use Rattle.format.specs.Calls.{Made};
-ghost use Rattle.assemble.specs.Assembled.{Goes};
+ghost use Rattle.layout.specs.Laid.{Goes};
 ghost use Rattle.archive.specs.Known.{pictureNumber};
 
 // 2, 3, 4 and 7: setting, dimensions, and as many words as cells.
@@ -28,24 +31,23 @@ fn picture_number(s: Setting, d: Dimensions, words: usize) -> u32
     }
     let cells = cell_count(d);
     if cells == 0 {
-        return 4;
+        return EXTENT;
     }
     if words != cells as usize {
-        return 7;
+        return PICTURE;
     }
     0
 }
 
-// The file of the words, which e has measured.
-fn put_picture(dst: &mut [u8], d: Dimensions, empty: u32, words: &[u32], s: Setting, e: Encoder)
-    requires { ⌜ Goes s d empty (now words) e (length (now dst)) ⌝ }
+// The file of the words, with the sizes z.
+fn put_picture(dst: &mut [u8], d: Dimensions, empty: u32, words: &[u32], s: Setting, z: Sizes)
+    requires { ⌜ (cells d ≡ length (now words)) × Goes s d empty (now words) z (length (now dst)) ⌝ }
     ensures { λ _. ⌜ now (dst .exit) ≡ leaves 0 (layout s d empty (now (words .entry))) (now (dst .entry)) ⌝ }
 {
-    let z = sizes(s, e);
     put_header(dst, s, d, empty, z);
-    let second = 52 + z.first as usize;
+    let second = HEADER + z.first as usize;
     put_out(dst, words, empty, s, second, second + z.second as usize);
-    put_upper(dst, s, z);
+    put_derived(dst, s, z, HEADER);
 }
 
 // 0 with the file in the destination's first bytes; 2, 3, 4, 7, 9, 10.
@@ -56,11 +58,12 @@ pub fn make(d: Dimensions, empty: u32, words: &[u32], s: Setting, dst: &mut [u8]
     if number != 0 {
         return number;
     }
-    let e = measure(words, empty, s);
-    let number = out_number(s, e, dst.len());
+    let m = measure(words, empty, s);
+    let number = out_number(m, dst.len());
     if number != 0 {
         return number;
     }
-    put_picture(dst, d, empty, words, s, e);
+    let z = m.sizes;
+    put_picture(dst, d, empty, words, s, z);
     0
 }

@@ -1,17 +1,17 @@
 // One cell of a file written.
-use super::check::check;
 use super::recode::recoded;
+use checked::check;
 use format::Position;
 use format::RankAnswer;
 use format::View;
+use format::signals::BEYOND;
 use header::view::read_setting;
-use header::view::read_view;
+use kinds::search::find;
 use rewrite::Edit;
-use rewrite::below::ranks_below;
-use search::rank_in;
+use search::rank_answer;
 ghost use Prim.Native.Nat.{_<_};
 ghost use Rattle.format.specs.Calls.{Wrote};
-ghost use Rattle.header.specs.Search.{ViewOf};
+ghost use Rattle.parts.specs.Holds.{ViewOf};
 ghost use Rattle.rewrite.specs.Edit.{Writes};
 
 // Which ranks go into the new file, and whether the cell is a new one among them.
@@ -20,14 +20,14 @@ fn edit_of(file: &[u8], v: View, p: Position, word: u32) -> Edit
     ensures { λ r. ⌜ Writes (now (file .entry)) (p .0) word r ⌝ }
 {
     let put = word != v.empty;
-    let answer = rank_in(file, v, p);
+    let found = find(file, v, p);
+    let answer = rank_answer(found);
     let RankAnswer::Rank(rank) = answer else {
-        let below = ranks_below(file, v, p.0);
         return Edit {
-            before: below,
+            before: found.below,
             put,
             position: p.0,
-            after: below,
+            after: found.below,
         };
     };
     Edit {
@@ -42,13 +42,13 @@ fn edit_of(file: &[u8], v: View, p: Position, word: u32) -> Edit
 pub fn write(file: &[u8], p: Position, word: u32, dst: &mut [u8]) -> u32
     ensures { λ r. ⌜ Wrote (now (file .entry)) (p .0) word (now (dst .entry)) r (now (dst .exit)) ⌝ }
 {
-    let number = check(file);
-    if number != 0 {
-        return number;
+    let verdict = check(file);
+    if verdict.number != 0 {
+        return verdict.number;
     }
-    let v = read_view(file);
+    let v = verdict.view;
     if v.cells <= p.0 {
-        return 8;
+        return BEYOND;
     }
     let x = edit_of(file, v, p, word);
     recoded(file, v, x, word, read_setting(file), dst)

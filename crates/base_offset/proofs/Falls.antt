@@ -1,4 +1,4 @@
--- Kind 3: the groups rise where each has its ends right and the offsets fall from group to group alone. Assumes nothing.
+-- The groups rise where each has its ends right and the offsets fall from group to group alone. Assumes nothing.
 use Prim.Native.Nat.{ℕ, zero, suc, _+_, _-_, _*_, _≤_, _<_}
 use mathlib.Core.Path.{_≡_, refl, sym, ap, _∙_}
 use mathlib.Core.Bool.{Bool, true, false}
@@ -12,12 +12,12 @@ use Rattle.format.specs.Tools.{both, first, upTo}
 use Rattle.format.specs.Bytes.{number, field, numbersOf}
 use Rattle.wire.specs.Wire.{entrySize}
 use Rattle.wire.proofs.Laws.{field-zero, size-none}
-use Rattle.laws.proofs.Tools.{cases, both-true}
+use Rattle.laws.proofs.Tools.{cases, both-true, both-false}
 use Rattle.laws.proofs.Bounds.{upTo-suc, upTo-zero}
 use Rattle.laws.proofs.Numbers.{numbers-turn, numbers-end}
-use Rattle.positions.proofs.Climb.{climbs}
-use Rattle.base_offset.specs.Group.{groupRight, fallen, fallsAfter, lastAfter, falls, groupEnds, endsRight}
-use Rattle.base_offset.proofs.Groups.{groupsRight, group-start}
+use Rattle.base_offset.specs.Group.{fallen, fallsAfter, lastAfter, falls, groupEnds, endsRight}
+use Rattle.base_offset.proofs.Climb.{climbs}
+use Rattle.base_offset.proofs.Groups.{groupRight, groupsRight}
 
 -- ---- the number of groups
 
@@ -43,27 +43,23 @@ count-left l (suc m) more h e = omega arith
 
 -- ---- one group
 
-never : (t : Bool) → both t false ≡ false
-never true = refl
-never false = refl
-
 climbs-falls : (p B : ℕ) (xs : List ℕ) → climbs (suc p) B xs ≡ both (eqb (fallsAfter p xs) 0) (ltb (lastAfter p xs) B)
 unfolding climbs fallsAfter lastAfter fallen
 climbs-falls p B [] = refl
 climbs-falls p B (x ∷ xs) = cases (ltb p x) (λ e. rw (e, zero-add (fallsAfter x xs)) (climbs-falls x B xs)) (λ e. rw (e, ne-eqb (1 + fallsAfter x xs) 0 (λ q. omega arith)))
 
 one-group : (base next : ℕ) (os : List ℕ) → 0 < length os → both (eqb (falls os) 0) (groupEnds base next os) ≡ groupRight base next os
-unfolding falls groupEnds
+unfolding falls groupEnds groupRight
 one-group base next [] h = absurd (omega arith)
 one-group base next (o ∷ os) h =
-    group-zero (eqb-true o 0) ∙ sym (group-start base next o os)
+    group-zero (eqb-true o 0)
   where
     group-zero : (eqb o 0 ≡ true → o ≡ 0)
         → both (eqb (fallsAfter o os) 0) (both (eqb o 0) (ltb (lastAfter o os) (next - base))) ≡ both (eqb o 0) (climbs 1 (next - base) os)
     group-zero k =
         cases (eqb o 0)
         (λ e. rw (k e) (sym (climbs-falls 0 (next - base) os)))
-        (λ e. rw e (never (eqb (fallsAfter o os) 0)))
+        (λ e. rw e (both-false (eqb (fallsAfter o os) 0)))
 
 -- ---- a group and those after it
 
@@ -131,9 +127,9 @@ step f a b m g true k = rw (eq-sum f a b m (k refl .0) (k refl .1)) (order (eqb 
   where
     order : (p q r : Bool) → both (both p q) (both r true) ≡ both (both p r) (both q true)
     order true q true = refl
-    order true q false = never q
+    order true q false = both-false q
     order false q r = refl
-step f a b m g false k = rw (never g, never (eqb f (suc m)), never (eqb b m), never (both (eqb a 0) g))
+step f a b m g false k = rw (both-false g, both-false (eqb f (suc m)), both-false (eqb b m), both-false (both (eqb a 0) g))
 
 pub groups-ends : (l bound base : ℕ) (bs os : List ℕ) → 1 ≤ l → length bs + 1 ≡ upTo (length os) l
     → both (eqb (falls os) (length bs)) (endsRight l bound base bs os) ≡ groupsRight l bound base bs os

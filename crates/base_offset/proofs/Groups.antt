@@ -1,4 +1,4 @@
--- Kind 3 checked group by group is kind 3 checked rank by rank. Assumes nothing.
+-- The check group by group is the check rank by rank. Assumes nothing.
 use Prim.Native.Nat.{ℕ, zero, suc, _+_, _-_, _≤_, _<_}
 use mathlib.Core.Path.{_≡_, refl, sym, _∙_}
 use mathlib.Core.Bool.{Bool, true, false}
@@ -7,12 +7,16 @@ use native.Mathlib.Nat.{suc-sub-suc, sub-zero, add-zero}
 use native.Mathlib.Omega.{arith}
 use lib.ListN.{length, take, drop}
 use lib.Dec.{leb, eqb}
-use borrow.Author.Tests.{leb-true, leb-false, le-leb, lt-leb, eqb-true}
+use borrow.Author.Tests.{leb-true, leb-false, le-leb, lt-leb}
 use Rattle.format.specs.Tools.{both, upTo}
-use Rattle.laws.proofs.Tools.{cases}
-use Rattle.positions.proofs.Climb.{climbs, rises-climbs}
-use Rattle.base_offset.specs.Group.{groupRight}
+use Rattle.laws.proofs.Tools.{cases, both-assoc}
+use Rattle.base_offset.proofs.Climb.{climbs}
 use Rattle.base_offset.proofs.RankByRank.{ranksRight, no-base, next-bases, some-base}
+
+-- a group: the offset of the base's own rank is 0, and the positions rise below `next`
+unfoldable pub groupRight : ℕ → ℕ → List ℕ → Bool
+groupRight base next [] = false
+groupRight base next (o ∷ os) = both (eqb o 0) (climbs 1 (next - base) os)
 
 -- the group of `base`, then those of the bases bs; the last group's positions rise below `bound`
 unfoldable pub groupsRight : ℕ → ℕ → ℕ → List ℕ → List ℕ → Bool
@@ -24,28 +28,13 @@ unfoldable insideRight : ℕ → ℕ → ℕ → ℕ → ℕ → List ℕ → Li
 insideRight l bound k o base [] os = climbs (suc o) (bound - base) os
 insideRight l bound k o base (next ∷ bs) os = both (climbs (suc o) (next - base) (take k os)) (groupsRight l bound next bs (drop k os))
 
-both-assoc : (a c d : Bool) → both (both a c) d ≡ both a (both c d)
-both-assoc true c d = refl
-both-assoc false c d = refl
-
--- a group from its base's own rank on
-pub group-start : (base next o : ℕ) (os : List ℕ) → groupRight base next (o ∷ os) ≡ both (eqb o 0) (climbs 1 (next - base) os)
-unfolding groupRight climbs
-group-start base next o os =
-    cases (eqb o 0)
-    (λ e. rw e (rises-climbs 0 (next - base) (o ∷ os) (omega arith) ∙ climbs-zero o (eqb-true o 0 e)))
-    (λ e. rw e)
-  where
-    climbs-zero : (x : ℕ) → x ≡ 0 → climbs 0 (next - base) (x ∷ os) ≡ climbs 1 (next - base) os
-    climbs-zero x e = rw e
-
 groups-start : (l bound base o : ℕ) (bs os : List ℕ) → 1 ≤ l → groupsRight l bound base bs (o ∷ os) ≡ both (eqb o 0) (insideRight l bound (l - 1) 0 base bs os)
-unfolding groupsRight insideRight
-groups-start l bound base o [] os h = group-start base bound o os
+unfolding groupsRight groupRight insideRight
+groups-start l bound base o [] os h = refl
 groups-start zero bound base o (next ∷ bs) os h = absurd (omega arith)
 groups-start (suc l) bound base o (next ∷ bs) os h =
     let e : suc l - 1 ≡ l = omega arith in
-    rw (e, group-start base next o (take l os)) (both-assoc (eqb o 0) _ _)
+    rw e (both-assoc (eqb o 0) _ _)
 
 -- a test moved by the base
 leb-moved : (base o bound : ℕ) → leb (suc (base + o)) bound ≡ leb (suc o) (bound - base)

@@ -1,11 +1,21 @@
+pub mod Rule
+pub mod Known
+-- The check.
+pub mod Climb
 pub mod RankByRank
 pub mod Groups
 pub mod Falls
 pub mod Pieces
-pub mod Known
-pub mod PartsRight
 pub mod OneGroup
+pub mod PartsRight
 pub mod Turn
+-- The cursor.
+pub mod Walk
+-- The encoder.
+pub mod Encoded
+pub mod Adds
+-- The searches.
 pub mod TwoLevel
 pub mod Searched
-pub mod Places
+-- All that other crates need.
+pub mod Laws

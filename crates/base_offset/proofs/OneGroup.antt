@@ -1,24 +1,18 @@
--- One group of kind 3, as the code goes through it. Assumes nothing.
+-- One group, as the code goes through it. Assumes nothing.
 use Prim.Native.Nat.{ℕ, zero, suc, _+_, _-_, _*_, _≤_, _<_}
-use mathlib.Core.Path.{_≡_, refl, sym}
-use mathlib.Core.Bool.{Bool, true, false}
+use mathlib.Core.Path.{_≡_, sym}
+use mathlib.Core.Bool.{false}
 use mathlib.Core.List.{List}
 use native.Mathlib.Nat.{mul-suc}
 use native.Mathlib.Omega.{arith}
 use lib.ListN.{drop}
 use lib.Dec.{eqb, ltb}
 use borrow.Author.Tests.{eq-eqb, ne-eqb, le-ltb}
-use Rattle.format.specs.Tools.{both, first}
 use Rattle.format.specs.Bytes.{field, numbersOf}
-use Rattle.wire.specs.Wire.{entrySize}
-use Rattle.wire.proofs.Laws.{field-zero, size-none}
+use Rattle.laws.proofs.Tools.{both-false}
 use Rattle.laws.proofs.Numbers.{numbers-turn}
 use Rattle.base_offset.specs.Group.{groupEnds, lastAfter}
 use Rattle.base_offset.proofs.Falls.{last-entry}
-
--- an entry of another width than 1 and 2
-pub entry-none : (w at : ℕ) (b : List ℕ) → (w ≡ 1 → ⊥) → (w ≡ 2 → ⊥) → 0 ≡ field (entrySize w) at b
-entry-none w at b h k = rw (← size-none w h k) (sym (field-zero at b))
 
 -- room for the first of n entries, and for the others after it
 pub room : (w n place size : ℕ) → 0 < n → place + w * n ≤ size → (place + w ≤ size) × (place + w + w * (n - 1) ≤ size)
@@ -30,11 +24,7 @@ module _ (w n at base next : ℕ) (b : List ℕ) (some : 1 ≤ n) where
   unfolding groupEnds
   ends-past h =
       let e : next - base ≡ 0 = omega arith in
-      sym (rw (numbers-turn w n at b some, e, le-ltb (lastAfter (field w at b) (numbersOf w (n - 1) (drop (at + w) b))) 0 (omega arith)) (never (eqb (field w at b) 0)))
-    where
-      never : (t : Bool) → both t false ≡ false
-      never true = refl
-      never false = refl
+      sym (rw (numbers-turn w n at b some, e, le-ltb (lastAfter (field w at b) (numbersOf w (n - 1) (drop (at + w) b))) 0 (omega arith)) (both-false (eqb (field w at b) 0)))
 
   pub ends-first : (field w at b ≡ 0 → ⊥) → false ≡ groupEnds base next (numbersOf w n (drop at b))
   unfolding groupEnds

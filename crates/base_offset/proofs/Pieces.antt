@@ -1,14 +1,12 @@
--- Numbers in a row: a front part, what follows it, and the numbers back from their bytes. Assumes nothing.
-use Prim.Native.Nat.{ℕ, zero, suc, _+_, _-_, _*_, _^_, _≤_}
-use mathlib.Core.Path.{_≡_, refl, sym, ap, ap₂, _∙_}
-use mathlib.Core.List.{List, _∷_, _++_}
+-- Numbers in a row: a front part, and what follows it. Assumes nothing.
+use Prim.Native.Nat.{ℕ, zero, suc, _+_, _-_, _*_, _≤_}
+use mathlib.Core.Path.{_≡_, refl, ap}
+use mathlib.Core.List.{List, _∷_}
 use native.Mathlib.Nat.{sub-zero, mul-zero, add-zero, mul-suc, suc-sub-suc}
 use native.Mathlib.Omega.{arith}
-use lib.ListN.{length, take, drop, take-append-drop}
+use lib.ListN.{take, drop}
 use lib.Seq.{drop-drop}
-use Rattle.format.specs.Tools.{Below}
-use Rattle.format.specs.Bytes.{number, bytesOf, numbersOf}
-use Rattle.laws.proofs.Bytes.{numbersOf-bytesOf}
+use Rattle.format.specs.Bytes.{number, numbersOf}
 
 pub take-numbers : (w n m : ℕ) (b : List ℕ) → m ≤ n → take m (numbersOf w n b) ≡ numbersOf w m b
 unfolding numbersOf
@@ -23,8 +21,3 @@ drop-numbers w zero (suc m) at b h = absurd (omega arith)
 drop-numbers w (suc n) (suc m) at b h =
     let e : at + w * suc m ≡ at + w + w * m = rw mul-suc (omega arith) in
     rw (e, suc-sub-suc n m, drop-drop w at b) (drop-numbers w n m (at + w) b (omega arith))
-
-pub numbers-again : (w n : ℕ) (c xs : List ℕ) → Below (256 ^ w) xs → length xs ≡ n → bytesOf w xs ≡ take (w * n) c → numbersOf w n c ≡ xs
-numbers-again w n c xs s z e =
-    let d : bytesOf w xs ++ drop (w * n) c ≡ c = rw e (take-append-drop (w * n) c) in
-    ap₂ (λ (m : ℕ) (y : List ℕ). numbersOf w m y) (sym z) (sym d) ∙ numbersOf-bytesOf w xs (drop (w * n) c) s

@@ -1,4 +1,4 @@
--- Kind 3 checked rank by rank: k more ranks belong to the present base. Assumes nothing.
+-- The check rank by rank: k more ranks belong to the present base. Assumes nothing.
 use Prim.Native.Nat.{ℕ, zero, suc, _+_, _-_, _≤_}
 use mathlib.Core.Path.{_≡_, refl, sym, ap, ap₂}
 use mathlib.Core.Bool.{Bool, true}
@@ -12,7 +12,7 @@ use Rattle.format.specs.Tools.{both, first, others, upTo}
 use Rattle.laws.proofs.Tools.{both-true, both-make}
 use Rattle.laws.proofs.Bounds.{upTo-suc, upTo-zero}
 use Rattle.laws.proofs.Streams.{basesFrom, offsetsFrom}
-use Rattle.positions.proofs.Climb.{climbs}
+use Rattle.base_offset.proofs.Climb.{climbs}
 
 -- the positions that bases and offsets say
 unfoldable pub basedFrom : ℕ → ℕ → ℕ → List ℕ → List ℕ → List ℕ

@@ -1,220 +1,204 @@
--- Kind 3: what the searches answer. Assumes nothing.
-use Prim.Native.Nat.{ℕ, suc, _+_, _-_, _*_, _/_, _≤_, _<_}
-use mathlib.Core.Path.{_≡_, refl, sym, ap, ap₂, _∙_}
+-- What the searches answer. Assumes nothing.
+use Prim.Native.Nat.{ℕ, suc, _+_, _-_, _*_, _/_, _≤_, _<_, _^_, min}
+use mathlib.Core.Path.{_≡_, refl, sym, ap, _∙_}
+use mathlib.Core.Bool.{true, false}
 use mathlib.Core.List.{List}
-use native.Mathlib.Nat.{suc-mul, le-div-iff-mul-le, div-mul-le-self, mul-add-div-right, div-eq-of-lt, add-zero}
+use native.Mathlib.Nat.{div-mul-le-self, mul-add-div-right, div-eq-of-lt, add-zero, mul-suc, mul-le-mul, mul-le-mul-left, min-le-left, min-le-right, le-min}
 use native.Mathlib.Omega.{arith}
-use lib.ListN.{length, getD}
-use lib.Dec.{eqb}
-use borrow.Author.Tests.{eqb-true, eqb-false}
+use lib.ListN.{getD}
 use Rattle.format.specs.declared.View.{View}
-use Rattle.format.specs.Tools.{upTo}
-use Rattle.format.specs.Answers.{refused, empty, given}
-use Rattle.format.specs.BaseOffset.{bases, offsets, basedPositions}
-use Rattle.format.specs.Accepted.{positionsOf}
-use Rattle.format.specs.Opened.{beyond, none, number}
-use Rattle.laws.proofs.Tools.{cases, getD-listed}
-use Rattle.laws.proofs.Check.{length-numbersOf}
+use Rattle.format.specs.BaseOffset.{bases}
+use Rattle.laws.proofs.Bounds.{index-inside, inside-index}
+use Rattle.laws.proofs.Numbers.{numbers-at}
 use Rattle.laws.proofs.Positions.{rising-le, getD-offsets}
 use Rattle.laws.proofs.Entries.{base-every}
-use Rattle.wire.specs.Wire.{entrySize}
-use Rattle.header.specs.Search.{ViewOf, KindRankSearched, KindPositionSearched}
-use Rattle.header.proofs.Body.{accepted-parts}
-use Rattle.positions.specs.Last.{LastAtMost}
-use Rattle.positions.proofs.Among.{rising-lt, rising-below, rank-found, rank-missed}
-use Rattle.positions.proofs.Lookup.{header-view, positions-rising, positions-size, rank-inside, position-inside, rank-nowhere}
-use Rattle.base_offset.specs.Offset.{baseAt, offsetAt, LesserOf}
-use Rattle.base_offset.proofs.Known.{Known, known, offsetsOf, positions-are, base-entry, offset-entry}
-use Rattle.base_offset.proofs.PartsRight.{Based, based}
+use Rattle.wire.specs.Wire.{whole, entrySize}
+use Rattle.wire.proofs.Laws.{whole-there}
+use Rattle.parts.specs.Cursor.{entryOf}
+use Rattle.parts.specs.Found.{FoundIn, PositionIn}
+use Rattle.parts.specs.Holds.{Holds}
+use Rattle.parts.specs.Last.{LastAtMost}
+use Rattle.parts.proofs.Places.{rising-lt, found-here, found-gap}
+use Rattle.base_offset.proofs.Known.{kind, Known, held, bases-are, offsets-are}
 use Rattle.base_offset.proofs.Turn.{firsts-some}
-use Rattle.base_offset.proofs.TwoLevel.{Bases, below-first, first-last, both-last}
+use Rattle.base_offset.proofs.TwoLevel.{Bases, below-first, at-most, above}
 
--- the base at j is that of rank j * l
-index-inside : (l n j : ℕ) → 1 ≤ l → j < upTo n l → j * l < n
-index-inside l n j h k = let e = suc-mul j l in let z : suc j * l ≤ n + (l - 1) = le-div-iff-mul-le h .0 k in omega arith
+-- the product of two 32-bit numbers
+pub product-fits : (a c : ℕ) → a < 2 ^ 32 → c < 2 ^ 32 → a * c < 2 ^ 64
+product-fits a c h k =
+    let m : a ≤ 2 ^ 32 - 1 = omega arith in
+    let n : c ≤ 2 ^ 32 - 1 = omega arith in
+    let z : a * c ≤ (2 ^ 32 - 1) * (2 ^ 32 - 1) = mul-le-mul m n in
+    omega arith
 
-inside-index : (l n j : ℕ) → 1 ≤ l → j * l < n → j < upTo n l
-inside-index l n j h k = le-div-iff-mul-le h .1 (rw suc-mul (omega arith))
+-- the base at an index
+abbrev pub baseAt : List ℕ → View → ℕ → ℕ
+baseAt b v j = whole 4 (v .start + 4 * j) b
 
--- the position of a rank
-abbrev place : List ℕ → ℕ → ℕ
-place b r = getD (positionsOf b) r 0
+-- ---- over parts that hold the stored positions ls
+module _ (b : List ℕ) (v : View) (ls : List ℕ) (h : Holds (kind v) b v ls) where
+  k : Known b v
+  k = held b v ls h
 
--- ---- of an accepted file
-module _ (b : List ℕ) (v : View) (e : v .kind ≡ 3) (o : ViewOf b v) where
-  know : Known b v
-  know = known b v (header-view b v o 3 e)
+  base-place : (j : ℕ) → j * v .step < v .words → (j < v .firsts) × (baseAt b v j ≡ getD ls (j * v .step) 0)
+  base-place j g =
+      let i : j < v .firsts = rw (k .bases) (inside-index (v .step) (v .words) j (k .rule .step-least) g) in
+      let t = k .there in
+      let p = k .second-place in
+      let z = h .size in (
+        i,
+        whole-there 4 (v .start + 4 * j) b (omega arith) ∙ sym (numbers-at 4 (v .firsts) (v .start) j b i)
+            ∙ ap (λ (x : List ℕ). getD x j 0) (sym (bases-are b v ls h)) ∙ base-every (v .step) j ls (k .rule .step-least) (omega arith),
+      )
 
-  parts : Based b v (positionsOf b)
-  parts = let p = accepted-parts b (o .accepted) in based b v know (positionsOf b) (p .rising) (p .size) (p .fits) (p .first) (p .second)
+  offset-place : (r : ℕ) → r < v .words → entryOf b v r ≡ getD ls r 0 - getD (bases (v .step) ls) (r / v .step) 0
+  unfolding entryOf
+  offset-place r g =
+      let w = entrySize (v .width) in
+      let t = k .there in
+      let m : w * suc r ≤ w * v .words = mul-le-mul-left w g in
+      let n = mul-suc w r in
+      let z = h .size in
+      whole-there w (v .second + w * r) b (omega arith) ∙ sym (numbers-at w (v .words) (v .second) r b g)
+      ∙ ap (λ (x : List ℕ). getD x r 0) (sym (offsets-are b v ls h)) ∙ getD-offsets (v .step) ls r (omega arith)
 
-  base-place : (j : ℕ) → j * v .step < v .words → (j < v .firsts) × (baseAt b j ≡ place b (j * v .step))
-  base-place j h =
-      let i : j < v .firsts = rw (know .bases) (inside-index (v .step) (v .words) j (know .step-least) h) in
-      let z = positions-size b v o in
-      (i, base-entry b v know j i ∙ ap (λ (x : List ℕ). getD x j 0) (sym (parts .bases)) ∙ base-every (v .step) j (positionsOf b) (know .step-least) (omega arith))
-
-  sum-place : (j x : ℕ) → x < v .step → j * v .step + x < v .words → baseAt b j + offsetAt b v (j * v .step + x) ≡ place b (j * v .step + x)
-  sum-place j x h g =
+  -- a rank's position is its base and its offset
+  pub rank-sum : (r : ℕ) → r < v .words → baseAt b v (r / v .step) + entryOf b v r ≡ getD ls r 0
+  rank-sum r g =
       let l = v .step in
-      let r = j * l + x in
-      let z = positions-size b v o in
-      let q : r / l ≡ j = mul-add-div-right (know .step-least) j x ∙ ap (λ (y : ℕ). j + y) (div-eq-of-lt h) ∙ add-zero j in
-      let bj = base-place j (omega arith) .1 in
-      let be : getD (bases l (positionsOf b)) (r / l) 0 ≡ place b (j * l)
-      = ap (λ (y : ℕ). getD (bases l (positionsOf b)) y 0) q ∙ base-every l j (positionsOf b) (know .step-least) (omega arith) in
-      let oe : offsetAt b v r ≡ getD (offsets l (positionsOf b)) r 0 = offset-entry b v know r g ∙ ap (λ (y : List ℕ). getD y r 0) (sym (parts .offsets)) in
-      let og : getD (offsets l (positionsOf b)) r 0 ≡ place b r - getD (bases l (positionsOf b)) (r / l) 0 = getD-offsets l (positionsOf b) r (omega arith) in
-      let m : place b (j * l) ≤ place b r = rising-le 0 (v .cells) (positionsOf b) (j * l) r (positions-rising b v o) (omega arith) (omega arith) in
+      let z = h .size in
+      let d = div-mul-le-self r l in
+      let q = base-place (r / l) (omega arith) .1 in
+      let e = base-every l (r / l) ls (k .rule .step-least) (omega arith) in
+      let o = offset-place r g in
+      let m = rising-le 0 (v .cells) ls (r / l * l) r (h .rising) d (omega arith) in
       omega arith
 
-  two-levels : Bases (place b) (v .words) (v .step) (baseAt b) (v .firsts)
+  group-sum : (j x : ℕ) → x < v .step → j * v .step + x < v .words → baseAt b v j + entryOf b v (j * v .step + x) ≡ getD ls (j * v .step + x) 0
+  group-sum j x g f =
+      let l = v .step in
+      let q : (j * l + x) / l ≡ j = mul-add-div-right (k .rule .step-least) j x ∙ ap (λ (y : ℕ). j + y) (div-eq-of-lt g) ∙ add-zero j in
+      rw q at (rank-sum (j * l + x) f)
+
+  two-levels : Bases (λ r. getD ls r 0) (v .words) (v .step) (baseAt b v) (v .firsts)
   two-levels =
       record {
-        rise = λ i j h g. let z = positions-size b v o in rising-lt 0 (v .cells) (positionsOf b) i j (positions-rising b v o) h (omega arith);
-        step = know .step-least;
-        inside = λ j h. inside j h;
-        index = λ j h. base-place j h .0;
-        value = λ j h. base-place j (inside j h) .1;
+        rise = λ i j g f. let z = h .size in rising-lt 0 (v .cells) ls i j (h .rising) g (omega arith);
+        step = k .rule .step-least;
+        inside = inside;
+        index = λ j g. base-place j g .0;
+        value = λ j g. base-place j (inside j g) .1;
       }
     where
       inside : (j : ℕ) → j < v .firsts → j * v .step < v .words
-      inside j h = index-inside (v .step) (v .words) j (know .step-least) (rw (← (know .bases)) h)
-
-  -- a rank's position is its base and its offset
-  rank-sum : (r : ℕ) → r < v .words → baseAt b (r / v .step) + offsetAt b v r ≡ place b r
-  unfolding basedPositions
-  rank-sum r h =
-      let l = v .step in
-      let d = div-mul-le-self r l in
-      let z : r < length (offsetsOf b v) = rw (length-numbersOf (entrySize (v .width)) (v .words) _) h in
-      ap₂ (λ (x y : ℕ). x + y) (base-entry b v know (r / l) (base-place (r / l) (omega arith) .0)) (offset-entry b v know r h)
-      ∙ sym (ap (λ (x : List ℕ). getD x r 0) (positions-are b v know) ∙ getD-listed (length (offsetsOf b v)) _ r z)
+      inside j g = index-inside (v .step) (v .words) j (k .rule .step-least) (rw (← (k .bases)) g)
 
 -- ---- the answers
 
 -- the search is at the base j
 pub record AtBase (b : List ℕ) (v : View) (p j base : ℕ) : Type 0 where
-  pub inside : p < v .cells
-  pub last : LastAtMost (baseAt b) (v .firsts) p j
-  pub is : base ≡ baseAt b j
+  pub last : LastAtMost (baseAt b v) (v .firsts) p j
+  pub is : base ≡ baseAt b v j
 
 -- the search is at the offset i of that base's group of n ranks
 pub record AtGroup (b : List ℕ) (v : View) (p j base n i : ℕ) : Type 0 where
   pub at-base : AtBase b v p j base
   pub start : j * v .step < v .words
-  pub lesser : LesserOf (v .step) (v .words - j * v .step) n
+  pub lesser : n ≡ min (v .step) (v .words - j * v .step)
   pub least : base ≤ p
   pub full : 0 < n
-  pub found : LastAtMost (λ x. offsetAt b v (j * v .step + x)) n (p - base) i
+  pub found : LastAtMost (λ x. entryOf b v (j * v .step + x)) n (p - base) i
+
+never : false ≡ true → ⊥
+never z = let y : _≡_ {A = ℕ} 0 1 = cc in omega arith
 
 module _ {b : List ℕ} {v : View} {p j base : ℕ} (t : AtBase b v p j base) where
-  -- no rank at all, or the bases are there
-  empty-or : (v .kind ≡ 3 → (o : ViewOf b v) → 0 < v .words → KindRankSearched 3 b v p empty) → KindRankSearched 3 b v p empty
-  empty-or f =
+  none-below : ((ls : List ℕ) → Holds (kind v) b v ls → 0 < v .words → p < getD ls 0 0) → FoundIn (kind v) b v p (record { below = 0; here = false })
+  none-below f =
       record {
-        right = λ e o.
-            cases (eqb (v .words) 0)
-            (λ z. rank-nowhere 3 b v p (t .inside) (eqb-true (v .words) 0 z) .right e o)
-            (λ z. let y = eqb-false (v .words) 0 z in f e o (omega arith) .right e o);
-        free = none;
+        right = λ ls h. let z = h .size in found-gap (v .cells) p ls (h .rising) 0 (omega arith) (λ y. absurd (omega arith)) (λ y. f ls h (omega arith)) _ refl refl;
+        free = λ z. absurd (never z);
       }
 
-  pub rank-before : p < base → KindRankSearched 3 b v p empty
-  rank-before h =
-      empty-or
-      (λ e o s.
-      let g : p < baseAt b j = rw (t .is) at h in
-      let m = firsts-some (know b v e o) s in
-      let l = two-levels b v e o in
-      let z = below-first (place b) (v .words) (v .step) (baseAt b) (v .firsts) l p j m (t .last) g in
-      let y = first-last (place b) (v .words) (v .step) (baseAt b) (v .firsts) l p j m (t .last) g in
-      record {
-        right = λ _ _.
-            rank-missed (place b) (positionsOf b) (v .words) 0 (v .cells) (positions-size b v o) (λ _ _. refl) (positions-rising b v o) p 0 s y
-            (λ q. omega arith)
-            ∙ sym (rank-inside b v o p (t .inside));
-        free = none;
-      })
+  pub find-before : p < base → FoundIn (kind v) b v p (record { below = 0; here = false })
+  find-before g =
+      none-below
+      (λ ls h s. below-first _ _ _ _ _ (two-levels b v ls h) p j (firsts-some (h .counted) s) (t .last) (rw (t .is) at g))
 
-  pub rank-outside : v .words ≤ j * v .step → KindRankSearched 3 b v p empty
-  rank-outside h =
-      empty-or
-      (λ e o s.
-      let m = firsts-some (know b v e o) s in
-      let z = two-levels b v e o .inside j (t .last .within m) in
+  pub find-outside : v .words ≤ j * v .step → FoundIn (kind v) b v p (record { below = 0; here = false })
+  find-outside g = none-below (λ ls h s. let z = two-levels b v ls h .inside j (t .last .within (firsts-some (h .counted) s)) in absurd (omega arith))
+
+  pub find-no-group : {n : ℕ} → j * v .step < v .words → n ≡ min (v .step) (v .words - j * v .step) → n ≡ 0
+      → FoundIn (kind v) b v p (record { below = 0; here = false })
+  find-no-group g l e =
+      none-below
+      (λ ls h s.
+      let m : 1 ≤ min (v .step) (v .words - j * v .step) = le-min (held b v ls h .rule .step-least) (omega arith) in
       absurd (omega arith))
-
-  pub rank-no-group : {n : ℕ} → j * v .step < v .words → LesserOf (v .step) (v .words - j * v .step) n → n ≡ 0 → KindRankSearched 3 b v p empty
-  rank-no-group g l h =
-      empty-or
-      (λ e o s. let k = know b v e o .step-least in let z = l .all 0 k (omega arith) in absurd (omega arith))
 
 module _ {b : List ℕ} {v : View} {p j base n i : ℕ} (g : AtGroup b v p j base n i) where
   pub rank-within : j * v .step + i < v .words
-  rank-within = let w = g .found .within (g .full) in let s = g .lesser .second in omega arith
+  rank-within =
+      let w = g .found .within (g .full) in
+      let e = g .lesser in
+      let s = min-le-right (v .step) (v .words - j * v .step) in
+      omega arith
 
-  sums : (e : v .kind ≡ 3) (o : ViewOf b v) (x : ℕ) → x < n → baseAt b j + offsetAt b v (j * v .step + x) ≡ place b (j * v .step + x)
-  sums e o x h = let f = g .lesser .first in let s = g .lesser .second in sum-place b v e o j x (omega arith) (omega arith)
+  module _ (ls : List ℕ) (h : Holds (kind v) b v ls) where
+    sums : (x : ℕ) → x < n → baseAt b v j + entryOf b v (j * v .step + x) ≡ getD ls (j * v .step + x) 0
+    sums x y =
+        let e = g .lesser in
+        let f = min-le-left (v .step) (v .words - j * v .step) in
+        let s = min-le-right (v .step) (v .words - j * v .step) in
+        group-sum b v ls h j x (omega arith) (omega arith)
 
-  found-last : (e : v .kind ≡ 3) (o : ViewOf b v) → LastAtMost (place b) (v .words) p (j * v .step + i)
-  found-last e o =
-      let is = g .at-base .is in
-      let h = g .start in
-      let m = firsts-some (know b v e o) (omega arith) in
-      let z : baseAt b j ≤ p = rw is at (g .least) in
-      let f : LastAtMost (λ x. offsetAt b v (j * v .step + x)) n (p - baseAt b j) i = rw is at (g .found) in
-      both-last (place b) (v .words) (v .step) (baseAt b) (v .firsts) (two-levels b v e o) p j m (g .at-base .last) n i _ z (g .lesser) (g .full) (sums e o) f
+    -- the position at the rank found
+    found-place : base + entryOf b v (j * v .step + i) ≡ getD ls (j * v .step + i) 0
+    found-place = rw (g .at-base .is) (sums i (g .found .within (g .full)))
 
-  -- the position at the rank found
-  found-place : (e : v .kind ≡ 3) (o : ViewOf b v) → base + offsetAt b v (j * v .step + i) ≡ place b (j * v .step + i)
-  found-place e o = rw (g .at-base .is) (sums e o i (g .found .within (g .full)))
+    low : getD ls (j * v .step + i) 0 ≤ p
+    low =
+        let w = rank-within in
+        at-most _ _ _ _ _ (two-levels b v ls h) p j (firsts-some (h .counted) (omega arith)) (g .at-base .last) n i _ (rw (g .at-base .is) at (g .least)) (g .lesser)
+        (g .full) sums (rw (g .at-base .is) at (g .found))
 
-  pub rank-here : offsetAt b v (j * v .step + i) ≡ p - base → KindRankSearched 3 b v p (given (j * v .step + i))
-  rank-here h =
+    high : (x : ℕ) → j * v .step + i < x → x < v .words → p < getD ls x 0
+    high =
+        let w = rank-within in
+        above _ _ _ _ _ (two-levels b v ls h) p j (firsts-some (h .counted) (omega arith)) (g .at-base .last) n i _ (rw (g .at-base .is) at (g .least)) (g .lesser)
+        (g .full) sums (rw (g .at-base .is) at (g .found))
+
+  pub find-here : entryOf b v (j * v .step + i) ≡ p - base → FoundIn (kind v) b v p (record { below = j * v .step + i; here = true })
+  find-here e =
       record {
-        right = λ e o.
-            let y = found-place e o in
-            let z = g .start in
+        right = λ ls h.
+            let z = h .size in
+            let w = rank-within in
             let l = g .least in
-            rank-found (place b) (positionsOf b) (v .words) 0 (v .cells) (positions-size b v o) (λ _ _. refl) (positions-rising b v o) p
-            (j * v .step + i) (omega arith) (found-last e o) (omega arith)
-            ∙ sym (rank-inside b v o p (g .at-base .inside));
-        free = number (j * v .step + i) rank-within;
+            let y = found-place ls h in
+            found-here (v .cells) p ls (h .rising) (j * v .step + i) (omega arith) (omega arith) _ refl refl;
+        free = λ z. rank-within;
       }
 
-  pub rank-absent : (offsetAt b v (j * v .step + i) ≡ p - base → ⊥) → KindRankSearched 3 b v p empty
-  rank-absent h =
+  pub find-absent : (entryOf b v (j * v .step + i) ≡ p - base → ⊥) → FoundIn (kind v) b v p (record { below = j * v .step + i + 1; here = false })
+  find-absent e =
       record {
-        right = λ e o.
-            let y = found-place e o in
-            let z = g .start in
-            rank-missed (place b) (positionsOf b) (v .words) 0 (v .cells) (positions-size b v o) (λ _ _. refl) (positions-rising b v o) p
-            (j * v .step + i) (omega arith) (found-last e o) (λ q. h (omega arith))
-            ∙ sym (rank-inside b v o p (g .at-base .inside));
-        free = none;
+        right = λ ls h.
+            let z = h .size in
+            let w = rank-within in
+            let d : j * v .step + i + 1 - 1 ≡ j * v .step + i = omega arith in
+            found-gap (v .cells) p ls (h .rising) (j * v .step + i + 1) (omega arith)
+            (λ y. rw d (let m = low ls h in let q = found-place ls h in lt-of m (λ x. e (omega arith))))
+            (λ y. high ls h (j * v .step + i + 1) (omega arith) (omega arith)) _ refl refl;
+        free = λ z. absurd (never z);
       }
+    where
+      lt-of : {x y : ℕ} → x ≤ y → (x ≡ y → ⊥) → x < y
+      lt-of m n = omega arith
 
-module _ (b : List ℕ) (v : View) (r : ℕ) (inside : r < v .words) where
-  -- not in an accepted file
-  pub step-forged : v .step ≡ 0 → KindPositionSearched 3 b v r (refused 8)
-  step-forged h = record { right = λ e o. let l = know b v e o .step-least in absurd (omega arith); free = beyond }
+-- the sum of base and offset, or any number where the step is 0
+pub position-sum : (b : List ℕ) (v : View) (r q : ℕ) → q ≡ baseAt b v (r / v .step) + entryOf b v r → PositionIn (kind v) b v r q
+position-sum b v r q e = record { right = λ ls h g. e ∙ rank-sum b v ls h r g }
 
-  module _ {p : ℕ} (is : p ≡ baseAt b (r / v .step) + offsetAt b v r) where
-    pub position-here : p < v .cells → KindPositionSearched 3 b v r (given p)
-    position-here h =
-        record {
-          right = λ e o. ap given (is ∙ rank-sum b v e o r inside) ∙ sym (position-inside b v o r inside);
-          free = number p h;
-        }
-
-    pub position-forged : v .cells ≤ p → KindPositionSearched 3 b v r (refused 8)
-    position-forged h =
-        record {
-          right = λ e o.
-              let s = positions-size b v o in
-              let t = rising-below 0 (v .cells) (positionsOf b) r (positions-rising b v o) (omega arith) in
-              let u = rank-sum b v e o r inside in
-              absurd (omega arith);
-          free = beyond;
-        }
+pub position-forged : (b : List ℕ) (v : View) (r q : ℕ) → v .step ≡ 0 → PositionIn (kind v) b v r q
+position-forged b v r q z = record { right = λ ls h g. let s = held b v ls h .rule .step-least in absurd (omega arith) }

@@ -1,4 +1,4 @@
--- The check of kind 3 along the groups: its start, one turn, and its end. Assumes nothing.
+-- The check along the groups: its start, one turn, and its end. Assumes nothing.
 use Prim.Native.Nat.{ℕ, _+_, _-_, _*_, _≤_, _<_}
 use mathlib.Core.Path.{_≡_, refl, sym, ap, _∙_}
 use mathlib.Core.Bool.{true, false}
@@ -13,15 +13,14 @@ use Rattle.format.specs.Tools.{Below, both, upTo}
 use Rattle.format.specs.Bytes.{field, numbersOf}
 use Rattle.laws.proofs.Check.{length-numbersOf}
 use Rattle.wire.specs.Wire.{entrySize}
-use Rattle.header.specs.View.{secondPlace}
-use Rattle.header.specs.Body.{partsRight}
+use Rattle.parts.specs.Holds.{Counted, partsRight}
 use Rattle.laws.proofs.Numbers.{numbers-turn, numbers-end}
 use Rattle.base_offset.specs.Group.{falls, groupEnds, endsRight, endsOf}
 use Rattle.base_offset.proofs.RankByRank.{ranksRight}
 use Rattle.base_offset.proofs.Groups.{groups-ranks}
 use Rattle.base_offset.proofs.Falls.{count-next, count-some, count-left, groups-ends}
 use Rattle.base_offset.proofs.Pieces.{take-numbers, drop-numbers}
-use Rattle.base_offset.proofs.Known.{Known, basesOf, offsetsOf}
+use Rattle.base_offset.proofs.Known.{kind, Known, known, basesOf, offsetsOf}
 use Rattle.base_offset.proofs.PartsRight.{bases-count, ranks-are}
 
 -- ---- before a turn: the group of `base` is next, with `more` groups after it and `left` ranks in all
@@ -32,39 +31,42 @@ pub record Turn (b : List ℕ) (v : View) (base place at left more : ℕ) : Type
   pub count : more + 1 ≡ upTo left (v .step)
   pub rest : endsRight (v .step) (v .cells) base (numbersOf 4 more (drop place b)) (numbersOf (entrySize (v .width)) left (drop at b)) ≡ endsOf b v
 
-module _ {b : List ℕ} {v : View} (k : Known b v) where
-  pub no-ranks : Below 256 b → v .words ≡ 0 → true ≡ partsRight b
+module _ {b : List ℕ} {v : View} (c : Counted (kind v) b v) where
+  k : Known b v
+  k = known b v c
+
+  pub no-ranks : Below 256 b → v .words ≡ 0 → true ≡ partsRight (kind v) b v
   unfolding ranksRight
   no-ranks s z =
-      let e : offsetsOf b v ≡ [] = numbers-end (entrySize (v .width)) (v .words) (drop (secondPlace v) b) (omega arith) in
-      let t : ranksRight (v .step) 0 0 0 (v .cells) (basesOf b v) [] ≡ partsRight b = rw e at (ranks-are b v k s) in
+      let e : offsetsOf b v ≡ [] = numbers-end (entrySize (v .width)) (v .words) (drop (v .second) b) (omega arith) in
+      let t : ranksRight (v .step) 0 0 0 (v .cells) (basesOf b v) [] ≡ partsRight (kind v) b v = rw e at (ranks-are b v c s) in
       sym (le-leb 0 (v .cells) (omega arith)) ∙ t
 
   pub firsts-some : 0 < v .words → 0 < v .firsts
-  firsts-some h = rw (k .bases) (count-some (v .step) (v .words) (k .step-least) h)
+  firsts-some h = rw (k .bases) (count-some (v .step) (v .words) (k .rule .step-least) h)
 
-  parts-ends : Below 256 b → 0 < v .words → both (eqb (falls (offsetsOf b v)) (v .firsts - 1)) (endsOf b v) ≡ partsRight b
+  parts-ends : Below 256 b → 0 < v .words → both (eqb (falls (offsetsOf b v)) (v .firsts - 1)) (endsOf b v) ≡ partsRight (kind v) b v
   unfolding endsOf
   parts-ends s h =
       let f = firsts-some h in
-      let bs = numbersOf 4 (v .firsts - 1) (drop 56 b) in
-      let n : basesOf b v ≡ field 4 52 b ∷ bs = numbers-turn 4 (v .firsts) 52 b f in
-      let z : length (offsetsOf b v) ≡ v .words = length-numbersOf (entrySize (v .width)) (v .words) (drop (secondPlace v) b) in
-      let y : length bs ≡ v .firsts - 1 = length-numbersOf 4 (v .firsts - 1) (drop 56 b) in
-      let c : length (field 4 52 b ∷ bs) ≡ upTo (length (offsetsOf b v)) (v .step) = ap length (sym n) ∙ bases-count b v k in
+      let bs = numbersOf 4 (v .firsts - 1) (drop (v .start + 4) b) in
+      let n : basesOf b v ≡ field 4 (v .start) b ∷ bs = numbers-turn 4 (v .firsts) (v .start) b f in
+      let z : length (offsetsOf b v) ≡ v .words = length-numbersOf (entrySize (v .width)) (v .words) (drop (v .second) b) in
+      let y : length bs ≡ v .firsts - 1 = length-numbersOf 4 (v .firsts - 1) (drop (v .start + 4) b) in
+      let n2 : length (field 4 (v .start) b ∷ bs) ≡ upTo (length (offsetsOf b v)) (v .step) = ap length (sym n) ∙ bases-count b v c in
       ap (λ (x : ℕ). both (eqb (falls (offsetsOf b v)) x) (endsOf b v)) (sym y)
-      ∙ groups-ends (v .step) (v .cells) (field 4 52 b) bs (offsetsOf b v) (k .step-least) (omega arith)
-      ∙ groups-ranks (v .step) (v .cells) (field 4 52 b) bs (offsetsOf b v) (k .step-least) (omega arith) c
+      ∙ groups-ends (v .step) (v .cells) (field 4 (v .start) b) bs (offsetsOf b v) (k .rule .step-least) (omega arith)
+      ∙ groups-ranks (v .step) (v .cells) (field 4 (v .start) b) bs (offsetsOf b v) (k .rule .step-least) (omega arith) n2
       ∙ ap (λ (x : List ℕ). ranksRight (v .step) 0 0 0 (v .cells) x (offsetsOf b v)) (sym n)
-      ∙ ranks-are b v k s
+      ∙ ranks-are b v c s
 
-  pub falls-other : Below 256 b → 0 < v .words → (falls (offsetsOf b v) ≡ v .firsts - 1 → ⊥) → false ≡ partsRight b
+  pub falls-other : Below 256 b → 0 < v .words → (falls (offsetsOf b v) ≡ v .firsts - 1 → ⊥) → false ≡ partsRight (kind v) b v
   falls-other s h n = rw (ne-eqb (falls (offsetsOf b v)) (v .firsts - 1) n) at (parts-ends s h)
 
-  pub falls-same : Below 256 b → 0 < v .words → falls (offsetsOf b v) ≡ v .firsts - 1 → endsOf b v ≡ partsRight b
+  pub falls-same : Below 256 b → 0 < v .words → falls (offsetsOf b v) ≡ v .firsts - 1 → endsOf b v ≡ partsRight (kind v) b v
   falls-same s h e = rw (eq-eqb (falls (offsetsOf b v)) (v .firsts - 1) e) at (parts-ends s h)
 
-  pub turn-start : 0 < v .words → Turn b v (field 4 52 b) 56 (secondPlace v) (v .words) (v .firsts - 1)
+  pub turn-start : 0 < v .words → Turn b v (field 4 (v .start) b) (v .start + 4) (v .second) (v .words) (v .firsts - 1)
   turn-start h =
       let f = firsts-some h in
       let t = k .there in
@@ -78,7 +80,7 @@ module _ {b : List ℕ} {v : View} (k : Known b v) where
 
   module _ {base place at left more : ℕ} (t : Turn b v base place at left more) where
     pub some-left : 1 ≤ left
-    some-left = count-left (v .step) left more (k .step-least) (t .count)
+    some-left = count-left (v .step) left more (k .rule .step-least) (t .count)
 
     pub turn-end : more ≤ 0 → groupEnds base (v .cells) (numbersOf (entrySize (v .width)) left (drop at b)) ≡ endsOf b v
     unfolding endsRight
@@ -86,7 +88,7 @@ module _ {b : List ℕ} {v : View} (k : Known b v) where
 
     module _ (next : ℕ) (h : 0 < more) (e : next ≡ field 4 place b) where
       pub whole-group : v .step < left
-      whole-group = count-next (v .step) left more (k .step-least) h (t .count) .0
+      whole-group = count-next (v .step) left more (k .rule .step-least) h (t .count) .0
 
       pub group-there : at + entrySize (v .width) * v .step ≤ length b
       group-there =
@@ -127,6 +129,6 @@ module _ {b : List ℕ} {v : View} (k : Known b v) where
           record {
             bases = omega arith;
             ranks = omega arith;
-            count = count-next (v .step) left more (k .step-least) h (t .count) .1;
+            count = count-next (v .step) left more (k .rule .step-least) h (t .count) .1;
             rest = rw f at parted;
           }

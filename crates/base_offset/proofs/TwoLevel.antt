@@ -1,14 +1,13 @@
 -- A search in two levels: the last base that is at most p, then the last such offset of its group, find the last such position. Assumes nothing.
-use Prim.Native.Nat.{ℕ, suc, _+_, _-_, _*_, _≤_, _<_}
+use Prim.Native.Nat.{ℕ, suc, _+_, _-_, _*_, _≤_, _<_, min}
 use mathlib.Core.Path.{_≡_, sym, ap, _∙_}
 use mathlib.Core.Logic.{⊎-elim}
-use native.Mathlib.Nat.{suc-mul, zero-mul, mul-lt-mul-of-pos-right, eq-or-lt-of-le}
+use native.Mathlib.Nat.{suc-mul, zero-mul, mul-lt-mul-of-pos-right, eq-or-lt-of-le, min-le-right, le-min}
 use native.Mathlib.Omega.{arith}
 use lib.Dec.{ltb, eqb}
 use borrow.Author.Tests.{ltb-true, ltb-false, eqb-true, eqb-false}
 use Rattle.laws.proofs.Tools.{cases}
-use Rattle.positions.specs.Last.{Ascending, LastAtMost}
-use Rattle.base_offset.specs.Offset.{LesserOf}
+use Rattle.parts.specs.Last.{Ascending, LastAtMost}
 
 -- N rising numbers, of which every l-th is one of m bases
 pub record Bases (L : ℕ → ℕ) (N l : ℕ) (base : ℕ → ℕ) (m : ℕ) : Type 0 where
@@ -36,26 +35,17 @@ module _ (L : ℕ → ℕ) (N l : ℕ) (base : ℕ → ℕ) (m : ℕ) (s : Bases
         let g : p < base 0 = rw z at h in
         omega arith
 
-    pub first-last : p < base j → LastAtMost L N p 0
-    first-last h =
-        let z = below-first h in
-        record {
-          within = λ y. y;
-          low = λ y. absurd (omega arith);
-          high = λ a k y g. let q = s .rise 0 k y g in omega arith;
-        }
-
-    module _ (n i : ℕ) (offset : ℕ → ℕ) (least : base j ≤ p) (lesser : LesserOf l (N - j * l) n) (full : 0 < n)
+    module _ (n i : ℕ) (offset : ℕ → ℕ) (least : base j ≤ p) (lesser : n ≡ min l (N - j * l)) (full : 0 < n)
         (sum : (x : ℕ) → x < n → base j + offset x ≡ L (j * l + x)) (found : LastAtMost offset n (p - base j) i) where
       offsets-rise : Ascending offset n
       offsets-rise x y h g =
           let a = sum x (omega arith) in
           let c = sum y g in
-          let r = lesser .second in
+          let r = min-le-right l (N - j * l) in
           let q = s .rise (j * l + x) (j * l + y) (omega arith) (omega arith) in
           omega arith
 
-      at-most : L (j * l + i) ≤ p
+      pub at-most : L (j * l + i) ≤ p
       at-most =
           let a = sum i (found .within full) in
           cases (eqb i 0)
@@ -64,12 +54,13 @@ module _ (L : ℕ → ℕ) (N l : ℕ) (base : ℕ → ℕ) (m : ℕ) (s : Bases
           omega arith)
           (λ t. let z = eqb-false i 0 t in let y = found .low (omega arith) in omega arith)
 
-      above : (k : ℕ) → j * l + i < k → k < N → p < L k
+      pub above : (k : ℕ) → j * l + i < k → k < N → p < L k
       above k h g =
           cases (ltb k (j * l + l))
           (λ t.
           let z = ltb-true k (j * l + l) t in
-          let y = lesser .all (k - j * l) (omega arith) (omega arith) in
+          let m : suc (k - j * l) ≤ min l (N - j * l) = le-min (omega arith) (omega arith) in
+          let y : k - j * l < n = omega arith in
           let q = found .high offsets-rise (k - j * l) (omega arith) y in
           let e : j * l + (k - j * l) ≡ k = omega arith in
           let a : base j + offset (k - j * l) ≡ L k = sum (k - j * l) y ∙ ap L e in
@@ -82,13 +73,3 @@ module _ (L : ℕ → ℕ) (N l : ℕ) (base : ℕ → ℕ) (m : ℕ) (s : Bases
           let c = s .value (suc j) x in
           let a = not-above (suc j * l) k (omega arith) g in
           omega arith)
-
-      pub both-last : LastAtMost L N p (j * l + i)
-      both-last =
-          let w = found .within full in
-          let r = lesser .second in
-          record {
-            within = λ y. omega arith;
-            low = λ y. at-most;
-            high = λ a k h g. above k h g;
-          }

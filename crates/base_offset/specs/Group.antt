@@ -1,4 +1,4 @@
--- Kind 3, a group: a base and the offsets of the ranks that it serves. Assumes nothing.
+-- A group: a base and the offsets of the ranks that it serves. Assumes nothing.
 use Prim.Native.Nat.{ℕ, _+_, _-_}
 use mathlib.Core.Bool.{Bool, true, false}
 use mathlib.Core.List.{List, [], _∷_}
@@ -8,12 +8,6 @@ use Rattle.format.specs.declared.View.{View}
 use Rattle.format.specs.Tools.{both, first, others}
 use Rattle.format.specs.Bytes.{field, numbersOf}
 use Rattle.wire.specs.Wire.{entrySize}
-use Rattle.header.specs.View.{secondPlace}
-use Rattle.header.specs.Body.{rises}
-
--- the offset of the base's own rank is 0, and the positions rise below `next`
-unfoldable pub groupRight : ℕ → ℕ → List ℕ → Bool
-groupRight base next os = both (eqb (first os) 0) (rises 0 (next - base) os)
 
 -- 0 where a test of a rise holds, and 1 where it fails
 unfoldable pub fallen : Bool → ℕ
@@ -45,4 +39,5 @@ endsRight l bound base (next ∷ bs) os = both (groupEnds base next (take l os))
 -- the groups of a view with words, by their ends
 unfoldable pub endsOf : List ℕ → View → Bool
 endsOf b v =
-    endsRight (v .step) (v .cells) (field 4 52 b) (numbersOf 4 (v .firsts - 1) (drop 56 b)) (numbersOf (entrySize (v .width)) (v .words) (drop (secondPlace v) b))
+    endsRight (v .step) (v .cells) (field 4 (v .start) b) (numbersOf 4 (v .firsts - 1) (drop (v .start + 4) b))
+    (numbersOf (entrySize (v .width)) (v .words) (drop (v .second) b))

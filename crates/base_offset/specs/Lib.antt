@@ -1,2 +1,3 @@
 pub mod Group
-pub mod Offset
+pub mod Steps
+pub mod Coding

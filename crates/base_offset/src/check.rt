@@ -1,7 +1,7 @@
 // The check of the two parts, group by group: a base of 4 bytes, and the offsets of the ranks that it serves.
 use format::View;
-use header::places::second_at;
 use wire::entry_size;
+use wire::get_entry;
 use wire::get_u8;
 use wire::get_u16;
 use wire::get_u32;
@@ -9,23 +9,11 @@ ghost use mathlib.Core.Path.{_≡_};
 ghost use Prim.Native.Nat.{_+_, _*_, _≤_, _<_};
 ghost use lib.ListN.{length, drop};
 ghost use lib.Dec.{ltb};
-ghost use Rattle.format.specs.Bytes.{field, numbersOf};
+ghost use Rattle.format.specs.Bytes.{numbersOf};
+ghost use Rattle.format.specs.BaseOffset.{basedKind};
 ghost use Rattle.wire.specs.Wire.{entrySize};
-ghost use Rattle.header.specs.Body.{partsRight};
-ghost use Rattle.header.specs.Search.{HeaderView};
+ghost use Rattle.parts.specs.Holds.{Counted, partsRight};
 ghost use Rattle.base_offset.specs.Group.{fallen, falls, groupEnds, endsOf};
-
-// An entry of the widths 1 and 2; 0 for any other.
-fn get_entry(file: &[u8], at: usize, width: u32) -> u32
-    requires { ⌜ at + entrySize width ≤ length (now file) ⌝ }
-    ensures { λ r. ⌜ (r ≡ field (entrySize width) at (now (file .entry))) × (r < 65536) ⌝ }
-{
-    match width {
-        1 => get_u8(file, at),
-        2 => get_u16(file, at),
-        _ => 0,
-    }
-}
 
 // 1 where y is not above x.
 fn fall(x: u32, y: u32) -> u32
@@ -99,13 +87,14 @@ fn ends_right(file: &[u8], at: usize, width: u32, n: u32, base: u32, next: u32) 
 
 // The groups of a view with words, each by its ends. The last group's positions are below cells.
 fn groups_right(file: &[u8], v: View) -> bool
-    requires { ⌜ (HeaderView 3 (now file) v) × (0 < v .words) ⌝ }
+    requires { ⌜ (Counted (basedKind (v .width) (v .step)) (now file) v) × (0 < v .words) ⌝ }
     ensures { λ r. ⌜ r ≡ endsOf (now (file .entry)) v ⌝ }
 {
     let stride = entry_size(v.width) * v.step as usize;
-    let mut base = get_u32(file, 52);
-    let mut place = 56;
-    let mut at = second_at(v);
+    let start = v.start as usize;
+    let mut base = get_u32(file, start);
+    let mut place = start + 4;
+    let mut at = v.second as usize;
     let mut left = v.words;
     let mut more = v.firsts - 1;
     while 0 < more {
@@ -125,13 +114,13 @@ fn groups_right(file: &[u8], v: View) -> bool
 // The parts are those of rising positions below cells, as many as the words: every group has its ends right, and the offsets fall
 // from group to group alone. At a group's start they always fall, as its first offset is 0.
 pub fn parts_right(file: &[u8], v: View) -> bool
-    requires { ⌜ HeaderView 3 (now file) v ⌝ }
-    ensures { λ r. ⌜ r ≡ partsRight (now (file .entry)) ⌝ }
+    requires { ⌜ Counted (basedKind (v .width) (v .step)) (now file) v ⌝ }
+    ensures { λ r. ⌜ r ≡ partsRight (basedKind (v .width) (v .step)) (now (file .entry)) v ⌝ }
 {
     if v.words == 0 {
         return true;
     }
-    if count_falls(file, second_at(v), v.width, v.words) != v.firsts - 1 {
+    if count_falls(file, v.second as usize, v.width, v.words) != v.firsts - 1 {
         return false;
     }
     groups_right(file, v)

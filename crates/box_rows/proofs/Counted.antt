@@ -1,7 +1,7 @@
 -- The cells of a box counted one dimension at a time. Assumes nothing.
 use Prim.Native.Nat.{ℕ, zero, suc, _+_, _-_, _*_, _≤_, _<_}
 use mathlib.Core.Path.{_≡_, refl, sym, ap, _∙_}
-use mathlib.Core.Bool.{Bool, true, false}
+use mathlib.Core.Bool.{true}
 use mathlib.Core.List.{List, [], _∷_, _++_}
 use native.Mathlib.Nat.{add-zero, zero-add, mul-one, one-mul, mul-assoc, mul-le-mul, mul-le-mul-left, one-le-mul, le-mul-of-pos-right, le-refl}
 use native.Mathlib.Numerals.{add-one}
@@ -14,7 +14,7 @@ use Rattle.format.specs.declared.Dimensions.{Dimensions}
 use Rattle.format.specs.Tools.{pick, both, first, others, range, joined}
 use Rattle.format.specs.Picture.{product, cells, insideExtents, inside}
 use Rattle.format.specs.Box.{ordered, boxAllowed, boxFrom}
-use Rattle.laws.proofs.Tools.{cases, both-true}
+use Rattle.laws.proofs.Tools.{cases, both-true, both-false, length-range}
 use Rattle.header.proofs.RowOrder.{rest-least}
 use Rattle.box_rows.specs.Bounds.{bounded, boxCount}
 
@@ -23,10 +23,6 @@ use Rattle.box_rows.specs.Bounds.{bounded, boxCount}
 -- the product n, continued over the widths; 0 where a bound fails
 abbrev pub counted : ℕ → List ℕ → List ℕ → List ℕ → ℕ
 counted n es low high = pick (bounded es low high) (n * boxCount es low high) 0
-
-both-false : (a : Bool) → both a false ≡ false
-both-false true = refl
-both-false false = refl
 
 -- low is inside its extent where high is, and is not above it
 allowed-bounded : (es low high : List ℕ) → both (insideExtents es low) (both (insideExtents es high) (ordered es low high)) ≡ bounded es low high
@@ -112,11 +108,6 @@ pub count-all : (d : Dimensions) (low high : List ℕ) → length low ≡ 4 → 
 count-all d low high l h = rw (allowed-as d low high l h, one-mul (boxCount (d .extents) low high))
 
 -- ---- as many as the positions of the box
-
-pub length-range : (a n : ℕ) → length (range a n) ≡ n
-unfolding range
-length-range a zero = refl
-length-range a (suc n) = ap suc (length-range (suc a) n)
 
 pub range-append : (a m n : ℕ) → range a (m + n) ≡ range a m ++ range (a + m) n
 unfolding range

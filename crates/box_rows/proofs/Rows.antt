@@ -18,19 +18,21 @@ use Rattle.format.specs.Tools.{range, first}
 use Rattle.format.specs.Answers.{Answer, empty, given, valuesOf, rankSays}
 use Rattle.format.specs.Accepted.{wordsOf}
 use Rattle.format.specs.Lookups.{cellIn}
+use Rattle.laws.proofs.Tools.{length-range}
 use Rattle.stores.specs.Put.{put}
 use Rattle.stores.proofs.Laws.{put-append, put-fits, length-put}
 use Rattle.wire.specs.Wire.{whole}
-use Rattle.header.specs.View.{wordsPlace}
-use Rattle.header.specs.Search.{ViewOf, RankSearched}
+use Rattle.parts.specs.declared.Cursor.{Cursor}
+use Rattle.parts.specs.Holds.{ViewOf}
+use Rattle.parts.proofs.Seen.{seen}
+use Rattle.search.specs.Searched.{RankSearched}
 use Rattle.search.proofs.Cells.{cellBy, cell-searched}
 use Rattle.scatter.proofs.Blank.{range-filled}
-use Rattle.cursor.specs.declared.Cursor.{Cursor}
 use Rattle.box_rows.specs.declared.Filled.{Filled}
 use Rattle.box_rows.specs.Ready.{Ready, Reached}
 use Rattle.box_rows.specs.Filling.{wordsOn, RowFilled}
-use Rattle.box_rows.proofs.Resumed.{ready-later, length-words, sought-here, sought-empty}
-use Rattle.box_rows.proofs.Counted.{length-range, range-append}
+use Rattle.box_rows.proofs.Resumed.{ready-later, sought-here, sought-empty}
+use Rattle.box_rows.proofs.Counted.{range-append}
 use Rattle.box_rows.proofs.Turns.{words-append, length-words-on}
 
 -- ---- the word of a cell, by the answer of the search
@@ -38,10 +40,10 @@ use Rattle.box_rows.proofs.Turns.{words-append, length-words-on}
 module _ (b : List ℕ) (v : View) (o : ViewOf b v) (p : ℕ) (k : p < v .cells) where
   cell-is : (a : Answer) → RankSearched b v p a → cellBy b v a ≡ given (getD (wordsOf b) p 0)
   unfolding cellIn
-  cell-is a s = cell-searched b v p a s .right o ∙ rw (lt-ltb p (length (wordsOf b)) (rw (length-words b v o) k))
+  cell-is a s = cell-searched b v p a s .right o ∙ rw (lt-ltb p (length (wordsOf b)) (rw (seen b v o .words-size) k))
 
   pub word-stored : (a : RankAnswer) (r : Rank) → a ≡ ra.Rank r → RankSearched b v p (rankSays a)
-      → whole 4 (wordsPlace v + 4 * r .0) b ≡ getD (wordsOf b) p 0
+      → whole 4 (v .place + 4 * r .0) b ≡ getD (wordsOf b) p 0
   word-stored a r e s = ap (λ (x : Answer). first (valuesOf x)) (cell-is (given (r .0)) (rw e at s))
 
   word-none : RankSearched b v p empty → v .empty ≡ getD (wordsOf b) p 0

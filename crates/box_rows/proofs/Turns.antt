@@ -15,15 +15,15 @@ use Rattle.format.specs.Tools.{first, others, range, joined}
 use Rattle.format.specs.Picture.{product}
 use Rattle.format.specs.Accepted.{wordsOf}
 use Rattle.format.specs.Box.{boxFrom}
-use Rattle.laws.proofs.Tools.{both-true}
+use Rattle.laws.proofs.Tools.{both-true, length-range}
 use Rattle.stores.specs.Put.{put}
 use Rattle.stores.proofs.Laws.{put-append, length-put}
 use Rattle.box_rows.specs.declared.Filled.{Filled}
 use Rattle.box_rows.specs.Bounds.{bounded}
 use Rattle.box_rows.specs.Ready.{Ready}
 use Rattle.box_rows.specs.Filling.{wordsOn, RowGoes, RowFilled, BoxGoes, BoxFilled}
-use Rattle.box_rows.proofs.Resumed.{cells-few, ready-later}
-use Rattle.box_rows.proofs.Counted.{length-range}
+use Rattle.parts.proofs.Seen.{seen}
+use Rattle.box_rows.proofs.Resumed.{ready-later}
 
 -- ---- lists
 
@@ -98,7 +98,7 @@ module _ (b : List ℕ) (v : View) (e : ℕ) (es : List ℕ) (l : ℕ) (low : Li
       let w = within a k in
       let n = g .inside in
       let m = le-mul-of-pos-right (suc (p * e + a)) (product-bounded es low high later) in
-      let f = cells-few b v (g .view) in
+      let f = seen b v (g .view) .header .counted .cells-most in
       omega arith
 
 -- ---- the last dimension

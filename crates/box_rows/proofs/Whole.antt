@@ -13,16 +13,17 @@ use Rattle.format.specs.Accepted.{dimensionsOf}
 use Rattle.format.specs.Box.{boxAllowed, boxFrom, boxPositions, boxWords}
 use Rattle.stores.specs.Put.{put}
 use Rattle.stores.proofs.Laws.{put-front}
-use Rattle.header.specs.Search.{ViewOf}
-use Rattle.cursor.specs.declared.Cursor.{Cursor}
-use Rattle.cursor.specs.Cursor.{startOf}
+use Rattle.parts.specs.Holds.{ViewOf}
+use Rattle.parts.proofs.Seen.{seen}
+use Rattle.parts.specs.declared.Cursor.{Cursor}
+use Rattle.kinds.specs.Steps.{startOf}
 use Rattle.box_rows.specs.declared.Filled.{Filled}
 use Rattle.box_rows.specs.declared.region.Region.{Region}
 use Rattle.box_rows.specs.Bounds.{boxCount}
 use Rattle.box_rows.specs.Filling.{wordsOn, BoxGoes, BoxFilled}
 use Rattle.box_rows.specs.Region.{Placed, SameCells}
 use Rattle.box_rows.proofs.Counted.{allowed-as, length-box}
-use Rattle.box_rows.proofs.Resumed.{cells-seen, cells-few, ready-start}
+use Rattle.box_rows.proofs.Resumed.{ready-start}
 use Rattle.box_rows.proofs.Turns.{length-words-on}
 
 module _ (b : List ℕ) (v : View) (d : Dimensions) (low high : List ℕ) (o : ViewOf b v) (e : d ≡ dimensionsOf b) where
@@ -31,10 +32,10 @@ module _ (b : List ℕ) (v : View) (d : Dimensions) (low high : List ℕ) (o : V
 
   cells-all : product (d .extents) ≡ v .cells
   unfolding cells
-  cells-all = ap cells e ∙ sym (cells-seen b v o)
+  cells-all = ap cells e ∙ sym (seen b v o .header .cells)
 
   pub box-placed : length low ≡ 4 → length high ≡ 4 → boxAllowed d low high ≡ true → Placed region
-  box-placed l h a = record { bounds = sym (allowed-as d low high l h) ∙ a; few = rw cells-all (cells-few b v o) }
+  box-placed l h a = record { bounds = sym (allowed-as d low high l h) ∙ a; few = rw cells-all (seen b v o .header .counted .cells-most) }
 
   pub box-goes : (r : Region) → SameCells region r → (c : Cursor) (room : ℕ) → c ≡ startOf b v → boxCount (d .extents) low high ≤ room
       → BoxGoes b v (r .extents) (r .low) (r .high) 0 (record { cursor = c; words = 0 }) room

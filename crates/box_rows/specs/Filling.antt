@@ -10,7 +10,7 @@ use Rattle.format.specs.Picture.{product}
 use Rattle.format.specs.Accepted.{wordsOf}
 use Rattle.format.specs.Box.{boxFrom}
 use Rattle.stores.specs.Put.{put}
-use Rattle.header.specs.Search.{ViewOf}
+use Rattle.parts.specs.Holds.{ViewOf}
 use Rattle.box_rows.specs.declared.Filled.{Filled}
 use Rattle.box_rows.specs.Bounds.{bounded}
 use Rattle.box_rows.specs.Ready.{Ready}

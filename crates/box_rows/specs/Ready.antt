@@ -1,20 +1,21 @@
 -- A cursor from which the positions from p on can be sought. Assumes nothing.
 use Prim.Native.Nat.{ℕ, _-_, _≤_, _<_}
 use mathlib.Core.Path.{_≡_}
+use mathlib.Core.Bool.{true}
 use mathlib.Core.List.{List}
 use lib.ListN.{getD, take, drop}
 use Rattle.format.specs.declared.View.{View}
 use Rattle.format.specs.Tools.{Below}
-use Rattle.format.specs.Accepted.{wordsCount, positionsOf}
-use Rattle.cursor.specs.declared.Cursor.{Cursor}
-use Rattle.cursor.specs.Cursor.{walked}
+use Rattle.format.specs.Accepted.{positionsOf}
+use Rattle.parts.specs.declared.Cursor.{Cursor}
+use Rattle.kinds.specs.Steps.{walked, byWalk}
 use Rattle.box_rows.specs.declared.seek.Gap.{Gap}
 
--- it stands at the position of its rank, and the ranks before are below p; in kind 4 it can walk on
+-- it stands at the position of its rank, and the ranks before are below p; in a kind that is sought by a walk it can walk on
 pub record Ready (b : List ℕ) (v : View) (c : Cursor) (p : ℕ) : Type 0 where
-  pub rank : c .rank ≤ wordsCount b
-  pub at : c .rank < wordsCount b → c .at ≡ getD (positionsOf b) (c .rank) 0
-  pub ahead : v .kind ≡ 4 → walked b v c (wordsCount b - c .rank) ≡ drop (c .rank) (positionsOf b)
+  pub rank : c .rank ≤ v .words
+  pub at : c .rank < v .words → c .at ≡ getD (positionsOf b) (c .rank) 0
+  pub ahead : byWalk (v .kind) ≡ true → walked b v c (v .words - c .rank) ≡ drop (c .rank) (positionsOf b)
   pub passed : Below p (take (c .rank) (positionsOf b))
 
 -- it stands at the first rank from p on, or past the last

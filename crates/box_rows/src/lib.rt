@@ -4,13 +4,14 @@ pub mod region;
 pub mod resume;
 pub mod seek;
 
-use cursor::Cursor;
-use cursor::start;
+use format::Coordinates;
+use format::DIMS;
 use format::Dimensions;
 use format::Position;
 use format::RankAnswer;
 use format::View;
-use header::places::words_at;
+use kinds::steps::start;
+use parts::Cursor;
 use region::Region;
 use region::long_rows;
 use resume::empty_ahead;
@@ -25,7 +26,7 @@ ghost use Rattle.format.specs.Answers.{leaves};
 ghost use Rattle.format.specs.Accepted.{dimensionsOf};
 ghost use Rattle.format.specs.Box.{boxAllowed, boxWords};
 ghost use Rattle.stores.specs.Put.{put};
-ghost use Rattle.header.specs.Search.{ViewOf};
+ghost use Rattle.parts.specs.Holds.{ViewOf};
 ghost use Rattle.box_rows.specs.Bounds.{boxCount};
 ghost use Rattle.box_rows.specs.Filling.{RowGoes, RowFilled, BoxGoes, BoxFilled};
 
@@ -49,7 +50,7 @@ fn put_row(file: &[u8], v: View, s: Filled, from: u32, n: u32, dst: &mut [u32]) 
     requires { ⌜ RowGoes (now file) v s from n (length (now dst)) ⌝ }
     ensures { λ r. ⌜ RowFilled (now (file .entry)) v s from n (now (dst .entry)) r (now (dst .exit)) ⌝ }
 {
-    let words = words_at(v);
+    let words = v.place as usize;
     let mut c = s.cursor;
     let mut p = from;
     let mut k = s.words;
@@ -79,9 +80,9 @@ fn put_row(file: &[u8], v: View, s: Filled, from: u32, n: u32, dst: &mut [u32]) 
 fn put_from(
     file: &[u8],
     v: View,
-    extents: [u32; 4],
-    low: [u32; 4],
-    high: [u32; 4],
+    extents: Coordinates,
+    low: Coordinates,
+    high: Coordinates,
     i: usize,
     p: u32,
     mut s: Filled,
@@ -93,7 +94,7 @@ fn put_from(
     let before = p * extents[i];
     let mut a = low[i];
     let last = high[i];
-    if i == 3 {
+    if i + 1 == DIMS {
         return put_row(file, v, s, before + a, last - a + 1, dst);
     }
     while a <= last {
@@ -104,7 +105,14 @@ fn put_from(
 }
 
 // The words of an allowed box into the destination's first elements.
-pub fn put_box(file: &[u8], v: View, d: Dimensions, low: [u32; 4], high: [u32; 4], dst: &mut [u32])
+pub fn put_box(
+    file: &[u8],
+    v: View,
+    d: Dimensions,
+    low: Coordinates,
+    high: Coordinates,
+    dst: &mut [u32],
+)
     requires { ⌜ ViewOf (now file) v × (d ≡ dimensionsOf (now file)) × (boxAllowed d low high ≡ true) × (boxCount (d .extents) low high ≤ length (now dst)) ⌝ }
     ensures { λ _. ⌜ now (dst .exit) ≡ leaves 0 (boxWords (now (file .entry)) low high) (now (dst .entry)) ⌝ }
 {

@@ -1,13 +1,14 @@
 // A box in the extents of a picture, with rows as long as may be: where a box covers its last dimension whole, that one and the one before are one.
+use format::Coordinates;
 ghost use mathlib.Core.Path.{_≡_};
 ghost use Prim.Native.Nat.{_+_};
 ghost use lib.ListN.{getD};
 ghost use Rattle.box_rows.specs.Region.{Placed, SameCells};
 
 pub struct Region {
-    pub extents: [u32; 4],
-    pub low: [u32; 4],
-    pub high: [u32; 4],
+    pub extents: Coordinates,
+    pub low: Coordinates,
+    pub high: Coordinates,
 }
 
 // The last two dimensions as one, where the last is covered whole. The first is new, of extent 1.

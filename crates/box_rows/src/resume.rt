@@ -1,13 +1,14 @@
 // The rank at a position, sought from where a cursor stands: positions that never fall cost one walk along the file.
 use super::seek::seek;
-use cursor::Cursor;
 use format::Position;
 use format::Rank;
 use format::RankAnswer;
 use format::View;
+use parts::Cursor;
 ghost use Prim.Native.Nat.{_+_, _≤_, _<_};
 ghost use Rattle.format.specs.Answers.{rankSays};
-ghost use Rattle.header.specs.Search.{ViewOf, RankSearched};
+ghost use Rattle.parts.specs.Holds.{ViewOf};
+ghost use Rattle.search.specs.Searched.{RankSearched};
 ghost use Rattle.box_rows.specs.Ready.{Ready, Reached};
 
 pub struct Sought {

@@ -1,15 +1,18 @@
-// The first stored cell at or after a position, from where a cursor stands. Kind 4 is walked; the others are searched by rank.
-use cursor::Cursor;
-use cursor::ranks::next_jump;
+// The first stored cell at or after a position, from where a cursor stands: by a walk, or by a search over the ranks.
 use format::Position;
 use format::Rank;
 use format::View;
+use kinds::search::by_walk;
+use kinds::steps::next;
+use parts::Cursor;
 use search::stored_position;
 ghost use mathlib.Core.Path.{_≡_};
+ghost use mathlib.Core.Bool.{true};
 ghost use Prim.Native.Nat.{_+_, _<_};
 ghost use lib.ListN.{getD};
 ghost use Rattle.format.specs.Accepted.{positionsOf};
-ghost use Rattle.header.specs.Search.{ViewOf};
+ghost use Rattle.parts.specs.Holds.{ViewOf};
+ghost use Rattle.kinds.specs.Steps.{byWalk};
 ghost use Rattle.box_rows.specs.Ready.{Ready, Reached, Around};
 
 // A rank that stands below a position, and a later one, or N, that does not; `at` is where the later one stands.
@@ -27,16 +30,16 @@ fn gallop(file: &[u8], v: View, from: u32, p: Position) -> Gap
     let mut low = from;
     let mut step: u32 = 1;
     while step < v.words - low {
-        let next = low + step;
-        let at = stored_position(file, v, Rank(next));
+        let later = low + step;
+        let at = stored_position(file, v, Rank(later));
         if p.0 <= at.0 {
             return Gap {
                 low,
-                high: next,
+                high: later,
                 at: at.0,
             };
         }
-        low = next;
+        low = later;
         step = 2 * step;
     }
     Gap {
@@ -64,9 +67,9 @@ fn narrowed(file: &[u8], v: View, mut g: Gap, p: Position) -> Gap
     g
 }
 
-// Kind 4.
-fn seek_jump(file: &[u8], v: View, mut c: Cursor, p: Position) -> Cursor
-    requires { ⌜ ViewOf (now file) v × (v .kind ≡ 4) × Ready (now file) v c (p .0) ⌝ }
+// Rank by rank, in a kind whose positions are found by a walk.
+fn seek_walk(file: &[u8], v: View, mut c: Cursor, p: Position) -> Cursor
+    requires { ⌜ ViewOf (now file) v × (byWalk (v .kind) ≡ true) × Ready (now file) v c (p .0) ⌝ }
     ensures { λ r. ⌜ Reached (now (file .entry)) v r (p .0) ⌝ }
 {
     let wanted = p.0;
@@ -74,7 +77,7 @@ fn seek_jump(file: &[u8], v: View, mut c: Cursor, p: Position) -> Cursor
         if wanted <= c.at {
             return c;
         }
-        c = next_jump(file, v, c);
+        c = next(file, v, c);
     }
     c
 }
@@ -90,8 +93,8 @@ pub fn seek(file: &[u8], v: View, mut c: Cursor, p: Position) -> Cursor
     if p.0 <= c.at {
         return c;
     }
-    if v.kind == 4 {
-        return seek_jump(file, v, c, p);
+    if by_walk(v.kind) {
+        return seek_walk(file, v, c, p);
     }
     let g = narrowed(file, v, gallop(file, v, c.rank, p), p);
     c.rank = g.high;

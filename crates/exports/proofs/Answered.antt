@@ -10,8 +10,9 @@ use Rattle.format.specs.Answers.{Answer, refused}
 use Rattle.format.specs.File.{headerLength}
 use Rattle.format.specs.Accepted.{checkNumber}
 use Rattle.format.specs.Opened.{viewOf}
-use Rattle.header.specs.Search.{CellSearched, RankSearched, PositionSearched}
 use Rattle.laws.proofs.Acceptance.{accepted, header-right}
+use Rattle.checked.specs.Verdict.{Judged}
+use Rattle.search.specs.Searched.{CellSearched, RankSearched, PositionSearched}
 use Rattle.archive.proofs.Answers.{cell-found, rank-found, position-found}
 use Rattle.exports.specs.Unchecked.{Unchecked, cellUnchecked, rankUnchecked, positionUnchecked}
 
@@ -26,10 +27,13 @@ short-refused b direct InRange s r =
     record { right = λ h. absurd (let l = long b h in omega arith); short = λ l. refl; free = r }
 
 module _ (b : List ℕ) (v : View) (e : v ≡ viewOf b) (l : headerLength ≤ length b) (p : ℕ) (a : Answer) where
+  judged : Judged b (checkNumber b) v
+  judged = record { number = refl; view = λ h. record { accepted = h; view = e } }
+
   pub cell-unchecked : CellSearched b v p a → cellUnchecked b p a
   cell-unchecked c =
       record {
-        right = λ h. cell-found b v (record { accepted = h; view = e }) p a c .said;
+        right = λ h. cell-found b (checkNumber b) v judged p h a c .said;
         short = λ s. absurd (omega arith);
         free = c .free;
       }
@@ -38,7 +42,7 @@ module _ (b : List ℕ) (v : View) (e : v ≡ viewOf b) (l : headerLength ≤ le
   unfolding viewOf
   rank-unchecked c =
       record {
-        right = λ h. rank-found b v (record { accepted = h; view = e }) p a c .said;
+        right = λ h. rank-found b (checkNumber b) v judged p h a c .said;
         short = λ s. absurd (omega arith);
         free = rw e at (c .free);
       }
@@ -46,7 +50,7 @@ module _ (b : List ℕ) (v : View) (e : v ≡ viewOf b) (l : headerLength ≤ le
   pub position-unchecked : PositionSearched b v p a → positionUnchecked b p a
   position-unchecked c =
       record {
-        right = λ h. position-found b v (record { accepted = h; view = e }) p a c .said;
+        right = λ h. position-found b (checkNumber b) v judged p h a c .said;
         short = λ s. absurd (omega arith);
         free = rw e at (c .free);
       }

@@ -14,7 +14,7 @@ use Rattle.format.specs.Picture.{coordinatesAt, mostDimensions}
 use Rattle.format.specs.Coordinates.{PositionOf, positionNumber, coordinatesNumber}
 use Rattle.header.proofs.CellCount.{count-some}
 use Rattle.header.proofs.CoordinateAnswers.{countOf, number-extent}
-use Rattle.handed.proofs.Range.{first-refused}
+use Rattle.checked.proofs.Number.{first-refused}
 use Rattle.scatter.proofs.Scattered.{set-seam}
 use Rattle.exports.specs.Extents.{dimensions, CoordinatesOut}
 use Rattle.exports.proofs.Four.{not-four, not-inside, unaltered}

@@ -15,7 +15,8 @@ use Rattle.format.specs.Picture.{dimensionsAllowed, mostDimensions, inside}
 use Rattle.format.specs.Calls.{settingNumber, Made}
 use Rattle.exports.specs.Extents.{dimensions}
 use Rattle.archive.specs.Known.{pictureNumber}
-use Rattle.archive.proofs.Making.{setting-later, setting-refused, make-refused}
+use Rattle.checked.proofs.Number.{setting-later}
+use Rattle.archive.proofs.Making.{setting-refused, make-refused}
 use Rattle.laws.proofs.Tools.{cases}
 
 pub four-numbers : (l : List ℕ) → length l ≡ 4 → getD l 0 0 ∷ getD l 1 0 ∷ getD l 2 0 ∷ getD l 3 0 ∷ [] ≡ l

@@ -1,6 +1,6 @@
 -- The codes of the calls that hand back a part of the caller's bytes. Assumes nothing.
 use Prim.Native.Nat.{ℕ, zero, suc, _+_, _*_, _^_, _≤_, _<_}
-use mathlib.Core.Path.{_≡_, refl, sym, _∙_}
+use mathlib.Core.Path.{_≡_, refl, sym, ap, _∙_}
 use mathlib.Core.List.{List}
 use native.Mathlib.Omega.{arith}
 use lib.ListN.{length, drop}
@@ -8,15 +8,17 @@ use borrow.Author.Tests.{lt-ltb, le-ltb}
 use Rattle.format.specs.Tools.{Below}
 use Rattle.format.specs.Bytes.{field}
 use Rattle.format.specs.Answers.{Answer, given, answered}
-use Rattle.format.specs.Accepted.{checkNumber}
+use Rattle.format.specs.File.{headerLength}
+use Rattle.format.specs.Accepted.{lengthField, checkNumber}
 use Rattle.format.specs.Opened.{viewOf}
 use Rattle.format.specs.RankRange.{ranksNumber, ranksFrom}
 use Rattle.format.specs.Shorter.{shorterNumber}
 use Rattle.laws.proofs.Bytes.{below-drop, number-small}
 use Rattle.laws.proofs.Check.{counts-by}
 use Rattle.laws.proofs.Acceptance.{accepted, header-right}
-use Rattle.header.specs.View.{wordsPlace}
-use Rattle.handed.proofs.Range.{ranged}
+use Rattle.parts.proofs.Seen.{seen}
+use Rattle.checked.specs.Verdict.{Judged}
+use Rattle.lent_parts.proofs.Range.{Ranged, range-file, ranged}
 use Rattle.exports.specs.Code.{coded, codeAndValue}
 use Rattle.exports.specs.Handed.{ranksAnswer, shorterAnswer}
 
@@ -31,7 +33,7 @@ given-code m x y z e = rw (z, e)
 
 -- the length of an accepted file is a field of four bytes
 file-small : (b : List ℕ) → Below 256 b → checkNumber b ≡ 0 → length b < 2 ^ 32
-unfolding field
+unfolding field lengthField
 file-small b small h =
     let r = counts-by b (header-right b (accepted b h .header) .counts) in
     let s : field 4 48 b < 2 ^ 32 = number-small 4 (drop 48 b) (below-drop 256 48 b small) in
@@ -44,17 +46,27 @@ module _ (b : List ℕ) (a c n : ℕ) (number : n ≡ ranksNumber b a c) where
   ranks-refused h = refused-code n (ranksNumber b a c) _ number h
 
   module _ (z : n ≡ 0) where
-    pub ranks-small : Below 256 b → wordsPlace (viewOf b) + 4 * a < 2 ^ 32
+    own : Judged b (checkNumber b) (viewOf b)
+    own = record { number = refl; view = λ h. record { accepted = h; view = refl } }
+
+    there : Ranged b (viewOf b) a c
+    there = ranged b (checkNumber b) (viewOf b) own a c (range-file b (checkNumber b) (viewOf b) own a c ∙ sym number ∙ z)
+
+    -- an accepted file has a header
+    pub header-there : headerLength ≤ length b
+    header-there = header-right b (accepted b (there .view .accepted) .header) .long
+
+    pub ranks-small : Below 256 b → viewOf b .place + 4 * a < 2 ^ 32
     ranks-small small =
-        let o = ranged b a c (sym number ∙ z) in
-        let s = file-small b small (o .accepted) in
+        let o = there in
+        let s = file-small b small (o .view .accepted) in
         let h = o .order in
         let i = o .inside in
         omega arith
 
-    pub ranks-given : (at : ℕ) → at ≡ wordsPlace (viewOf b) + 4 * a → codeAndValue 0 at ≡ coded (ranksAnswer b a c)
+    pub ranks-given : (at : ℕ) → at ≡ viewOf b .place + 4 * a → codeAndValue 0 at ≡ coded (ranksAnswer b a c)
     unfolding ranksAnswer ranksFrom
-    ranks-given at e = given-code (ranksNumber b a c) at _ (sym number ∙ z) (rw (ranged b a c (sym number ∙ z) .words-at) e)
+    ranks-given at e = given-code (ranksNumber b a c) at _ (sym number ∙ z) (e ∙ ap (λ (x : ℕ). x + 4 * a) (seen b (viewOf b) (there .view) .header .place))
 
 -- ---- the shorter of two files
 

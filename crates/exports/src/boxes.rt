@@ -2,6 +2,8 @@
 use crate::extents::four;
 use archive::boxes::box_words;
 use archive::check::check;
+use format::DIMS;
+use format::signals::BEYOND;
 ghost use mathlib.Core.Path.{_≡_};
 ghost use Rattle.format.specs.Signals.{BEYOND, orElse};
 ghost use Rattle.format.specs.Accepted.{checkNumber};
@@ -15,7 +17,7 @@ fn corner_number(file: &[u8]) -> u32
     if number != 0 {
         return number;
     }
-    8
+    BEYOND
 }
 
 // The words of the box, both corners inclusive. A corner that has not four numbers is 8.
@@ -23,10 +25,10 @@ fn corner_number(file: &[u8]) -> u32
 pub extern "C" fn ra_box(file: &[u8], low: &[u32], high: &[u32], dst: &mut [u32]) -> u32
     ensures { λ r. ⌜ Boxed (now (file .entry)) (now (low .entry)) (now (high .entry)) (now (dst .entry)) r (now (dst .exit)) ⌝ }
 {
-    if low.len() != 4 {
+    if low.len() != DIMS {
         return corner_number(file);
     }
-    if high.len() != 4 {
+    if high.len() != DIMS {
         return corner_number(file);
     }
     box_words(file, four(low), four(high), dst)

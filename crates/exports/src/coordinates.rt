@@ -2,8 +2,12 @@
 use crate::code::code_and_value;
 use crate::code::position_code;
 use crate::extents::four;
+use format::DIMS;
 use format::Dimensions;
 use format::Position;
+use format::signals::BEYOND;
+use format::signals::EXTENT;
+use format::signals::SMALL;
 use header::coordinates::coordinates_inside;
 use header::coordinates::coordinates_number;
 use header::coordinates::position_at;
@@ -21,18 +25,18 @@ ghost use Rattle.exports.specs.Extents.{dimensions, CoordinatesOut};
 pub extern "C" fn ra_coordinates_position(dims: u32, extents: &[u32], at: &[u32]) -> u64
     ensures { λ r. ⌜ Coded (PositionOf (dimensions dims (now (extents .entry))) (now (at .entry))) r ⌝ }
 {
-    if extents.len() != 4 {
-        return code_and_value(4, 0);
+    if extents.len() != DIMS {
+        return code_and_value(EXTENT, 0);
     }
     let d = Dimensions {
         count: dims,
         extents: four(extents),
     };
     if cell_count(d) == 0 {
-        return code_and_value(4, 0);
+        return code_and_value(EXTENT, 0);
     }
-    if at.len() != 4 {
-        return code_and_value(8, 0);
+    if at.len() != DIMS {
+        return code_and_value(BEYOND, 0);
     }
     position_code(position_at(d, four(at)))
 }
@@ -59,8 +63,8 @@ pub extern "C" fn ra_position_coordinates(
 ) -> u32
     ensures { λ r. ⌜ CoordinatesOut (dimensions dims (now (extents .entry))) place (now (dst .entry)) r (now (dst .exit)) ⌝ }
 {
-    if extents.len() != 4 {
-        return 4;
+    if extents.len() != DIMS {
+        return EXTENT;
     }
     let d = Dimensions {
         count: dims,
@@ -71,8 +75,8 @@ pub extern "C" fn ra_position_coordinates(
     if number != 0 {
         return number;
     }
-    if dst.len() < 4 {
-        return 10;
+    if dst.len() < DIMS {
+        return SMALL;
     }
     let at = coordinates_inside(d, p);
     put_numbers(&at, dst);

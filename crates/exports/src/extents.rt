@@ -1,9 +1,10 @@
 // Four numbers of a slice as an array.
+use format::Coordinates;
 ghost use mathlib.Core.Path.{_≡_};
 ghost use lib.ListN.{length};
 
 // The four numbers.
-pub fn four(numbers: &[u32]) -> [u32; 4]
+pub fn four(numbers: &[u32]) -> Coordinates
     requires { ⌜ length (now numbers) ≡ 4 ⌝ }
     ensures { λ r. ⌜ r ≡ now (numbers .entry) ⌝ }
 {

@@ -3,7 +3,7 @@ pub mod boxes;
 mod code;
 pub mod coordinates;
 mod extents;
+pub mod lent;
 pub mod opened;
-pub mod parts;
 pub mod reading;
 pub mod writing;

@@ -3,10 +3,12 @@ use crate::extents::four;
 use archive::change::change;
 use archive::make::make;
 use archive::write::write;
+use format::DIMS;
 use format::Dimensions;
 use format::Position;
 use format::Setting;
-use header::setting::setting_number;
+use format::signals::EXTENT;
+use kinds::setting::setting_number;
 ghost use Rattle.format.specs.Calls.{Made, Wrote, Changed};
 ghost use Rattle.exports.specs.Extents.{dimensions, setting};
 
@@ -25,12 +27,12 @@ pub extern "C" fn ra_make(
     ensures { λ r. ⌜ Made (setting kind width step) (dimensions dims (now (extents .entry))) empty (now (words .entry)) (now (dst .entry)) r (now (dst .exit)) ⌝ }
 {
     let s = Setting { kind, width, step };
-    if extents.len() != 4 {
+    if extents.len() != DIMS {
         let number = setting_number(s);
         if number != 0 {
             return number;
         }
-        return 4;
+        return EXTENT;
     }
     let d = Dimensions {
         count: dims,

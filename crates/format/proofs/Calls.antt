@@ -14,7 +14,7 @@ use Rattle.format.specs.BaseOffset.{bases, offsets, offsetsFit, basedPar
 use Rattle.format.specs.Jumps.{difference, differencesFrom, differences, jumpsOf, jumps, jumpParts, jumpsKind}
 use Rattle.format.specs.Kinds.{codec, kindAllowed, settingAllowed}
 use Rattle.format.specs.File.{header, fileFrom, layout}
-use Rattle.format.specs.Accepted.{settingOf, dimensionsOf, emptyOf, wordsCount, firstCount, secondCount, secondAt, wordsAt, positionsOf, keptOf, wordsOf}
+use Rattle.format.specs.Accepted.{settingOf, dimensionsOf, emptyOf, wordsCount, firstCount, secondCount, firstOffset, secondOffset, wordsOffset, lengthField, secondAt, wordsAt, positionsOf, keptOf, wordsOf}
 use Rattle.format.specs.Calls.{outNumber, settingNumber, makeNumber, writeSignal, changeSignal, writtenFile, changedFile}
 use Rattle.format.specs.Table.{Request, write, change, Fed, newTable, tableFile, tableNumber, tableNext, tableRun, tableNumbers}
 use Rattle.format.specs.Sample.{setting, row, sample, file, pair}
@@ -53,16 +53,16 @@ file-counts = refl
 
 -- a write in the file of M2 puts out the file of the words after it; writing E empties the cell
 pub write-puts : writtenFile (file 2 0 0) 0 4 ≡ layout (setting 2 0 0) (row 12) 0 (set sample 0 4)
-unfolding bytes number bytesOf field numbersOf product cells storedFrom stored kept placedFrom placed positionParts positionsKind codec header fileFrom layout settingOf dimensionsOf emptyOf wordsCount firstCount secondCount secondAt wordsAt positionsOf keptOf wordsOf writtenFile
+unfolding bytes number bytesOf field numbersOf product cells storedFrom stored kept placedFrom placed positionParts positionsKind codec header fileFrom layout settingOf dimensionsOf emptyOf wordsCount firstCount secondCount firstOffset secondOffset wordsOffset lengthField secondAt wordsAt positionsOf keptOf wordsOf writtenFile
 write-puts = refl
 
 pub write-empties : positionsOf (writtenFile (file 2 0 0) 3 0) ≡ 2 ∷ 5 ∷ 10 ∷ []
-unfolding bytes number bytesOf field numbersOf product cells storedFrom stored kept placedFrom placed positionParts positionsKind codec header fileFrom layout settingOf dimensionsOf emptyOf wordsCount firstCount secondCount secondAt wordsAt positionsOf keptOf wordsOf writtenFile
+unfolding bytes number bytesOf field numbersOf product cells storedFrom stored kept placedFrom placed positionParts positionsKind codec header fileFrom layout settingOf dimensionsOf emptyOf wordsCount firstCount secondCount firstOffset secondOffset wordsOffset lengthField secondAt wordsAt positionsOf keptOf wordsOf writtenFile
 write-empties = refl
 
 -- a change of the file of M2 to kind 1 puts out the file of M1
 pub change-puts : changedFile (file 2 0 0) (setting 1 0 0) ≡ file 1 0 0
-unfolding bytes number bytesOf field numbersOf product cells storedFrom stored kept placedFrom placed runAt runsFrom runs flatRuns runParts runsKind positionParts positionsKind codec header fileFrom layout settingOf dimensionsOf emptyOf wordsCount firstCount secondCount secondAt wordsAt positionsOf keptOf wordsOf changedFile
+unfolding bytes number bytesOf field numbersOf product cells storedFrom stored kept placedFrom placed runAt runsFrom runs flatRuns runParts runsKind positionParts positionsKind codec header fileFrom layout settingOf dimensionsOf emptyOf wordsCount firstCount secondCount firstOffset secondOffset wordsOffset lengthField secondAt wordsAt positionsOf keptOf wordsOf changedFile
 change-puts = refl
 
 -- an unfit result has no length: 9 with any destination

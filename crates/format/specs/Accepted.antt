@@ -36,13 +36,27 @@ firstCount b = field 4 28 b
 unfoldable pub secondCount : List ℕ → ℕ
 secondCount b = field 4 32 b
 
+-- the offsets of first part, second part and stored words
+unfoldable pub firstOffset : List ℕ → ℕ
+firstOffset b = field 4 36 b
+
+unfoldable pub secondOffset : List ℕ → ℕ
+secondOffset b = field 4 40 b
+
+unfoldable pub wordsOffset : List ℕ → ℕ
+wordsOffset b = field 4 44 b
+
+-- the file's length
+unfoldable pub lengthField : List ℕ → ℕ
+lengthField b = field 4 48 b
+
 -- ---- where, by the counts, the second part and the words begin and the file ends
 
 unfoldable pub secondAt : List ℕ → ℕ
-secondAt b = headerLength + codec (settingOf b) .firstSize * firstCount b
+secondAt b = headerLength + codec (settingOf b) .firstBytes (firstCount b) (secondCount b)
 
 unfoldable pub wordsAt : List ℕ → ℕ
-wordsAt b = secondAt b + codec (settingOf b) .secondSize * secondCount b
+wordsAt b = secondAt b + codec (settingOf b) .secondBytes (firstCount b) (secondCount b)
 
 unfoldable pub endAt : List ℕ → ℕ
 endAt b = wordsAt b + 4 * wordsCount b
@@ -51,11 +65,11 @@ endAt b = wordsAt b + 4 * wordsCount b
 unfoldable pub countsRight : List ℕ → Bool
 countsRight b =
     both (leb (wordsCount b) (cells (dimensionsOf b)))
-    (both (codec (settingOf b) .counts (wordsCount b) (firstCount b) (secondCount b))
-    (both (eqb (field 4 36 b) headerLength)
-    (both (eqb (field 4 40 b) (secondAt b))
-    (both (eqb (field 4 44 b) (wordsAt b))
-    (both (eqb (field 4 48 b) (endAt b))
+    (both (codec (settingOf b) .counts (cells (dimensionsOf b)) (wordsCount b) (firstCount b) (secondCount b))
+    (both (eqb (firstOffset b) headerLength)
+    (both (eqb (secondOffset b) (secondAt b))
+    (both (eqb (wordsOffset b) (wordsAt b))
+    (both (eqb (lengthField b) (endAt b))
     (eqb (length b) (endAt b)))))))
 
 -- ---- the picture that the bytes say

@@ -38,10 +38,10 @@ unfoldable pub basedKind : ℕ → ℕ → Codec
 basedKind w l =
     record {
       allowed = both (within 1 2 w) (within 1 255 l);
-      firstSize = 4;
-      secondSize = w;
-      counts = λ n c1 c2. both (eqb c1 (upTo n l)) (eqb c2 n);
-      parts = basedParts w l;
+      counts = λ cells n c1 c2. both (eqb c1 (upTo n l)) (eqb c2 n);
+      firstBytes = λ c1 c2. 4 * c1;
+      secondBytes = λ c1 c2. w * c2;
+      parts = λ cells. basedParts w l;
       unfit = λ ls. not (offsetsFit w l ls);
       positions = λ c1 b1 c2 b2. basedPositions l (numbersOf 4 c1 b1) (numbersOf w c2 b2);
     }

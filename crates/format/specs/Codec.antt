@@ -14,13 +14,13 @@ pub record Parts : Type 0 where
 pub record Codec : Type 0 where
   -- width and step are allowed
   pub allowed : Bool
-  -- the bytes of an entry of each part
-  pub firstSize : ℕ
-  pub secondSize : ℕ
-  -- of N, the first and the second count: the counts are the layout's, or, where only the body tells a count, it is at most N
-  pub counts : ℕ → ℕ → ℕ → Bool
-  -- the parts of the stored positions
-  pub parts : List ℕ → Parts
+  -- of the cells, N, the first and the second count: the counts are the layout's, or, where only the body tells a count, it is at most N
+  pub counts : ℕ → ℕ → ℕ → ℕ → Bool
+  -- of the first and the second count: the bytes of each part
+  pub firstBytes : ℕ → ℕ → ℕ
+  pub secondBytes : ℕ → ℕ → ℕ
+  -- of the cells and the stored positions: the parts
+  pub parts : ℕ → List ℕ → Parts
   -- the parts cannot hold the stored positions
   pub unfit : List ℕ → Bool
   -- the stored positions back: from the first count and bytes that begin with the first part, and so for the second
@@ -31,10 +31,10 @@ abbrev pub noCodec : Codec
 noCodec =
     record {
       allowed = false;
-      firstSize = 0;
-      secondSize = 0;
-      counts = λ n c1 c2. false;
-      parts = λ ls. record { firstCount = 0; first = []; secondCount = 0; second = [] };
+      counts = λ cells n c1 c2. false;
+      firstBytes = λ c1 c2. 0;
+      secondBytes = λ c1 c2. 0;
+      parts = λ cells ls. record { firstCount = 0; first = []; secondCount = 0; second = [] };
       unfit = λ ls. false;
       positions = λ c1 b1 c2 b2. [];
     }

@@ -10,8 +10,8 @@ use Rattle.format.specs.declared.Dimensions.{Dimensions}
 use Rattle.format.specs.declared.Setting.{Setting}
 use Rattle.format.specs.Tools.{pick}
 use Rattle.format.specs.Answers.{Answer, given}
-use Rattle.format.specs.Bytes.{field}
 use Rattle.format.specs.Picture.{cells}
+use Rattle.format.specs.Accepted.{lengthField}
 use Rattle.format.specs.Calls.{Made, Wrote, Changed, Expanded}
 use Rattle.format.specs.Lookups.{CellFound, RankFound, PositionFound}
 use Rattle.format.specs.Table.{Request, write, change, Fed, Table, newTable, tableFile, tableRun, tableNumbers}
@@ -34,7 +34,7 @@ Called b (change s) before answer after = Changed b s before answer after
 
 -- the file in a destination: its first bytes, as many as the file is long, which stands at byte 48
 unfoldable pub fileIn : List ℕ → List ℕ
-fileIn dst = take (field 4 48 dst) dst
+fileIn dst = take (lengthField dst) dst
 
 -- the list's file after a call: from the destination where the call was accepted, else the one from before
 abbrev pub nextFile : List ℕ → ℕ → List ℕ → List ℕ

@@ -1,5 +1,5 @@
 -- The bounds of what is allowed, each from both sides, and the order of the numbers, as rows. Assumes nothing.
-use Prim.Native.Nat.{ℕ, _*_}
+use Prim.Native.Nat.{ℕ}
 use mathlib.Core.List.{List, [], _∷_, _++_}
 use lib.ListN.{length, replicate, set}
 use Rattle.format.specs.declared.Setting.{Setting}
@@ -24,7 +24,7 @@ parts c1 b1 c2 b2 = record { firstCount = c1; first = b1; secondCount = c2; seco
 
 -- what check gives of a file without words that has c1 and c2 entries, all 0, and all else in agreement; and that for each kind
 abbrev wordless : ℕ → ℕ → Setting → ℕ
-wordless c1 c2 s = claimed s (parts c1 (replicate (codec s .firstSize * c1) 0) c2 (replicate (codec s .secondSize * c2) 0)) 0
+wordless c1 c2 s = claimed s (parts c1 (replicate (codec s .firstBytes c1 c2) 0) c2 (replicate (codec s .secondBytes c1 c2) 0)) 0
 
 abbrev wordlessEach : ℕ → ℕ → List ℕ
 wordlessEach c1 c2 =

@@ -58,7 +58,7 @@ fileFrom s d E q vs = header s d E (countsOf (length vs) q) ++ q .first ++ q .se
 
 -- the file of the words ws
 unfoldable pub layout : Setting → Dimensions → ℕ → List ℕ → List ℕ
-layout s d E ws = fileFrom s d E (codec s .parts (stored E ws)) (kept E ws)
+layout s d E ws = fileFrom s d E (codec s .parts (cells d) (stored E ws)) (kept E ws)
 
 -- the picture with dimensions d, empty word E and words ws has the bytes b in the setting s
 pub record HasFile (s : Setting) (d : Dimensions) (E : ℕ) (ws b : List ℕ) : Type 0 where

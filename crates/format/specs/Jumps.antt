@@ -1,5 +1,5 @@
 -- Kind 4, jumps (document 01, "The file"). Assumes nothing.
-use Prim.Native.Nat.{ℕ, zero, suc, _+_, _-_, _^_}
+use Prim.Native.Nat.{ℕ, zero, suc, _+_, _-_, _*_, _^_}
 use mathlib.Core.Bool.{false}
 use mathlib.Core.List.{List, [], _∷_}
 use lib.ListN.{length}
@@ -54,10 +54,10 @@ unfoldable pub jumpsKind : ℕ → ℕ → Codec
 jumpsKind w l =
     record {
       allowed = both (within 1 2 w) (eqb l 0);
-      firstSize = 4;
-      secondSize = w;
-      counts = λ n c1 c2. both (leb c1 n) (eqb c2 n);
-      parts = jumpParts w;
+      counts = λ cells n c1 c2. both (leb c1 n) (eqb c2 n);
+      firstBytes = λ c1 c2. 4 * c1;
+      secondBytes = λ c1 c2. w * c2;
+      parts = λ cells. jumpParts w;
       unfit = λ ls. false;
       positions = λ c1 b1 c2 b2. jumpedPositions (numbersOf 4 c1 b1) (numbersOf w c2 b2);
     }

@@ -9,7 +9,7 @@ use Rattle.format.specs.Tools.{pick}
 use Rattle.format.specs.Signals.{BEYOND}
 use Rattle.format.specs.Answers.{Answer, refused, empty, given}
 use Rattle.format.specs.Picture.{cells, dimensionsAllowed}
-use Rattle.format.specs.Accepted.{settingOf, dimensionsOf, emptyOf, wordsCount, firstCount, secondCount, checkNumber}
+use Rattle.format.specs.Accepted.{settingOf, dimensionsOf, emptyOf, wordsCount, firstCount, secondCount, firstOffset, secondOffset, wordsOffset, checkNumber}
 use Rattle.format.specs.Lookups.{cellAnswer, rankAnswer, positionAnswer}
 
 -- the header's numbers, of any bytes; no cells where the dimensions are not a picture's
@@ -24,11 +24,14 @@ viewOf b =
       words = wordsCount b;
       firsts = firstCount b;
       seconds = secondCount b;
+      start = firstOffset b;
+      second = secondOffset b;
+      place = wordsOffset b;
     }
 
 -- all counts 0
 abbrev pub noView : View
-noView = record { kind = 0; width = 0; step = 0; cells = 0; empty = 0; words = 0; firsts = 0; seconds = 0 }
+noView = record { kind = 0; width = 0; step = 0; cells = 0; empty = 0; words = 0; firsts = 0; seconds = 0; start = 0; second = 0; place = 0 }
 
 pub record Opened : Type 0 where
   pub bytes : List ℕ

@@ -96,10 +96,10 @@ unfoldable pub pagesKind : ℕ → ℕ → Codec
 pagesKind w b =
     record {
       allowed = both (eqb w 0) (within 2 64 b);
-      firstSize = 8;
-      secondSize = 8;
-      counts = λ n c1 c2. both (eqb c1 (upperEntries b c2)) (leb c2 n);
-      parts = λ ls. pagedParts b (spans (runs ls));
+      counts = λ cells n c1 c2. both (eqb c1 (upperEntries b c2)) (leb c2 n);
+      firstBytes = λ c1 c2. 8 * c1;
+      secondBytes = λ c1 c2. 8 * c2;
+      parts = λ cells ls. pagedParts b (spans (runs ls));
       unfit = λ ls. false;
       positions = λ c1 b1 c2 b2. positionsFrom 0 (pairsOf b (spansIn (numbersOf 4 (2 * c2) b2)));
     }

@@ -1,5 +1,5 @@
 -- Kind 2, positions (document 01, "The file"). Assumes nothing.
-use Prim.Native.Nat.{ℕ}
+use Prim.Native.Nat.{ℕ, _*_}
 use mathlib.Core.Bool.{false}
 use mathlib.Core.List.{List, []}
 use lib.ListN.{length}
@@ -16,10 +16,10 @@ unfoldable pub positionsKind : ℕ → ℕ → Codec
 positionsKind w l =
     record {
       allowed = both (eqb w 0) (eqb l 0);
-      firstSize = 4;
-      secondSize = 0;
-      counts = λ n c1 c2. both (eqb c1 n) (eqb c2 0);
-      parts = positionParts;
+      counts = λ cells n c1 c2. both (eqb c1 n) (eqb c2 0);
+      firstBytes = λ c1 c2. 4 * c1;
+      secondBytes = λ c1 c2. 0;
+      parts = λ cells. positionParts;
       unfit = λ ls. false;
       positions = λ c1 b1 c2 b2. numbersOf 4 c1 b1;
     }

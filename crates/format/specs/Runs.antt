@@ -68,10 +68,10 @@ unfoldable pub runsKind : ℕ → ℕ → Codec
 runsKind w l =
     record {
       allowed = both (eqb w 0) (eqb l 0);
-      firstSize = 8;
-      secondSize = 0;
-      counts = λ n c1 c2. both (leb c1 n) (eqb c2 0);
-      parts = runParts;
+      counts = λ cells n c1 c2. both (leb c1 n) (eqb c2 0);
+      firstBytes = λ c1 c2. 8 * c1;
+      secondBytes = λ c1 c2. 0;
+      parts = λ cells. runParts;
       unfit = λ ls. false;
       positions = λ c1 b1 c2 b2. positionsFrom 0 (spans (runsIn (numbersOf 4 (2 * c1) b1)));
     }

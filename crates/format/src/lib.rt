@@ -1,4 +1,5 @@
 // The declared types of the archive (document 01). Their meaning is in specs/; there is no code here.
+pub mod signals;
 
 // A position in the picture: LP in source document 000.
 pub struct Position(pub u32);
@@ -13,10 +14,18 @@ pub struct Setting {
     pub step: u32,
 }
 
+// The header's length; the first part begins there.
+pub const HEADER: usize = 52;
+
+// The most dimensions: extents and coordinates travel as so many numbers.
+pub const DIMS: usize = 4;
+
+pub type Coordinates = [u32; DIMS];
+
 // The dimension count, and the extents: 1 past the count.
 pub struct Dimensions {
     pub count: u32,
-    pub extents: [u32; 4],
+    pub extents: Coordinates,
 }
 
 // Cell at a position.
@@ -40,11 +49,12 @@ pub enum PositionAnswer {
 
 // Coordinates of a position.
 pub enum CoordinatesAnswer {
-    Coordinates([u32; 4]),
+    Coordinates(Coordinates),
     Refused(u32),
 }
 
-// The header's numbers that the lookups need. An opened file keeps them.
+// The header's numbers: setting, cells, the empty word, the counts of stored words and of the entries of each part, and the offsets of first part,
+// second part and stored words. An opened file keeps them.
 pub struct View {
     pub kind: u32,
     pub width: u32,
@@ -54,4 +64,7 @@ pub struct View {
     pub words: u32,
     pub firsts: u32,
     pub seconds: u32,
+    pub start: u32,
+    pub second: u32,
+    pub place: u32,
 }

@@ -9,7 +9,7 @@ use Rattle.format.specs.declared.Dimensions.{Dimensions}
 use Rattle.format.specs.Bytes.{field, numbersOf}
 use Rattle.format.specs.Tools.{pick}
 use Rattle.format.specs.Picture.{cells, dimensionsAllowed}
-use Rattle.format.specs.Accepted.{settingOf, dimensionsOf, emptyOf, wordsCount, firstCount, secondCount}
+use Rattle.format.specs.Accepted.{settingOf, dimensionsOf, emptyOf, wordsCount, firstCount, secondCount, firstOffset, secondOffset, wordsOffset}
 use Rattle.format.specs.Opened.{viewOf}
 use Rattle.header.specs.declared.view.Counts.{Counts}
 use Rattle.header.specs.Fields.{countsIn}
@@ -32,13 +32,26 @@ module _ (b : List ℕ) where
   unfolding dimensionsOf
   dimension-fields p q r s t = cc (four-numbers b)
 
-  pub count-fields : {n c1 c2 : ℕ} → n ≡ field 4 24 b → c1 ≡ field 4 28 b → c2 ≡ field 4 32 b → record { words = n; firsts = c1; seconds = c2 } ≡ countsIn b
-  unfolding countsIn wordsCount firstCount secondCount
-  count-fields p q r = cc
+  pub count-fields : {n c1 c2 o1 o2 o3 : ℕ} → n ≡ field 4 24 b → c1 ≡ field 4 28 b → c2 ≡ field 4 32 b → o1 ≡ field 4 36 b → o2 ≡ field 4 40 b → o3 ≡ field 4 44 b
+      → record { words = n; firsts = c1; seconds = c2; start = o1; second = o2; place = o3 } ≡ countsIn b
+  unfolding countsIn wordsCount firstCount secondCount firstOffset secondOffset wordsOffset
+  count-fields p q r s t u = cc
 
   pub view-fields : {s : Setting} {d : Dimensions} {n : Counts} {k e : ℕ} → s ≡ settingOf b → d ≡ dimensionsOf b
       → k ≡ pick (dimensionsAllowed d) (cells d) 0 → e ≡ field 4 20 b → n ≡ countsIn b
-      → record { kind = s .kind; width = s .width; step = s .step; cells = k; empty = e; words = n .words; firsts = n .firsts; seconds = n .seconds }
+      → record {
+        kind = s .kind;
+        width = s .width;
+        step = s .step;
+        cells = k;
+        empty = e;
+        words = n .words;
+        firsts = n .firsts;
+        seconds = n .seconds;
+        start = n .start;
+        second = n .second;
+        place = n .place;
+      }
       ≡ viewOf b
   unfolding viewOf emptyOf countsIn
   view-fields p q r s t = rw (p, r, q, s, t)

@@ -1,4 +1,5 @@
 // The picture's dimensions (document 01, "The picture").
+use format::DIMS;
 use format::Dimensions;
 ghost use mathlib.Core.Path.{_≡_};
 ghost use Prim.Native.Nat.{_≤_};
@@ -18,7 +19,7 @@ pub fn cell_count(d: Dimensions) -> u32
     let dimensions = count as usize;
     let mut cells: u64 = 1;
     let mut i: usize = 0;
-    while i < 4 {
+    while i < DIMS {
         let e = extents[i];
         if e == 0 {
             return 0;

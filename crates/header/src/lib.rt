@@ -1,8 +1,4 @@
-// The header of a file (document 01, "The file").
+// The header of a file (document 01, "The file"): the dimensions, and the numbers that it says.
 pub mod coordinates;
-pub mod counts;
 pub mod extents;
-pub mod number;
-pub mod places;
-pub mod setting;
 pub mod view;

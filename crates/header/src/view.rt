@@ -8,20 +8,24 @@ use wire::get_u32;
 ghost use mathlib.Core.Path.{_≡_};
 ghost use Prim.Native.Nat.{_≤_};
 ghost use lib.ListN.{length};
+ghost use Rattle.format.specs.File.{headerLength};
 ghost use Rattle.format.specs.Accepted.{settingOf, dimensionsOf};
 ghost use Rattle.format.specs.Opened.{viewOf};
 ghost use Rattle.header.specs.Fields.{countsIn};
 
-// N, and the entry counts of the first and second part.
-pub struct Counts {
-    pub words: u32,
-    pub firsts: u32,
-    pub seconds: u32,
+// N, the entry counts of the first and second part, and the offsets of first part, second part and stored words.
+struct Counts {
+    words: u32,
+    firsts: u32,
+    seconds: u32,
+    start: u32,
+    second: u32,
+    place: u32,
 }
 
 // Kind, width and step.
 pub fn read_setting(file: &[u8]) -> Setting
-    requires { ⌜ 52 ≤ length (now file) ⌝ }
+    requires { ⌜ headerLength ≤ length (now file) ⌝ }
     ensures { λ r. ⌜ r ≡ settingOf (now (file .entry)) ⌝ }
 {
     Setting {
@@ -33,7 +37,7 @@ pub fn read_setting(file: &[u8]) -> Setting
 
 // The dimension count and the extents.
 pub fn read_dimensions(file: &[u8]) -> Dimensions
-    requires { ⌜ 52 ≤ length (now file) ⌝ }
+    requires { ⌜ headerLength ≤ length (now file) ⌝ }
     ensures { λ r. ⌜ r ≡ dimensionsOf (now (file .entry)) ⌝ }
 {
     Dimensions {
@@ -47,21 +51,24 @@ pub fn read_dimensions(file: &[u8]) -> Dimensions
     }
 }
 
-// The counts.
-pub fn read_counts(file: &[u8]) -> Counts
-    requires { ⌜ 52 ≤ length (now file) ⌝ }
+// The counts and offsets.
+fn read_counts(file: &[u8]) -> Counts
+    requires { ⌜ headerLength ≤ length (now file) ⌝ }
     ensures { λ r. ⌜ r ≡ countsIn (now (file .entry)) ⌝ }
 {
     Counts {
         words: get_u32(file, 24),
         firsts: get_u32(file, 28),
         seconds: get_u32(file, 32),
+        start: get_u32(file, 36),
+        second: get_u32(file, 40),
+        place: get_u32(file, 44),
     }
 }
 
-// The header's numbers that the lookups need; no cells where the dimensions are not a picture's.
+// The header's numbers; no cells where the dimensions are not a picture's.
 pub fn read_view(file: &[u8]) -> View
-    requires { ⌜ 52 ≤ length (now file) ⌝ }
+    requires { ⌜ headerLength ≤ length (now file) ⌝ }
     ensures { λ r. ⌜ r ≡ viewOf (now (file .entry)) ⌝ }
 {
     let setting = read_setting(file);
@@ -77,5 +84,8 @@ pub fn read_view(file: &[u8]) -> View
         words: counts.words,
         firsts: counts.firsts,
         seconds: counts.seconds,
+        start: counts.start,
+        second: counts.second,
+        place: counts.place,
     }
 }

@@ -1,143 +1,142 @@
--- What a search of kind 4 answers on an accepted file. Assumes nothing.
-use Prim.Native.Nat.{ℕ, zero, suc, _+_, _≤_, _<_}
-use mathlib.Core.Path.{_≡_, refl, sym, _∙_}
-use mathlib.Core.Bool.{true}
-use mathlib.Core.List.{List, [], _∷_}
-use native.Mathlib.Nat.{add-zero}
-use native.Mathlib.Numerals.{add-one}
+-- What the searches answer: their state, over parts that hold stored positions. Assumes nothing.
+use Prim.Native.Nat.{ℕ, _+_, _-_, _*_, _≤_, _<_}
+use mathlib.Core.Path.{_≡_, refl, sym, ap}
+use mathlib.Core.Bool.{true, false}
+use mathlib.Core.List.{List}
 use native.Mathlib.Omega.{arith}
-use lib.ListN.{length, drop, getD}
-use lib.Seq.{drop-drop, getD-drop}
-use borrow.Author.Tests.{lt-ltb, le-ltb, eq-eqb, ne-eqb}
+use lib.ListN.{length, getD}
+use lib.Dec.{eqb}
+use lib.Arith.{lt-of-le-ne}
+use borrow.Author.Tests.{eqb-true, eqb-false}
 use Rattle.format.specs.declared.View.{View}
-use Rattle.format.specs.Tools.{Below}
-use Rattle.format.specs.Answers.{Answer, refused, empty, given}
-use Rattle.format.specs.Jumps.{jumpedFrom}
-use Rattle.format.specs.Picture.{cells}
-use Rattle.format.specs.Stored.{stored}
-use Rattle.format.specs.Accepted.{emptyOf, wordsOf, positionsOf}
-use Rattle.format.specs.Lookups.{rankIn, positionIn}
-use Rattle.format.specs.Opened.{viewOf}
+use Rattle.format.specs.Codec.{Codec}
+use Rattle.format.specs.Jumps.{jumpsKind}
+use Rattle.laws.proofs.Tools.{cases}
 use Rattle.wire.specs.Wire.{whole}
-use Rattle.header.specs.View.{secondPlace}
-use Rattle.header.specs.Body.{partsRight, wordsRight}
-use Rattle.header.specs.Search.{ViewOf, HeaderView}
-use Rattle.header.proofs.Frame.{framed}
-use Rattle.header.proofs.Body.{body-split, accepted-parts}
-use Rattle.laws.proofs.Tools.{both-true}
-use Rattle.laws.proofs.Acceptance.{accepted, accepted-has-file}
-use Rattle.laws.proofs.Files.{positions-back}
-use Rattle.laws.proofs.Search.{rankAmong, not-among, rank-among}
+use Rattle.wire.proofs.Laws.{other-width}
+use Rattle.parts.specs.Holds.{Holds}
+use Rattle.parts.specs.Found.{FoundAmong, FoundIn, PositionIn}
+use Rattle.parts.proofs.Places.{rising-lt, found-here, found-gap}
 use Rattle.jumps.specs.declared.search.Reached.{Reached}
-use Rattle.jumps.specs.Walk.{walked}
-use Rattle.jumps.specs.Pass.{passesAll, jumpsLeft, differencesLeft}
-use Rattle.jumps.proofs.Pass.{Follow, follow}
-use Rattle.jumps.proofs.Entries.{Right, right, entries-below}
-use Rattle.jumps.proofs.Turns.{differences-none}
-use Rattle.jumps.proofs.Parts.{positions-4, parts-pass}
-use Rattle.jumps.proofs.Walk.{Reaches, walk-start, walk-on, walk-last}
+use Rattle.jumps.specs.Walk.{stepped, walked, OfWidth}
+use Rattle.jumps.proofs.Held.{Held, held}
+use Rattle.jumps.proofs.Ahead.{Reaches, reach-start, reach-next, reach-walk}
 
--- what an accepted file of kind 4 tells of its view and its positions
-pub record Sought (b : List ℕ) (v : View) : Type 0 where
-  pub frame : Right b v
-  pub small : Below 256 b
-  pub start : 0 < v .words → Reaches b v 0 (record { position = whole 4 52 b; taken = 1 })
-  pub count : length (positionsOf b) ≡ v .words
-  pub cells : length (wordsOf b) ≡ v .cells
-  pub stored : positionsOf b ≡ stored (emptyOf b) (wordsOf b)
+-- a width that is not 1 is 2
+pub of-width : (v : View) → (v .width ≡ 1 → ⊥) → OfWidth v 2
+of-width v n = record { width = λ h k. other-width (v .width) h k n }
 
-pub sought : (b : List ℕ) (v : View) → Below 256 b → v .kind ≡ 4 → ViewOf b v → Sought b v
-sought b v s k o =
-    let a = accepted b (o .accepted) in
-    let f = accepted-has-file b (o .accepted) in
-    let y = accepted-parts b (o .accepted) in
-    let h : HeaderView 4 b v = record { header = a .header; view = o .view; kind = k } in
-    let t = both-true (partsRight b) (wordsRight b) (sym (body-split b s (a .header)) ∙ a .body) in
-    let p : passesAll (v .width) (v .cells) (jumpsLeft v 0 b) (differencesLeft v 0 b) ≡ true = sym (parts-pass b v s h) ∙ t .0 in
-    record {
-      frame = right b v h;
-      small = s;
-      start = λ n. walk-start b v (right b v h) p n (positions-4 b v h);
-      count = y .size ∙ rw (o .view) (unfold viewOf in refl);
-      cells = f .size ∙ sym (framed b (a .header) .cells) ∙ rw (o .view);
-      stored = positions-back _ _ _ _ b f;
-    }
+never : false ≡ true → ⊥
+never e = let y : _≡_ {A = ℕ} 0 1 = cc in omega arith
 
--- ---- what is reached at rank r
+-- over the positions ls: s is what a search has reached at rank r, and the rank before is below p
+pub record Below (b : List ℕ) (v : View) (w p r : ℕ) (s : Reached) (ls : List ℕ) : Type 0 where
+  pub held : Held b v ls
+  pub reaches : Reaches b w (v .start) (v .second) ls r s
+  pub low : 1 ≤ r → getD ls (r - 1) 0 < p
 
--- the answer that is left to find for the position p after r ranks
-pub left : List ℕ → ℕ → ℕ → Answer
-left b p r = rankAmong p r (drop r (positionsOf b))
+abbrev pub Seeks : List ℕ → View → ℕ → ℕ → ℕ → Reached → Type 0
+Seeks b v w p r s = (ls : List ℕ) → Holds (jumpsKind (v .width) (v .step)) b v ls → Below b v w p r s ls
 
-module _ (b : List ℕ) (v : View) (o : Sought b v) (r : ℕ) (s : Reached) (g : Reaches b v r s) where
-  later : List ℕ
-  later = jumpedFrom (s .position) (jumpsLeft v (s .taken) b) (differencesLeft v (r + 1) b)
+pub next-below : {r n : ℕ} → r < n → (r + 1 ≡ n → ⊥) → r + 1 < n
+next-below {r} {n} h k = let m : r + 1 ≤ n = omega arith in lt-of-le-ne m k
 
-  after : Follow (v .width) (v .cells) (s .position) (jumpsLeft v (s .taken) b) (differencesLeft v (r + 1) b)
-  unfolding differencesLeft
-  after = follow (v .width) (v .cells) (s .position) _ _ (entries-below (v .width) _ (v .words) b (r + 1) (o .small)) (g .pass)
+module _ (b : List ℕ) (v : View) where
+  abbrev K : Codec
+  K = jumpsKind (v .width) (v .step)
 
-  pub inside : s .position < v .cells
-  inside = after .below
+  module _ (w : ℕ) (ew : OfWidth v w) where
+    width : (ls : List ℕ) → Held b v ls → v .width ≡ w
+    width ls h = ew .width (h .laid .narrow) (h .laid .wide)
 
-  rest : drop r (positionsOf b) ≡ s .position ∷ later
-  unfolding later
-  rest = g .rest
+    -- a file too short holds no positions
+    too-short : length b < v .second + w * v .words → (ls : List ℕ) → Held b v ls → ⊥
+    too-short k ls h =
+        let i = h .laid .inside in
+        let e : v .width * v .words ≡ w * v .words = ap (λ (x : ℕ). x * v .words) (width ls h) in
+        omega arith
 
-  pub position-there : r < v .words → positionIn (emptyOf b) (wordsOf b) r ≡ given (s .position)
-  unfolding positionIn
-  position-there h =
-      let e : getD (positionsOf b) r 0 ≡ s .position = sym (rw (add-zero r) at (getD-drop r (positionsOf b) 0 0)) ∙ rw rest in
-      rw (← o .stored, lt-ltb r (length (positionsOf b)) (rw (o .count) h), e)
+    -- what a walk of n ranks reaches
+    pub walk-reaches : (l n : ℕ) (t : Reached) → l ≡ whole 4 (v .start) b → n < v .words
+        → t ≡ walked w (v .start) (v .second) b 0 n (record { position = l; taken = 1 })
+        → (ls : List ℕ) → Held b v ls → Reaches b w (v .start) (v .second) ls n t
+    walk-reaches l n t e h q ls z =
+        let m = z .size in
+        rw (q, e, ← width ls z)
+        (reach-walk b (v .width) (v .start) (v .second) ls (record { position = whole 4 (v .start) b; taken = 1 }) (reach-start b v ls z (omega arith)) n (omega arith))
 
-  module _ (p : ℕ) where
-    pub found : s .position ≡ p → left b p r ≡ given r
-    unfolding left rankAmong
-    found e = rw (rest, eq-eqb (s .position) p e)
+    pub short : (p : ℕ) → length b < v .second + w * v .words → FoundIn K b v p (record { below = 0; here = false })
+    short p k = record { right = λ ls h. absurd (too-short k ls (held b v ls h)); free = λ e. absurd (never e) }
 
-    pub passed : p < s .position → left b p r ≡ empty
-    unfolding left later
-    passed h = rw rest (not-among p r (v .cells) (s .position ∷ later) (h, inside, after .rising))
+    pub position-short : (r : ℕ) → length b < v .second + w * v .words → PositionIn K b v r 0
+    position-short r k = record { right = λ ls h n. absurd (too-short k ls (held b v ls h)) }
 
-    pub below : s .position < p → left b p r ≡ left b p (r + 1)
-    unfolding left rankAmong
-    below h =
-        let e : drop (r + 1) (positionsOf b) ≡ later = sym (drop-drop 1 r (positionsOf b)) ∙ rw rest in
-        rw (e, rest, ne-eqb (s .position) p (λ q. omega arith), add-one r)
+    -- the position of rank r is reached
+    pub position-found : (l r : ℕ) (t : Reached) → l ≡ whole 4 (v .start) b → r < v .words
+        → t ≡ walked w (v .start) (v .second) b 0 r (record { position = l; taken = 1 }) → PositionIn K b v r (t .position)
+    position-found l r t e h q = record { right = λ ls z n. walk-reaches l r t e h q ls (held b v ls z) .position }
 
-    pub out : s .position < p → v .words ≤ r + 1 → left b p r ≡ empty
-    unfolding left later rankAmong jumpedFrom
-    out h n = rw (rest, differences-none v b (r + 1) n, ne-eqb (s .position) p (λ q. omega arith))
+    -- ---- the place of p
 
--- the ranks from r on, where the n-th after it is below p
-pub below-all : (b : List ℕ) (v : View) → Sought b v → (p r : ℕ) (s : Reached) → Reaches b v r s → (n : ℕ) → r + n < v .words
-    → walked (v .width) (secondPlace v) b r n s .position < p → left b p r ≡ left b p (r + n)
-below-all b v o p r s g zero h k = rw (add-zero r)
-below-all b v o p r s g (suc n) h k =
-    let t = walked (v .width) (secondPlace v) b r n s in
-    let q = walk-last b v (o .frame) r s g n h in
-    let m : t .position < p = omega arith in
-    let e : r + n + 1 ≡ r + suc n = omega arith in
-    below-all b v o p r s g n (omega arith) m ∙ below b v o (r + n) t (walk-on b v (o .frame) r s g n (omega arith)) p m ∙ rw e
+    pub seeks-walk : (p l n : ℕ) (t : Reached) → l ≡ whole 4 (v .start) b → n < v .words
+        → t ≡ walked w (v .start) (v .second) b 0 n (record { position = l; taken = 1 }) → (1 ≤ n → t .position < p) → Seeks b v w p n t
+    seeks-walk p l n t e h q k ls z =
+        let y = held b v ls z in
+        let g = walk-reaches l n t e h q ls y in
+        let m = y .size in
+        let a = g .position in
+        record {
+          held = y;
+          reaches = g;
+          low = λ i. let f = k i in let o = rising-lt 0 (v .cells) ls (n - 1) n (y .rising) (omega arith) (omega arith) in omega arith;
+        }
 
-pub rank-left : (b : List ℕ) (v : View) → Sought b v → (p : ℕ) → p < v .cells → rankIn (emptyOf b) (wordsOf b) p ≡ left b p 0
-unfolding left
-rank-left b v o p h = rank-among (emptyOf b) p (wordsOf b) (rw (o .cells) h) ∙ rw (o .stored)
+    module _ (p r : ℕ) (s : Reached) (g : Seeks b v w p r s) where
+      pub seeks-next : (t : Reached) → s .position < p → r + 1 < v .words → t ≡ stepped w (v .start) (v .second) b (r + 1) s → Seeks b v w p (r + 1) t
+      seeks-next t k h q ls z =
+          let y = g ls z in
+          let m = y .held .size in
+          let a = y .reaches .position in
+          let e : r + 1 - 1 ≡ r = omega arith in
+          record {
+            held = y .held;
+            reaches = rw q (reach-next b w (v .start) (v .second) ls r s (y .reaches) (omega arith));
+            low = λ i. rw e (omega arith);
+          }
 
--- ---- beyond, and no stored cell
+      -- the position of rank r is not below p
+      pub stops : r < v .words → p ≤ s .position → FoundIn K b v p (record { below = r; here = eqb (s .position) p })
+      stops h k = record { right = λ ls z. go ls (g ls z); free = λ e. h }
+        where
+          go : (ls : List ℕ) → Below b v w p r s ls → FoundAmong p ls (record { below = r; here = eqb (s .position) p })
+          go ls y =
+              let m = y .held .size in
+              let a = y .reaches .position in
+              cases (eqb (s .position) p)
+              (λ e. let q = eqb-true (s .position) p e in found-here (v .cells) p ls (y .held .rising) r (omega arith) (omega arith) _ refl e)
+              (λ e.
+              let q = eqb-false (s .position) p e in
+              let o : p < s .position = lt-of-le-ne k (λ x. q (sym x)) in
+              found-gap (v .cells) p ls (y .held .rising) r (omega arith) (y .low) (λ i. omega arith) _ refl e)
 
-pub refused-rank : (b : List ℕ) (v : View) → Sought b v → (p : ℕ) → v .cells ≤ p → refused 8 ≡ rankIn (emptyOf b) (wordsOf b) p
-unfolding rankIn
-refused-rank b v o p h = rw (le-ltb p (length (wordsOf b)) (rw (o .cells) h))
+      -- no rank is left
+      pub ends : s .position < p → r + 1 ≡ v .words → FoundIn K b v p (record { below = v .words; here = false })
+      ends k h = record {
+        right = λ ls z.
+            let y = g ls z in
+            let m = y .held .size in
+            let a = y .reaches .position in
+            let e : v .words - 1 ≡ r = omega arith in
+            found-gap (v .cells) p ls (y .held .rising) (v .words) (omega arith) (λ i. rw e (omega arith)) (λ i. absurd (omega arith)) _ refl refl;
+        free = λ e. absurd (never e);
+      }
 
-pub refused-position : (b : List ℕ) (v : View) → Sought b v → (r : ℕ) → v .words ≤ r → refused 8 ≡ positionIn (emptyOf b) (wordsOf b) r
-unfolding positionIn
-refused-position b v o r h = rw (← o .stored, le-ltb r (length (positionsOf b)) (rw (o .count) h))
-
-pub none-stored : (b : List ℕ) (v : View) → Sought b v → v .words ≡ 0 → (p : ℕ) → left b p 0 ≡ empty
-unfolding left rankAmong
-none-stored b v o n p = rw (nothing (positionsOf b) (o .count ∙ n))
-  where
-    nothing : (xs : List ℕ) → length xs ≡ 0 → xs ≡ []
-    nothing [] h = refl
-    nothing (x ∷ xs) h = absurd (omega arith)
+  -- no words
+  pub none : (p : ℕ) → v .words ≡ 0 → FoundIn K b v p (record { below = 0; here = false })
+  none p n = record {
+    right = λ ls z.
+        let y = held b v ls z in
+        let m = y .size in
+        found-gap (v .cells) p ls (y .rising) 0 (omega arith) (λ i. absurd (omega arith)) (λ i. absurd (omega arith)) _ refl refl;
+    free = λ e. absurd (never e);
+  }

@@ -1,8 +1,15 @@
+-- The check.
 pub mod Pass
-pub mod Entries
-pub mod Parts
 pub mod Turns
-pub mod Steps
-pub mod Walk
+pub mod Held
+pub mod Parts
+-- The walks.
+pub mod Ahead
+pub mod Walked
 pub mod Found
-pub mod Answered
+pub mod Walks
+-- The encoder.
+pub mod Adds
+pub mod Taken
+-- What the crate says of itself.
+pub mod Laws

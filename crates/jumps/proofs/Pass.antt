@@ -1,27 +1,18 @@
 -- A pass goes through exactly when the jumps and differences are those of rising positions. Assumes nothing.
-use Prim.Native.Nat.{ℕ, zero, suc, _+_, _-_, _^_, _≤_, _<_}
+use Prim.Native.Nat.{ℕ, zero, suc, _+_, _-_, _^_, _<_}
 use mathlib.Core.Path.{_≡_, refl, _∙_}
 use mathlib.Core.Bool.{true, false}
 use mathlib.Core.List.{List, [], _∷_}
 use native.Mathlib.Nat.{one-le-pow, zero-lt-suc}
 use native.Mathlib.Omega.{arith}
 use lib.Dec.{leb, eqb}
-use borrow.Author.Tests.{leb-true, leb-false, ltb-true, eqb-true, le-leb, lt-leb, lt-ltb}
+use borrow.Author.Tests.{leb-true, leb-false, ltb-true, eqb-true, le-leb, lt-ltb}
 use Rattle.format.specs.Tools.{Below}
 use Rattle.format.specs.Jumps.{difference, differencesFrom, differences, jumpsOf, jumps, jumpedFrom, jumpedPositions}
 use Rattle.laws.proofs.Tools.{cases, both-true}
 use Rattle.laws.proofs.Stored.{Rising}
+use Rattle.laws.proofs.Entries.{fitting, jump-is-zero}
 use Rattle.jumps.specs.Pass.{passes, passesAll}
-
--- ---- a difference, by whether it fits
-
-difference-near : (w before l : ℕ) → l - before ≤ 256 ^ w - 1 → difference w before l ≡ l - before
-unfolding difference
-difference-near w before l h = rw (le-leb (l - before) (256 ^ w - 1) h)
-
-difference-far : (w before l : ℕ) → 256 ^ w - 1 < l - before → difference w before l ≡ 0
-unfolding difference
-difference-far w before l h = rw (lt-leb (l - before) (256 ^ w - 1) h)
 
 -- ---- what goes through is what the positions give
 
@@ -47,7 +38,7 @@ follow w bound before js (suc d ∷ ds) s h =
     let g = f .below in
     let s0 = s .0 in
     let n : before + suc d - before ≡ suc d = omega arith in
-    let m : difference w before (before + suc d) ≡ suc d = difference-near w before (before + suc d) (omega arith) ∙ n in
+    let m : difference w before (before + suc d) ≡ suc d = fitting w before (before + suc d) (omega arith) ∙ n in
     record {
       below = omega arith;
       rising = (omega arith, g, f .rising);
@@ -61,7 +52,7 @@ follow w bound before (j ∷ js) (zero ∷ ds) s h =
     let f = follow w bound j js ds (s .1) (t .1) in
     let g = f .below in
     let s0 = s .0 in
-    let m : difference w before j ≡ 0 = difference-far w before j (omega arith) in
+    let m : difference w before j ≡ 0 = jump-is-zero w before j (omega arith) in
     record {
       below = omega arith;
       rising = (omega arith, g, f .rising);
@@ -96,12 +87,12 @@ through w bound before (l ∷ ls) h r =
     let r0 = r .0 in
     cases (leb (l - before) (256 ^ w - 1))
     (λ e.
-    let d : difference w before l ≡ suc (l - before - 1) = difference-near w before l (leb-true (l - before) (256 ^ w - 1) e) ∙ omega arith in
+    let d : difference w before l ≡ suc (l - before - 1) = fitting w before l (leb-true (l - before) (256 ^ w - 1) e) ∙ omega arith in
     let q : before + 256 ^ w + suc (l - before - 1) ≡ l + 256 ^ w = omega arith in
     rw (d, q) (through w bound l ls (r .1) (r .2)))
     (λ e.
     let k = leb-false (l - before) (256 ^ w - 1) e in
-    rw (difference-far w before l k, le-leb (before + 256 ^ w) l (omega arith)) (through w bound l ls (r .1) (r .2)))
+    rw (jump-is-zero w before l k, le-leb (before + 256 ^ w) l (omega arith)) (through w bound l ls (r .1) (r .2)))
 
 pub through-all : (w bound : ℕ) (ls : List ℕ) → Rising 0 bound ls → passesAll w bound (jumps w ls) (differences w ls) ≡ true
 unfolding passesAll passes differences jumps jumpsOf

@@ -1,2 +1,4 @@
 pub mod Pass
 pub mod Walk
+pub mod Steps
+pub mod Coding

@@ -1,14 +1,23 @@
--- Kind 4 as one pass goes through it. Assumes nothing.
-use Prim.Native.Nat.{ℕ, zero, suc, _+_, _-_, _*_, _^_}
+-- Jumps and differences as one pass goes through them. Assumes nothing.
+use Prim.Native.Nat.{ℕ, zero, suc, _+_, _-_, _*_, _^_, _≤_}
+use mathlib.Core.Path.{_≡_}
 use mathlib.Core.Bool.{Bool, false}
 use mathlib.Core.List.{List, [], _∷_}
-use lib.ListN.{drop}
+use lib.ListN.{length, drop}
 use lib.Dec.{leb, ltb, eqb}
 use Rattle.format.specs.declared.View.{View}
 use Rattle.format.specs.Tools.{both, first}
 use Rattle.format.specs.Bytes.{numbersOf}
-use Rattle.format.specs.File.{headerLength}
-use Rattle.header.specs.View.{secondPlace}
+
+-- jumps of 4 bytes in the first part, and in front of the second part a difference of 1 or 2 bytes for each stored word
+pub record Laid (b : List ℕ) (v : View) : Type 0 where
+  pub narrow : 1 ≤ v .width
+  pub wide : v .width ≤ 2
+  pub firsts : v .firsts ≤ v .words
+  pub cells : v .cells ≤ 16777216
+  pub words : v .words ≤ v .cells
+  pub place : v .second ≡ v .start + 4 * v .firsts
+  pub inside : v .second + v .width * v .words ≤ length b
 
 -- the entries from the i-th on, of a part of n entries of w bytes each that begins at `at`
 unfoldable pub entriesFrom : ℕ → ℕ → ℕ → ℕ → List ℕ → List ℕ
@@ -29,10 +38,10 @@ passesAll w bound js ds = both (eqb (first ds) 0) (passes w bound 0 js ds)
 
 -- the jumps from the i-th on, and the differences from rank r on, by a view
 unfoldable pub jumpsLeft : View → ℕ → List ℕ → List ℕ
-jumpsLeft v i b = entriesFrom 4 headerLength (v .firsts) i b
+jumpsLeft v i b = entriesFrom 4 (v .start) (v .firsts) i b
 
 unfoldable pub differencesLeft : View → ℕ → List ℕ → List ℕ
-differencesLeft v r b = entriesFrom (v .width) (secondPlace v) (v .words) r b
+differencesLeft v r b = entriesFrom (v .width) (v .second) (v .words) r b
 
 -- what is left of the pass after i ranks and t jumps
 unfoldable pub passesFrom : View → List ℕ → ℕ → ℕ → ℕ → Bool

@@ -1,4 +1,4 @@
--- A search of kind 4 as it goes from rank to rank, over any bytes. Assumes nothing.
+-- A search as it goes from rank to rank, over any bytes. Assumes nothing.
 use Prim.Native.Nat.{ℕ, zero, suc, _+_, _*_, _^_, _≤_, _<_}
 use mathlib.Core.Path.{_≡_}
 use mathlib.Core.Bool.{Bool, true, not}
@@ -8,9 +8,7 @@ use lib.Dec.{eqb}
 use Rattle.format.specs.declared.View.{View}
 use Rattle.format.specs.Tools.{pick, both}
 use Rattle.format.specs.Bytes.{field}
-use Rattle.format.specs.File.{headerLength}
 use Rattle.wire.specs.Wire.{whole}
-use Rattle.header.specs.Search.{ViewOf}
 use Rattle.jumps.specs.declared.search.Reached.{Reached}
 use Rattle.jumps.specs.declared.search.Place.{Place}
 
@@ -18,14 +16,14 @@ use Rattle.jumps.specs.declared.search.Place.{Place}
 unfoldable pub stepBy : ℕ → ℕ → Reached → Reached
 stepBy d l s = pick (eqb d 0) (record { position = l; taken = s .taken + 1 }) (record { position = s .position + d; taken = s .taken })
 
--- to rank r, whose difference has w bytes, in a second part that begins at `second`
-unfoldable pub stepped : ℕ → ℕ → List ℕ → ℕ → Reached → Reached
-stepped w second b r s = stepBy (field w (second + w * r) b) (whole 4 (headerLength + 4 * s .taken) b) s
+-- to rank r: the jumps begin at `start`, the differences, of w bytes each, at `second`
+unfoldable pub stepped : ℕ → ℕ → ℕ → List ℕ → ℕ → Reached → Reached
+stepped w start second b r s = stepBy (field w (second + w * r) b) (whole 4 (start + 4 * s .taken) b) s
 
 -- from rank r to the n-th rank after it
-unfoldable pub walked : ℕ → ℕ → List ℕ → ℕ → ℕ → Reached → Reached
-walked w second b r zero s = s
-walked w second b r (suc n) s = stepped w second b (r + suc n) (walked w second b r n s)
+unfoldable pub walked : ℕ → ℕ → ℕ → List ℕ → ℕ → ℕ → Reached → Reached
+walked w start second b r zero s = s
+walked w start second b r (suc n) s = stepped w start second b (r + suc n) (walked w start second b r n s)
 
 -- no jump is among the n differences after rank r
 unfoldable pub plain : ℕ → ℕ → List ℕ → ℕ → ℕ → Bool
@@ -50,13 +48,13 @@ pub record Room (w second : ℕ) (b : List ℕ) (r : ℕ) : Type 0 where
   pub rank : r < 2 ^ 32
 
 -- a walk from rank 0 on, at most to rank n: past rank 0 only below the target, and to rank n where no position is as far as the target
-pub record Stopped (w second : ℕ) (b : List ℕ) (n target : ℕ) (s : Reached) (t : Place) : Type 0 where
+pub record Stopped (w start second : ℕ) (b : List ℕ) (n target : ℕ) (s : Reached) (t : Place) : Type 0 where
   pub most : t .rank ≤ n
-  pub there : t .reached ≡ walked w second b 0 (t .rank) s
+  pub there : t .reached ≡ walked w start second b 0 (t .rank) s
   pub within : Within (t .rank + 1) (t .reached)
   pub below : 1 ≤ t .rank → t .reached .position < target
   pub all : 2 ^ 50 ≤ target → t .rank ≡ n
 
--- the width of an accepted file of kind 4
-pub record OfWidth (b : List ℕ) (v : View) (w : ℕ) : Type 0 where
-  pub width : v .kind ≡ 4 → ViewOf b v → v .width ≡ w
+-- the width of a view, where it is 1 or 2
+pub record OfWidth (v : View) (w : ℕ) : Type 0 where
+  pub width : 1 ≤ v .width → v .width ≤ 2 → v .width ≡ w

@@ -1,16 +1,14 @@
-// The searches of kind 4: one pass from rank 0 on, over any bytes and any view. Ranks are taken in groups.
+// The searches: one pass from rank 0 on, over any bytes and any view. Ranks are taken in groups.
 use super::check::difference;
 use format::Position;
-use format::PositionAnswer;
 use format::Rank;
-use format::RankAnswer;
 use format::View;
-use header::places::second_at;
+use parts::Found;
 use wire::load_u32;
 ghost use mathlib.Core.Path.{_≡_};
 ghost use Prim.Native.Nat.{_+_, _*_, _≤_, _<_};
-ghost use Rattle.format.specs.Answers.{rankSays, positionSays};
-ghost use Rattle.header.specs.Search.{KindRankSearched, KindPositionSearched};
+ghost use Rattle.format.specs.Jumps.{jumpsKind};
+ghost use Rattle.parts.specs.Found.{FoundIn, PositionIn};
 ghost use Rattle.jumps.specs.Walk.{stepped, walked, plain, total, Within, Room, Stopped, OfWidth};
 
 // A position that no walk reaches.
@@ -29,14 +27,14 @@ pub struct Place {
 }
 
 // To rank r from the rank before. The next jump is read in either case, so that a jump costs no mispredicted branch.
-fn advance(file: &[u8], second: usize, width: u32, r: usize, s: Reached) -> Reached
+fn advance(file: &[u8], start: u32, second: usize, width: u32, r: usize, s: Reached) -> Reached
     requires { ⌜ Room width second (now file) r × Within r s ⌝ }
-    ensures { λ t. ⌜ (t ≡ stepped width second (now (file .entry)) r s) × Within (r + 1) t ⌝ }
+    ensures { λ t. ⌜ (t ≡ stepped width start second (now (file .entry)) r s) × Within (r + 1) t ⌝ }
 {
     let position = s.position;
     let taken = s.taken;
     let d = difference(file, second, r, width) as usize;
-    let jump = load_u32(file, 52 + 4 * taken) as usize;
+    let jump = load_u32(file, start as usize + 4 * taken) as usize;
     if d != 0 {
         return Reached {
             position: position + d,
@@ -80,9 +78,17 @@ fn sum(file: &[u8], second: usize, width: u32, r: usize) -> u32
 }
 
 // From rank r to the n-th rank after it. A group of 32 without a jump is taken by its sum.
-fn walk_group(file: &[u8], second: usize, width: u32, r: usize, n: usize, s: Reached) -> Reached
+fn walk_group(
+    file: &[u8],
+    start: u32,
+    second: usize,
+    width: u32,
+    r: usize,
+    n: usize,
+    s: Reached,
+) -> Reached
     requires { ⌜ Room width second (now file) (r + n) × Within (r + 1) s ⌝ }
-    ensures { λ t. ⌜ (t ≡ walked width second (now (file .entry)) r n s) × Within (r + n + 1) t ⌝ }
+    ensures { λ t. ⌜ (t ≡ walked width start second (now (file .entry)) r n s) × Within (r + n + 1) t ⌝ }
 {
     if n == 32 {
         if no_jump(file, second, width, r) {
@@ -96,7 +102,7 @@ fn walk_group(file: &[u8], second: usize, width: u32, r: usize, n: usize, s: Rea
     let mut k: usize = 0;
     while k < n {
         k += 1;
-        t = advance(file, second, width, r + k, t);
+        t = advance(file, start, second, width, r + k, t);
     }
     t
 }
@@ -112,15 +118,23 @@ fn next_group(left: usize) -> usize
 }
 
 // From rank 0 on to rank n, group by group, as long as the position stays below the target.
-fn walk(file: &[u8], second: usize, width: u32, n: usize, target: usize, s: Reached) -> Place
+fn walk(
+    file: &[u8],
+    start: u32,
+    second: usize,
+    width: u32,
+    n: usize,
+    target: usize,
+    s: Reached,
+) -> Place
     requires { ⌜ Room width second (now file) n × Within 1 s ⌝ }
-    ensures { λ t. ⌜ Stopped width second (now (file .entry)) n target s t ⌝ }
+    ensures { λ t. ⌜ Stopped width start second (now (file .entry)) n target s t ⌝ }
 {
     let mut t = s;
     let mut r: usize = 0;
     while r < n {
         let m = next_group(n - r);
-        let next = walk_group(file, second, width, r, m, t);
+        let next = walk_group(file, start, second, width, r, m, t);
         if target <= next.position {
             return Place {
                 rank: r,
@@ -136,85 +150,99 @@ fn walk(file: &[u8], second: usize, width: u32, n: usize, target: usize, s: Reac
     }
 }
 
-// The rank at a position below cells. The width is 1 or 2; on an accepted file it is the view's. A file too short for its counts is not accepted.
-fn seek_rank(file: &[u8], v: View, width: u32, p: u32) -> RankAnswer
-    requires { ⌜ (1 ≤ width) × (width ≤ 2) × (p < v .cells) × OfWidth (now file) v width ⌝ }
-    ensures { λ r. ⌜ KindRankSearched 4 (now (file .entry)) v p (rankSays r) ⌝ }
+// The place of a position. The width is 1 or 2; on right parts it is the view's. A file too short for its counts has no right parts.
+fn seek(file: &[u8], v: View, width: u32, p: u32) -> Found
+    requires { ⌜ (1 ≤ width) × (width ≤ 2) × OfWidth v width ⌝ }
+    ensures { λ r. ⌜ FoundIn (jumpsKind (v .width) (v .step)) (now (file .entry)) v p r ⌝ }
 {
     if v.words == 0 {
-        return RankAnswer::Empty;
+        return Found {
+            below: 0,
+            here: false,
+        };
     }
-    let second = second_at(v);
+    let second = v.second as usize;
     if file.len() < second + width as usize * v.words as usize {
-        return RankAnswer::Empty;
+        return Found {
+            below: 0,
+            here: false,
+        };
     }
     let target = p as usize;
-    let start = Reached {
-        position: load_u32(file, 52) as usize,
+    let origin = Reached {
+        position: load_u32(file, v.start as usize) as usize,
         taken: 1,
     };
-    let place = walk(file, second, width, v.words as usize - 1, target, start);
+    let place = walk(
+        file,
+        v.start,
+        second,
+        width,
+        v.words as usize - 1,
+        target,
+        origin,
+    );
     let mut s = place.reached;
     let mut r = place.rank as u32;
     while s.position < target {
         r += 1;
         if r == v.words {
-            return RankAnswer::Empty;
+            return Found {
+                below: v.words,
+                here: false,
+            };
         }
-        s = advance(file, second, width, r as usize, s);
+        s = advance(file, v.start, second, width, r as usize, s);
     }
-    if s.position == target {
-        return RankAnswer::Rank(Rank(r));
+    Found {
+        below: r,
+        here: s.position == target,
     }
-    RankAnswer::Empty
 }
 
 // The position of a rank below the words, as above.
-fn seek_position(file: &[u8], v: View, width: u32, rank: u32) -> PositionAnswer
-    requires { ⌜ (1 ≤ width) × (width ≤ 2) × (rank < v .words) × OfWidth (now file) v width ⌝ }
-    ensures { λ a. ⌜ KindPositionSearched 4 (now (file .entry)) v rank (positionSays a) ⌝ }
+fn seek_position(file: &[u8], v: View, width: u32, rank: u32) -> u64
+    requires { ⌜ (1 ≤ width) × (width ≤ 2) × (rank < v .words) × OfWidth v width ⌝ }
+    ensures { λ q. ⌜ PositionIn (jumpsKind (v .width) (v .step)) (now (file .entry)) v rank q ⌝ }
 {
-    let second = second_at(v);
+    let second = v.second as usize;
     if file.len() < second + width as usize * v.words as usize {
-        return PositionAnswer::Refused(8);
+        return 0;
     }
-    let start = Reached {
-        position: load_u32(file, 52) as usize,
+    let origin = Reached {
+        position: load_u32(file, v.start as usize) as usize,
         taken: 1,
     };
-    let place = walk(file, second, width, rank as usize, NO_TARGET, start);
-    let s = place.reached;
-    let position = s.position;
-    if position < v.cells as usize {
-        return PositionAnswer::Position(Position(position as u32));
-    }
-    PositionAnswer::Refused(8)
+    let place = walk(
+        file,
+        v.start,
+        second,
+        width,
+        rank as usize,
+        NO_TARGET,
+        origin,
+    );
+    place.reached.position as u64
 }
 
-// The rank at a position: on any bytes and any view a rank below the words, "empty" or 8, and on an accepted file of kind 4 the picture's.
-pub fn rank_at(file: &[u8], v: View, p: Position) -> RankAnswer
-    ensures { λ r. ⌜ KindRankSearched 4 (now (file .entry)) v (p .0) (rankSays r) ⌝ }
+// How many stored positions are below a position, and whether it is one of them.
+pub fn find(file: &[u8], v: View, p: Position) -> Found
+    requires { ⌜ p .0 < v .cells ⌝ }
+    ensures { λ r. ⌜ FoundIn (jumpsKind (v .width) (v .step)) (now (file .entry)) v (p .0) r ⌝ }
 {
-    let wanted = p.0;
-    if v.cells <= wanted {
-        return RankAnswer::Refused(8);
-    }
     if v.width == 1 {
-        return seek_rank(file, v, 1, wanted);
+        return seek(file, v, 1, p.0);
     }
-    seek_rank(file, v, 2, wanted)
+    seek(file, v, 2, p.0)
 }
 
-// The position of a rank: on any bytes and any view one below cells, or 8, and on an accepted file of kind 4 the picture's.
-pub fn position_of(file: &[u8], v: View, r: Rank) -> PositionAnswer
-    ensures { λ a. ⌜ KindPositionSearched 4 (now (file .entry)) v (r .0) (positionSays a) ⌝ }
+// The position of a rank; any number over bytes that are no right parts.
+pub fn position_of(file: &[u8], v: View, r: Rank) -> u64
+    requires { ⌜ r .0 < v .words ⌝ }
+    ensures { λ q. ⌜ PositionIn (jumpsKind (v .width) (v .step)) (now (file .entry)) v (r .0) q ⌝ }
 {
-    let wanted = r.0;
-    if v.words <= wanted {
-        return PositionAnswer::Refused(8);
-    }
     if v.width == 1 {
-        return seek_position(file, v, 1, wanted);
+        return seek_position(file, v, 1, r.0);
     }
-    seek_position(file, v, 2, wanted)
+    seek_position(file, v, 2, r.0)
 }

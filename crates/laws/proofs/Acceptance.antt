@@ -14,20 +14,16 @@ use Rattle.format.specs.Bytes.{field}
 use Rattle.format.specs.declared.Dimensions.{Dimensions}
 use Rattle.format.specs.Picture.{cells, dimensionsAllowed}
 use Rattle.format.specs.Stored.{stored, placed}
-use Rattle.format.specs.Runs.{runParts, runsKind}
-use Rattle.format.specs.Positions.{positionParts, positionsKind}
-use Rattle.format.specs.BaseOffset.{basedParts, basedKind}
-use Rattle.format.specs.Jumps.{jumpParts, jumpsKind}
-use Rattle.format.specs.PagedRuns.{pagedParts, pagesKind}
 use Rattle.format.specs.declared.Setting.{Setting}
 use Rattle.format.specs.Kinds.{codec, kindAllowed, settingAllowed}
 use Rattle.format.specs.File.{headerLength, header, fileFrom, layout, HasFile}
 use Rattle.format.specs.Accepted.{SomePicture, settingOf, dimensionsOf, emptyOf, wordsCount, wordsAt, countsRight, positionsOf, keptOf, wordsOf, bodyRight, headerNumber, checkNumber}
-use Rattle.laws.proofs.Stored.{length-placed, below-placed}
+use Rattle.laws.proofs.Stored.{rising-stored, length-placed, below-placed}
 use Rattle.laws.proofs.Tools.{cases, both-true, not-false, refuse-zero, refuse-most, orElse-zero, orElse-small, same-true}
+use Rattle.laws.proofs.Limits.{small-dims}
+use Rattle.laws.proofs.Parts.{Known, known}
 use Rattle.laws.proofs.Files.{picture-accepted, setting-back, dims-back, empty-back}
 use Rattle.laws.proofs.Bytes.{below-append, below-drop, below-bytesOf, number-small, below-numbersOf}
-use Rattle.laws.proofs.Settings.{setting, by-kind}
 
 -- ---- the numbers, taken apart
 
@@ -76,44 +72,34 @@ accepted b h =
     record { header = t .0; body = not-false (bodyRight b) (refuse-zero 5 (not (bodyRight b)) _ (t .1) .0) }
 
 -- a file's bytes are below 256
-below-parts : (ls : List ℕ) (s : Setting) → settingAllowed s ≡ true → Below 256 (codec s .parts ls .first) × Below 256 (codec s .parts ls .second)
-unfolding codec runsKind positionsKind basedKind jumpsKind pagesKind runParts positionParts basedParts jumpParts pagedParts
-below-parts ls =
-    by-kind (λ (s : Setting). Below 256 (codec s .parts ls .first) × Below 256 (codec s .parts ls .second))
-    (record {
-      runs = (below-bytesOf 4 _, tt);
-      positions = (below-bytesOf 4 _, tt);
-      based = λ w l a b c e. (below-bytesOf 4 _, below-bytesOf w _);
-      jumps = λ w a b. (below-bytesOf 4 _, below-bytesOf w _);
-      paged = λ b a c. (below-bytesOf 4 _, below-bytesOf 4 _);
-    })
-
-below-layout : (s : Setting) (d : Dimensions) (E : ℕ) (ws : List ℕ) → settingAllowed s ≡ true → Below 256 (layout s d E ws)
+below-layout : (s : Setting) (d : Dimensions) (E : ℕ) (ws : List ℕ) → Known (codec s) (cells d) (stored E ws) → Below 256 (layout s d E ws)
 unfolding layout fileFrom header
 below-layout s d E ws h =
-    let p = below-parts (stored E ws) s h in
-    let p0 = p .0 in
-    let p1 = p .1 in
+    let p0 = h .first-small in
+    let p1 = h .second-small in
     search (below-append, below-bytesOf) depth 8
 
 -- ---- accepted exactly when some picture has the bytes
 
 pub accepted-has-file : (b : List ℕ) → checkNumber b ≡ 0 → HasFile (settingOf b) (dimensionsOf b) (emptyOf b) (wordsOf b) b
-unfolding wordsOf placed emptyOf keptOf field bodyRight
+unfolding wordsOf placed stored emptyOf keptOf field bodyRight
 accepted-has-file b h =
     let a = accepted b h in
     let r = header-right b (a .header) in
     let t = both-true (not (codec (settingOf b) .unfit (stored (emptyOf b) (wordsOf b)))) _ (a .body) in
     let file : layout (settingOf b) (dimensionsOf b) (emptyOf b) (wordsOf b) ≡ b = same-true _ b (t .1) in
-    let small : Below 256 b = subst (Below 256) file (below-layout (settingOf b) (dimensionsOf b) (emptyOf b) (wordsOf b) (r .setting)) in
+    let size : length (wordsOf b) ≡ cells (dimensionsOf b) = length-placed (emptyOf b) 0 (cells (dimensionsOf b)) (positionsOf b) (keptOf b) in
+    let fits = not-true (codec (settingOf b) .unfit (stored (emptyOf b) (wordsOf b))) (t .0) in
+    let kn = known (cells (dimensionsOf b)) (stored (emptyOf b) (wordsOf b)) (small-dims (dimensionsOf b) (r .dims) .most) (rising-stored (emptyOf b) 0 (cells (dimensionsOf b)) (wordsOf b) (omega arith)) (settingOf b) (r .setting) fits in
+    let small : Below 256 b = subst (Below 256) file (below-layout (settingOf b) (dimensionsOf b) (emptyOf b) (wordsOf b) kn) in
     let e : emptyOf b < 256 ^ 4 = number-small 4 (drop 20 b) (below-drop 256 20 b small) in
     record {
       setting = r .setting;
       dims = r .dims;
       empty = e;
       words = below-placed (256 ^ 4) (emptyOf b) 0 (cells (dimensionsOf b)) (positionsOf b) (keptOf b) e (below-numbersOf 4 (wordsCount b) (drop (wordsAt b) b) (below-drop 256 (wordsAt b) b small));
-      size = length-placed (emptyOf b) 0 (cells (dimensionsOf b)) (positionsOf b) (keptOf b);
-      fits = not-true (codec (settingOf b) .unfit (stored (emptyOf b) (wordsOf b))) (t .0);
+      size = size;
+      fits = fits;
       file = file;
     }
 

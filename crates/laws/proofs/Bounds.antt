@@ -4,7 +4,7 @@ use mathlib.Core.Path.{_≡_, refl, sym, ap, _∙_}
 use mathlib.Core.Bool.{true, false, not}
 use mathlib.Core.List.{List, [], _∷_}
 use native.Mathlib.Numerals.{add-one}
-use native.Mathlib.Nat.{lt-of-not-le, div-mul-le-self, mul-le-mul-left, le-of-suc-le-suc, suc-mul, mul-le-mul, mul-one, le-refl, one-le-pow, zero-lt-suc, div-eq-of-lt, add-div-right, div-lt-iff-lt-mul, suc-sub-suc, zero-sub, sub-zero, sub-add-cancel}
+use native.Mathlib.Nat.{lt-of-not-le, div-mul-le-self, mul-le-mul-left, le-of-suc-le-suc, suc-mul, mul-le-mul, mul-one, le-refl, one-le-pow, zero-lt-suc, div-eq-of-lt, add-div-right, div-lt-iff-lt-mul, le-div-iff-mul-le, suc-sub-suc, zero-sub, sub-zero, sub-add-cancel}
 use native.Mathlib.Decide.{decLe}
 use native.Mathlib.Omega.{arith}
 use lib.ListN.{length, getD, length-append}
@@ -27,6 +27,11 @@ below-rising a B (l ∷ ls) r = (r .1, below-rising (suc l) B ls (r .2))
 pub below-widen : (B C : ℕ) (xs : List ℕ) → B ≤ C → Below B xs → Below C xs
 below-widen B C [] h r = tt
 below-widen B C (x ∷ xs) h r = (omega arith, below-widen B C xs h (r .1))
+
+-- from the elements of a list
+pub below-elements : (m : ℕ) (b : List ℕ) → ((i : ℕ) → getD b i 0 < m) → Below m b
+below-elements m [] h = tt
+below-elements m (x ∷ b) h = (h 0, below-elements m b (λ i. h (suc i)))
 
 pub below-getD : (B : ℕ) (xs : List ℕ) (i : ℕ) → 0 < B → Below B xs → getD xs i 0 < B
 below-getD B [] i h r = h
@@ -62,6 +67,13 @@ below-offsets w l ls h = below-every w (offsets l ls) h
 
 pub upTo-le : (n l : ℕ) → 1 ≤ l → upTo n l ≤ n
 upTo-le n l h = le-of-suc-le-suc (div-lt-iff-lt-mul h .1 (rw suc-mul (omega (arith, mul-le-mul (le-refl n) h, mul-one n))))
+
+-- an index below the number of groups is that of a group's first element, and the other way round
+pub index-inside : (l n j : ℕ) → 1 ≤ l → j < upTo n l → j * l < n
+index-inside l n j h k = let e = suc-mul j l in let z : suc j * l ≤ n + (l - 1) = le-div-iff-mul-le h .0 k in omega arith
+
+pub inside-index : (l n j : ℕ) → 1 ≤ l → j * l < n → j < upTo n l
+inside-index l n j h k = le-div-iff-mul-le h .1 (rw suc-mul (omega arith))
 
 -- ---- kind 4
 

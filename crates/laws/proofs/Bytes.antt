@@ -71,3 +71,8 @@ pub below-numbersOf : (w n : ℕ) (b : List ℕ) → Below 256 b → Below (256 
 unfolding numbersOf
 below-numbersOf w zero b h = tt
 below-numbersOf w (suc n) b h = (number-small w b h, below-numbersOf w n (drop w b) (below-drop 256 w b h))
+
+pub bytes-append : (w : ℕ) (xs ys : List ℕ) → bytesOf w (xs ++ ys) ≡ bytesOf w xs ++ bytesOf w ys
+unfolding bytesOf
+bytes-append w [] ys = refl
+bytes-append w (x ∷ xs) ys = rw (bytes-append w xs ys) (sym (append-assoc (bytes w x) (bytesOf w xs) (bytesOf w ys)))

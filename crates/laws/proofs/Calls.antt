@@ -14,7 +14,8 @@ use Rattle.format.specs.Bytes.{field, number}
 use Rattle.format.specs.declared.Dimensions.{Dimensions}
 use Rattle.format.specs.Picture.{cells, dimensionsAllowed}
 use Rattle.format.specs.Stored.{stored}
-use Rattle.format.specs.File.{layout, HasFile}
+use Rattle.format.specs.File.{headerLength, layout, HasFile}
+use Rattle.format.specs.Accepted.{lengthField}
 use Rattle.format.specs.declared.Setting.{Setting}
 use Rattle.format.specs.Kinds.{codec, kindAllowed, settingAllowed}
 use Rattle.format.specs.Answers.{Answer}
@@ -22,10 +23,10 @@ use Rattle.format.specs.Calls.{outNumber, settingNumber, makeNumber, writeSigna
 use Rattle.format.specs.Lookups.{cellIn, rankIn, positionIn, cellAnswer, rankAnswer, positionAnswer}
 use Rattle.format.specs.Demand3.{fileIn}
 use Rattle.laws.proofs.Tools.{refuse-zero, not-false}
-use Rattle.laws.proofs.Files.{setting-back, dims-back, empty-back, words-back, picture-accepted, length-at-48, at-least-52}
+use Rattle.laws.proofs.Files.{setting-back, dims-back, empty-back, words-back, picture-accepted, length-field, header-there}
 
-field-front : (b more : List ℕ) → 52 ≤ length b → field 4 48 (b ++ more) ≡ field 4 48 b
-unfolding field
+field-front : (b more : List ℕ) → headerLength ≤ length b → lengthField (b ++ more) ≡ lengthField b
+unfolding field lengthField
 field-front b more h =
     let k1 : 48 ≤ length b = omega arith in
     let k2 : 4 ≤ length (drop 48 b) = rw (length-drop 48 b) (omega arith) in
@@ -67,7 +68,7 @@ module _ (s : Setting) (d : Dimensions) (E : ℕ) (ws b : List ℕ) (h : HasFile
   -- the file at the front of a destination
   pub file-in : (more : List ℕ) → fileIn (b ++ more) ≡ b
   unfolding fileIn
-  file-in more = rw (field-front b more (at-least-52 s d E ws b h), length-at-48 s d E ws b h) (take-at b more (length b) refl)
+  file-in more = rw (field-front b more (header-there s d E ws b h), length-field s d E ws b h) (take-at b more (length b) refl)
 
 -- ---- an accepted call: the picture afterwards has its file
 

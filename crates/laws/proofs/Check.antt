@@ -17,8 +17,8 @@ use Rattle.format.specs.Picture.{cells}
 use Rattle.format.specs.Stored.{stored, kept, placed}
 use Rattle.format.specs.declared.Setting.{Setting}
 use Rattle.format.specs.Kinds.{codec}
-use Rattle.format.specs.File.{Counts, countsOf, header, fileFrom, layout, HasFile}
-use Rattle.format.specs.Accepted.{settingOf, dimensionsOf, emptyOf, wordsCount, firstCount, secondCount, secondAt, wordsAt, endAt, countsRight, positionsOf, keptOf, wordsOf, bodyRight}
+use Rattle.format.specs.File.{headerLength, Counts, countsOf, header, fileFrom, layout, HasFile}
+use Rattle.format.specs.Accepted.{settingOf, dimensionsOf, emptyOf, wordsCount, firstCount, secondCount, firstOffset, secondOffset, wordsOffset, lengthField, secondAt, wordsAt, endAt, countsRight, positionsOf, keptOf, wordsOf, bodyRight}
 use Rattle.laws.proofs.Stored.{Rising, stored-placed, Apart, rising-stored, length-stored}
 use Rattle.laws.proofs.Tools.{cases, both-true, same-refl}
 use Rattle.laws.proofs.Bytes.{below-drop}
@@ -46,11 +46,11 @@ bytesOf-numbersOf w (suc n) b s h =
     rw (bytes-number w b s (omega arith), bytesOf-numbersOf w n (drop w b) (below-drop 256 w b s) k, e, take-add w (w * n) b)
 
 -- the header again from what is read of it
-pub record Same52 (b : List ℕ) : Type 0 where
-  pub first-at : field 4 36 b ≡ 52
-  pub second-at : field 4 40 b ≡ secondAt b
-  pub words-at : field 4 44 b ≡ wordsAt b
-  pub end : field 4 48 b ≡ endAt b
+pub record Same (b : List ℕ) : Type 0 where
+  pub first-at : firstOffset b ≡ headerLength
+  pub second-at : secondOffset b ≡ secondAt b
+  pub words-at : wordsOffset b ≡ wordsAt b
+  pub end : lengthField b ≡ endAt b
 
 read-counts : List ℕ → Counts
 read-counts b =
@@ -58,8 +58,8 @@ read-counts b =
       words = wordsCount b;
       firstCount = firstCount b;
       secondCount = secondCount b;
-      firstBytes = codec (settingOf b) .firstSize * firstCount b;
-      secondBytes = codec (settingOf b) .secondSize * secondCount b;
+      firstBytes = codec (settingOf b) .firstBytes (firstCount b) (secondCount b);
+      secondBytes = codec (settingOf b) .secondBytes (firstCount b) (secondCount b);
     }
 
 four : (b : List ℕ) → numbersOf 1 4 b ≡ field 1 0 b ∷ field 1 1 b ∷ field 1 2 b ∷ field 1 3 b ∷ []
@@ -76,8 +76,8 @@ tail-fields : (a b c d : ℕ) {x y z u x′ y′ z′ u′ : ℕ} → x ≡ x′
     → bytesOf 4 (a ∷ b ∷ c ∷ d ∷ x ∷ y ∷ z ∷ u ∷ []) ≡ bytesOf 4 (a ∷ b ∷ c ∷ d ∷ x′ ∷ y′ ∷ z′ ∷ u′ ∷ [])
 tail-fields a b c d p q r t = cc
 
-header-back : (b : List ℕ) → Below 256 b → 52 ≤ length b → Same52 b → header (settingOf b) (dimensionsOf b) (emptyOf b) (read-counts b) ≡ take 52 b
-unfolding header read-counts settingOf dimensionsOf emptyOf wordsCount firstCount secondCount secondAt wordsAt endAt
+header-back : (b : List ℕ) → Below 256 b → headerLength ≤ length b → Same b → header (settingOf b) (dimensionsOf b) (emptyOf b) (read-counts b) ≡ take headerLength b
+unfolding header read-counts settingOf dimensionsOf emptyOf wordsCount firstCount secondCount firstOffset secondOffset wordsOffset lengthField secondAt wordsAt endAt
 header-back b s h e =
     let g1 : bytesOf 1 (field 1 0 b ∷ field 1 1 b ∷ field 1 2 b ∷ field 1 3 b ∷ []) ≡ take 4 b
     = ap (bytesOf 1) (sym (four b)) ∙ bytesOf-numbersOf 1 4 b s (omega arith) in
@@ -85,10 +85,10 @@ header-back b s h e =
     = bytesOf-numbersOf 4 4 (drop 4 b) (below-drop 256 4 b s) (rw (length-drop 4 b) (omega arith)) in
     let g3 : bytesOf 4 (field 4 20 b ∷ field 4 24 b ∷ field 4 28 b ∷ field 4 32 b ∷ field 4 36 b ∷ field 4 40 b ∷ field 4 44 b ∷ field 4 48 b ∷ []) ≡ take 32 (drop 20 b)
     = ap (bytesOf 4) (sym (eight b)) ∙ bytesOf-numbersOf 4 8 (drop 20 b) (below-drop 256 20 b s) (rw (length-drop 20 b) (omega arith)) in
-    let g4 : bytesOf 4 (field 4 20 b ∷ field 4 24 b ∷ field 4 28 b ∷ field 4 32 b ∷ 52 ∷ secondAt b ∷ wordsAt b ∷ endAt b ∷ []) ≡ take 32 (drop 20 b)
+    let g4 : bytesOf 4 (field 4 20 b ∷ field 4 24 b ∷ field 4 28 b ∷ field 4 32 b ∷ headerLength ∷ secondAt b ∷ wordsAt b ∷ endAt b ∷ []) ≡ take 32 (drop 20 b)
     = tail-fields (field 4 20 b) (field 4 24 b) (field 4 28 b) (field 4 32 b) (sym (e .first-at)) (sym (e .second-at)) (sym (e .words-at)) (sym (e .end)) ∙ g3 in
     let t1 : take 20 b ≡ take 4 b ++ take 16 (drop 4 b) = take-add 4 16 b in
-    let t2 : take 52 b ≡ take 20 b ++ take 32 (drop 20 b) = take-add 20 32 b in
+    let t2 : take headerLength b ≡ take 20 b ++ take 32 (drop 20 b) = take-add 20 32 b in
     join g1 g2 g4 ∙ sym (t2 ∙ ap (λ (x : List ℕ). x ++ take 32 (drop 20 b)) t1)
   where
     join : {x y z x′ y′ z′ : List ℕ} → x ≡ x′ → y ≡ y′ → z ≡ z′ → x ++ y ++ z ≡ x′ ++ y′ ++ z′
@@ -101,34 +101,34 @@ pub record BodyBy (b : List ℕ) : Type 0 where
   pub apart : Apart (emptyOf b) (keptOf b)
   pub size : length (positionsOf b) ≡ wordsCount b
   pub fits : codec (settingOf b) .unfit (positionsOf b) ≡ false
-  pub first-count : codec (settingOf b) .parts (positionsOf b) .firstCount ≡ firstCount b
-  pub second-count : codec (settingOf b) .parts (positionsOf b) .secondCount ≡ secondCount b
-  pub first : codec (settingOf b) .parts (positionsOf b) .first ≡ take (codec (settingOf b) .firstSize * firstCount b) (drop 52 b)
-  pub second : codec (settingOf b) .parts (positionsOf b) .second ≡ take (codec (settingOf b) .secondSize * secondCount b) (drop (secondAt b) b)
+  pub first-count : codec (settingOf b) .parts (cells (dimensionsOf b)) (positionsOf b) .firstCount ≡ firstCount b
+  pub second-count : codec (settingOf b) .parts (cells (dimensionsOf b)) (positionsOf b) .secondCount ≡ secondCount b
+  pub first : codec (settingOf b) .parts (cells (dimensionsOf b)) (positionsOf b) .first ≡ take (codec (settingOf b) .firstBytes (firstCount b) (secondCount b)) (drop headerLength b)
+  pub second : codec (settingOf b) .parts (cells (dimensionsOf b)) (positionsOf b) .second ≡ take (codec (settingOf b) .secondBytes (firstCount b) (secondCount b)) (drop (secondAt b) b)
 
 -- the counts that signal 5 finds right
 pub record CountsBy (b : List ℕ) : Type 0 where
   pub words-most : wordsCount b ≤ cells (dimensionsOf b)
-  pub fields : Same52 b
+  pub fields : Same b
   pub size : length b ≡ endAt b
 
 pub counts-by : (b : List ℕ) → countsRight b ≡ true → CountsBy b
 unfolding countsRight
 counts-by b h =
     let t1 = both-true (leb (wordsCount b) (cells (dimensionsOf b))) _ h in
-    let t2 = both-true (codec (settingOf b) .counts (wordsCount b) (firstCount b) (secondCount b)) _ (t1 .1) in
-    let t3 = both-true (eqb (field 4 36 b) 52) _ (t2 .1) in
-    let t4 = both-true (eqb (field 4 40 b) (secondAt b)) _ (t3 .1) in
-    let t5 = both-true (eqb (field 4 44 b) (wordsAt b)) _ (t4 .1) in
-    let t6 = both-true (eqb (field 4 48 b) (endAt b)) _ (t5 .1) in
+    let t2 = both-true (codec (settingOf b) .counts (cells (dimensionsOf b)) (wordsCount b) (firstCount b) (secondCount b)) _ (t1 .1) in
+    let t3 = both-true (eqb (firstOffset b) headerLength) _ (t2 .1) in
+    let t4 = both-true (eqb (secondOffset b) (secondAt b)) _ (t3 .1) in
+    let t5 = both-true (eqb (wordsOffset b) (wordsAt b)) _ (t4 .1) in
+    let t6 = both-true (eqb (lengthField b) (endAt b)) _ (t5 .1) in
     record {
       words-most = leb-true (wordsCount b) (cells (dimensionsOf b)) (t1 .0);
       fields =
           record {
-            first-at = eqb-true (field 4 36 b) 52 (t3 .0);
-            second-at = eqb-true (field 4 40 b) (secondAt b) (t4 .0);
-            words-at = eqb-true (field 4 44 b) (wordsAt b) (t5 .0);
-            end = eqb-true (field 4 48 b) (endAt b) (t6 .0);
+            first-at = eqb-true (firstOffset b) headerLength (t3 .0);
+            second-at = eqb-true (secondOffset b) (secondAt b) (t4 .0);
+            words-at = eqb-true (wordsOffset b) (wordsAt b) (t5 .0);
+            end = eqb-true (lengthField b) (endAt b) (t6 .0);
           };
       size = eqb-true (length b) (endAt b) (t6 .1);
     }
@@ -150,19 +150,19 @@ counts-path : {a b c d e a′ b′ c′ d′ e′ : ℕ} → a ≡ a′ → b �
     (record { words = a′; firstCount = b′; secondCount = c′; firstBytes = d′; secondBytes = e′ })
 counts-path p q r s t = cc
 
-module _ (b : List ℕ) (s : Below 256 b) (h : 52 ≤ length b) (k : CountsBy b) (y : BodyBy b) where
-  ends : length b ≡ 52 + codec (settingOf b) .firstSize * firstCount b + codec (settingOf b) .secondSize * secondCount b + 4 * wordsCount b
+module _ (b : List ℕ) (s : Below 256 b) (h : headerLength ≤ length b) (k : CountsBy b) (y : BodyBy b) where
+  ends : length b ≡ headerLength + codec (settingOf b) .firstBytes (firstCount b) (secondCount b) + codec (settingOf b) .secondBytes (firstCount b) (secondCount b) + 4 * wordsCount b
   unfolding endAt wordsAt secondAt
   ends = k .size
 
-  long-first : length (codec (settingOf b) .parts (positionsOf b) .first) ≡ codec (settingOf b) .firstSize * firstCount b
-  long-first = rw (y .first) (length-take-le (codec (settingOf b) .firstSize * firstCount b) (drop 52 b) (rw (length-drop 52 b) (omega (arith, ends))))
+  long-first : length (codec (settingOf b) .parts (cells (dimensionsOf b)) (positionsOf b) .first) ≡ codec (settingOf b) .firstBytes (firstCount b) (secondCount b)
+  long-first = rw (y .first) (length-take-le (codec (settingOf b) .firstBytes (firstCount b) (secondCount b)) (drop headerLength b) (rw (length-drop headerLength b) (omega (arith, ends))))
 
-  long-second : length (codec (settingOf b) .parts (positionsOf b) .second) ≡ codec (settingOf b) .secondSize * secondCount b
+  long-second : length (codec (settingOf b) .parts (cells (dimensionsOf b)) (positionsOf b) .second) ≡ codec (settingOf b) .secondBytes (firstCount b) (secondCount b)
   unfolding secondAt
   long-second =
       rw (y .second)
-      (length-take-le (codec (settingOf b) .secondSize * secondCount b) (drop (secondAt b) b) (rw (length-drop (secondAt b) b) (omega (arith, ends))))
+      (length-take-le (codec (settingOf b) .secondBytes (firstCount b) (secondCount b)) (drop (secondAt b) b) (rw (length-drop (secondAt b) b) (omega (arith, ends))))
 
   words-again : bytesOf 4 (keptOf b) ≡ take (4 * wordsCount b) (drop (wordsAt b) b)
   unfolding keptOf wordsAt secondAt
@@ -173,13 +173,13 @@ module _ (b : List ℕ) (s : Below 256 b) (h : 52 ≤ length b) (k : CountsBy b)
   unfolding keptOf
   length-keptOf = length-numbersOf 4 (wordsCount b) (drop (wordsAt b) b)
 
-  file-again : fileFrom (settingOf b) (dimensionsOf b) (emptyOf b) (codec (settingOf b) .parts (positionsOf b)) (keptOf b) ≡ b
+  file-again : fileFrom (settingOf b) (dimensionsOf b) (emptyOf b) (codec (settingOf b) .parts (cells (dimensionsOf b)) (positionsOf b)) (keptOf b) ≡ b
   unfolding fileFrom read-counts secondAt wordsAt
   file-again =
-      let e : countsOf (length (keptOf b)) (codec (settingOf b) .parts (positionsOf b)) ≡ read-counts b
+      let e : countsOf (length (keptOf b)) (codec (settingOf b) .parts (cells (dimensionsOf b)) (positionsOf b)) ≡ read-counts b
       = counts-path length-keptOf (y .first-count) (y .second-count) long-first long-second in
       rw (e, header-back b s h (k .fields), y .first, y .second, words-again)
-      (four-pieces b 52 (codec (settingOf b) .firstSize * firstCount b) (codec (settingOf b) .secondSize * secondCount b) (4 * wordsCount b) ends)
+      (four-pieces b headerLength (codec (settingOf b) .firstBytes (firstCount b) (secondCount b)) (codec (settingOf b) .secondBytes (firstCount b) (secondCount b)) (4 * wordsCount b) ends)
 
   placed-again : (stored (emptyOf b) (wordsOf b) ≡ positionsOf b) × (kept (emptyOf b) (wordsOf b) ≡ keptOf b)
   unfolding wordsOf placed stored
@@ -217,8 +217,8 @@ by-body s d E ws b h =
       apart = rw (o, v) (apart-kept E ws);
       size = rw (p, words-count-back s d E ws b h) (length-stored E 0 ws);
       fits = rw (q, p) (h .fits);
-      first-count = rw (q, p, c1);
-      second-count = rw (q, p, c2);
-      first = rw (q, p, c1, from-first s d E ws b h) (sym (take-at _ (codec s .parts (stored E ws) .second ++ bytesOf 4 (kept E ws)) _ (first-size-back s d E ws b h)));
-      second = rw (q, p, c2, from-second s d E ws b h) (sym (take-at _ (bytesOf 4 (kept E ws)) _ (second-size-back s d E ws b h)));
+      first-count = rw (q, p, z, c1);
+      second-count = rw (q, p, z, c2);
+      first = rw (q, p, z, c1, c2, from-first s d E ws b h) (sym (take-at _ (codec s .parts (cells d) (stored E ws) .second ++ bytesOf 4 (kept E ws)) _ (first-size-back s d E ws b h)));
+      second = rw (q, p, z, c1, c2, from-second s d E ws b h) (sym (take-at _ (bytesOf 4 (kept E ws)) _ (second-size-back s d E ws b h)));
     }

@@ -47,11 +47,11 @@ rising-next a B r (l ∷ []) o h = absurd (omega arith)
 rising-next a B zero (l ∷ m ∷ ls) o h = o .2 .0
 rising-next a B (suc r) (l ∷ m ∷ ls) o h = rising-next (suc l) B r (m ∷ ls) (o .2) (omega arith)
 
-jump-is-zero : (w before l : ℕ) → 256 ^ w - 1 < l - before → difference w before l ≡ 0
+pub jump-is-zero : (w before l : ℕ) → 256 ^ w - 1 < l - before → difference w before l ≡ 0
 unfolding difference
 jump-is-zero w before l h = cases (leb (l - before) (256 ^ w - 1)) (λ e. absurd (omega (arith, leb-true (l - before) (256 ^ w - 1) e))) (λ e. rw e)
 
-fitting : (w before l : ℕ) → l - before ≤ 256 ^ w - 1 → difference w before l ≡ l - before
+pub fitting : (w before l : ℕ) → l - before ≤ 256 ^ w - 1 → difference w before l ≡ l - before
 unfolding difference
 fitting w before l h = rw (le-leb (l - before) (256 ^ w - 1) h)
 

@@ -9,32 +9,32 @@ use lib.ListN.{length, drop, length-append}
 use lib.Seq.{drop-at, drop-drop}
 use lib.Dec.{eqb, leb, ltb}
 use borrow.Author.Tests.{eq-eqb, le-leb, le-ltb}
-use Rattle.format.specs.Bytes.{bytesOf, field, numbersOf}
+use Rattle.format.specs.Bytes.{bytesOf, numbersOf}
 use Rattle.format.specs.declared.Dimensions.{Dimensions}
 use Rattle.format.specs.Picture.{cells, dimensionsAllowed}
 use Rattle.format.specs.Stored.{stored, kept, placed}
 use Rattle.format.specs.declared.Setting.{Setting}
 use Rattle.format.specs.Kinds.{codec, kindAllowed, settingAllowed}
-use Rattle.format.specs.File.{Counts, countsOf, header, fileFrom, layout, HasFile}
-use Rattle.format.specs.Accepted.{settingOf, dimensionsOf, emptyOf, wordsCount, firstCount, secondCount, secondAt, wordsAt, endAt, countsRight, positionsOf, keptOf, wordsOf, bodyRight, headerNumber, checkNumber}
+use Rattle.format.specs.File.{headerLength, Counts, countsOf, header, fileFrom, layout, HasFile}
+use Rattle.format.specs.Accepted.{settingOf, dimensionsOf, emptyOf, wordsCount, firstCount, secondCount, firstOffset, secondOffset, wordsOffset, lengthField, secondAt, wordsAt, endAt, countsRight, positionsOf, keptOf, wordsOf, bodyRight, headerNumber, checkNumber}
 use Rattle.laws.proofs.Stored.{Rising, rising-stored, length-stored, length-kept-le, placed-stored, below-kept}
 use Rattle.laws.proofs.Tools.{both-make, same-refl}
 use Rattle.laws.proofs.Bytes.{length-bytesOf, numbersOf-bytesOf}
-use Rattle.laws.proofs.Settings.{setting}
+use Rattle.laws.proofs.Settings.{setting, small-setting}
 use Rattle.laws.proofs.Parts.{Known, known}
 use Rattle.laws.proofs.Header.{Small, Read, read-header}
-use Rattle.laws.proofs.Limits.{small-setting, small-dims}
+use Rattle.laws.proofs.Limits.{small-dims}
 
 module _ (s : Setting) (d : Dimensions) (E : ℕ) (ws b : List ℕ) (h : HasFile s d E ws b) where
   -- the two parts' bytes
   abbrev part1 : List ℕ
-  part1 = codec s .parts (stored E ws) .first
+  part1 = codec s .parts (cells d) (stored E ws) .first
 
   abbrev part2 : List ℕ
-  part2 = codec s .parts (stored E ws) .second
+  part2 = codec s .parts (cells d) (stored E ws) .second
 
   counts : Counts
-  counts = countsOf (length (kept E ws)) (codec s .parts (stored E ws))
+  counts = countsOf (length (kept E ws)) (codec s .parts (cells d) (stored E ws))
 
   body : List ℕ
   body = part1 ++ (part2 ++ bytesOf 4 (kept E ws))
@@ -47,7 +47,7 @@ module _ (s : Setting) (d : Dimensions) (E : ℕ) (ws b : List ℕ) (h : HasFile
   unfolding stored
   same-length = length-stored E 0 ws
 
-  kn : Known (codec s) (stored E ws)
+  kn : Known (codec s) (cells d) (stored E ws)
   kn = known (cells d) (stored E ws) (small-dims d (h .dims) .most) rising s (h .setting) (h .fits)
 
   small : Small s d E counts
@@ -85,28 +85,28 @@ module _ (s : Setting) (d : Dimensions) (E : ℕ) (ws b : List ℕ) (h : HasFile
   rd = subst (λ (x : List ℕ). Read s d E counts body x) (sym split) (read-header s d E counts body small)
 
   -- where the parts stand
-  second-starts : secondAt b ≡ 52 + length part1
+  second-starts : secondAt b ≡ headerLength + length part1
   unfolding secondAt counts
-  second-starts = rw (rd .setting, rd .first, kn .first-size)
+  second-starts = rw (rd .setting, rd .first, rd .second, kn .first-size)
 
-  words-start : wordsAt b ≡ 52 + length part1 + length part2
+  words-start : wordsAt b ≡ headerLength + length part1 + length part2
   unfolding wordsAt counts
-  words-start = rw (second-starts, rd .setting, rd .second, kn .second-size)
+  words-start = rw (second-starts, rd .setting, rd .first, rd .second, kn .second-size)
 
-  ends : endAt b ≡ 52 + length part1 + length part2 + 4 * length (kept E ws)
+  ends : endAt b ≡ headerLength + length part1 + length part2 + 4 * length (kept E ws)
   unfolding endAt counts
   ends = rw (words-start, rd .words)
 
   pub from-second : drop (secondAt b) b ≡ part2 ++ bytesOf 4 (kept E ws)
   unfolding body
-  from-second = rw (second-starts, ← drop-drop (length part1) 52 b, rd .rest) (drop-at part1 (part2 ++ bytesOf 4 (kept E ws)) (length part1) refl)
+  from-second = rw (second-starts, ← drop-drop (length part1) headerLength b, rd .rest) (drop-at part1 (part2 ++ bytesOf 4 (kept E ws)) (length part1) refl)
 
   pub from-words : drop (wordsAt b) b ≡ bytesOf 4 (kept E ws)
   from-words =
-      rw (words-start, ← drop-drop (length part2) (52 + length part1) b, ← second-starts, from-second)
+      rw (words-start, ← drop-drop (length part2) (headerLength + length part1) b, ← second-starts, from-second)
       (drop-at part2 (bytesOf 4 (kept E ws)) (length part2) refl)
 
-  pub from-first : drop 52 b ≡ part1 ++ (part2 ++ bytesOf 4 (kept E ws))
+  pub from-first : drop headerLength b ≡ part1 ++ (part2 ++ bytesOf 4 (kept E ws))
   unfolding body
   from-first = rd .rest
 
@@ -129,18 +129,18 @@ module _ (s : Setting) (d : Dimensions) (E : ℕ) (ws b : List ℕ) (h : HasFile
   unfolding counts
   words-count-back = rd .words
 
-  pub first-count-back : firstCount b ≡ codec s .parts (stored E ws) .firstCount
+  pub first-count-back : firstCount b ≡ codec s .parts (cells d) (stored E ws) .firstCount
   unfolding counts
   first-count-back = rd .first
 
-  pub second-count-back : secondCount b ≡ codec s .parts (stored E ws) .secondCount
+  pub second-count-back : secondCount b ≡ codec s .parts (cells d) (stored E ws) .secondCount
   unfolding counts
   second-count-back = rd .second
 
-  pub first-size-back : length part1 ≡ codec s .firstSize * codec s .parts (stored E ws) .firstCount
+  pub first-size-back : length part1 ≡ codec s .firstBytes (codec s .parts (cells d) (stored E ws) .firstCount) (codec s .parts (cells d) (stored E ws) .secondCount)
   first-size-back = kn .first-size
 
-  pub second-size-back : length part2 ≡ codec s .secondSize * codec s .parts (stored E ws) .secondCount
+  pub second-size-back : length part2 ≡ codec s .secondBytes (codec s .parts (cells d) (stored E ws) .firstCount) (codec s .parts (cells d) (stored E ws) .secondCount)
   second-size-back = kn .second-size
 
   pub setting-back : settingOf b ≡ s
@@ -156,8 +156,8 @@ module _ (s : Setting) (d : Dimensions) (E : ℕ) (ws b : List ℕ) (h : HasFile
   unfolding body
   length-body = simp (length-append, length-bytesOf) (omega arith)
 
-  long : ltb (length b) 52 ≡ false
-  long = le-ltb (length b) 52 (omega (arith, rd .size))
+  long : ltb (length b) headerLength ≡ false
+  long = le-ltb (length b) headerLength (omega (arith, rd .size))
 
   kind-right : kindAllowed (settingOf b) ≡ true
   unfolding kindAllowed
@@ -176,12 +176,12 @@ module _ (s : Setting) (d : Dimensions) (E : ℕ) (ws b : List ℕ) (h : HasFile
   counts-right =
       let n : length (kept E ws) ≤ cells d = omega (arith, length-kept-le E ws, h .size) in
       let e1 : leb (wordsCount b) (cells (dimensionsOf b)) ≡ true = rw (rd .words, rd .dims) (le-leb (length (kept E ws)) (cells d) n) in
-      let e2 : codec (settingOf b) .counts (wordsCount b) (firstCount b) (secondCount b) ≡ true
-      = rw (rd .setting, rd .words, rd .first, rd .second, ← same-length) (kn .allowed) in
-      let e3 : eqb (field 4 36 b) 52 ≡ true = eq-eqb (field 4 36 b) 52 (rd .first-at) in
-      let e4 : eqb (field 4 40 b) (secondAt b) ≡ true = eq-eqb (field 4 40 b) (secondAt b) (rd .second-at ∙ sym second-starts) in
-      let e5 : eqb (field 4 44 b) (wordsAt b) ≡ true = eq-eqb (field 4 44 b) (wordsAt b) (rd .words-at ∙ sym words-start) in
-      let e6 : eqb (field 4 48 b) (endAt b) ≡ true = eq-eqb (field 4 48 b) (endAt b) (rd .end ∙ sym ends) in
+      let e2 : codec (settingOf b) .counts (cells (dimensionsOf b)) (wordsCount b) (firstCount b) (secondCount b) ≡ true
+      = rw (rd .setting, rd .dims, rd .words, rd .first, rd .second, ← same-length) (kn .allowed) in
+      let e3 : eqb (firstOffset b) headerLength ≡ true = eq-eqb (firstOffset b) headerLength (rd .first-at) in
+      let e4 : eqb (secondOffset b) (secondAt b) ≡ true = eq-eqb (secondOffset b) (secondAt b) (rd .second-at ∙ sym second-starts) in
+      let e5 : eqb (wordsOffset b) (wordsAt b) ≡ true = eq-eqb (wordsOffset b) (wordsAt b) (rd .words-at ∙ sym words-start) in
+      let e6 : eqb (lengthField b) (endAt b) ≡ true = eq-eqb (lengthField b) (endAt b) (rd .end ∙ sym ends) in
       let e7 : eqb (length b) (endAt b) ≡ true = eq-eqb (length b) (endAt b) (omega (arith, rd .size, length-body, ends)) in
       rw (e1, e2, e3, e4, e5, e6, e7)
 
@@ -189,13 +189,13 @@ module _ (s : Setting) (d : Dimensions) (E : ℕ) (ws b : List ℕ) (h : HasFile
   unfolding bodyRight
   body-right = rw (rd .setting, rd .dims, rd .empty, words-back, h .fits, h .file, same-refl b)
 
-  -- the file's length stands at byte 48
-  pub length-at-48 : field 4 48 b ≡ length b
+  -- the file's length stands in its field
+  pub length-field : lengthField b ≡ length b
   unfolding counts
-  length-at-48 = omega (arith, rd .end, rd .size, length-body)
+  length-field = omega (arith, rd .end, rd .size, length-body)
 
-  pub at-least-52 : 52 ≤ length b
-  at-least-52 = omega (arith, rd .size)
+  pub header-there : headerLength ≤ length b
+  header-there = omega (arith, rd .size)
 
   -- a picture's file is accepted
   pub picture-accepted : checkNumber b ≡ 0

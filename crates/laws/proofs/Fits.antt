@@ -21,7 +21,7 @@ use Rattle.format.specs.Answers.{empty}
 use Rattle.format.specs.Calls.{outNumber, settingNumber, makeNumber, writeSignal, changeSignal, writeNumber, writtenFile, changeNumber, changedFile}
 use Rattle.format.specs.Lookups.{rankIn}
 use Rattle.laws.proofs.Tools.{cases, refuse-zero, both-make}
-use Rattle.laws.proofs.Limits.{small-setting}
+use Rattle.laws.proofs.Settings.{small-setting}
 use Rattle.laws.proofs.Calls.{write-number, written-file, change-number, changed-file, make-has-file, setting-zero}
 
 -- ---- room

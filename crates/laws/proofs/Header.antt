@@ -8,8 +8,8 @@ use Rattle.format.specs.Tools.{Below}
 use Rattle.format.specs.Bytes.{bytes, number, bytesOf, field, numbersOf}
 use Rattle.format.specs.declared.Dimensions.{Dimensions}
 use Rattle.format.specs.declared.Setting.{Setting}
-use Rattle.format.specs.File.{Counts, header}
-use Rattle.format.specs.Accepted.{settingOf, dimensionsOf, emptyOf, wordsCount, firstCount, secondCount}
+use Rattle.format.specs.File.{headerLength, Counts, header}
+use Rattle.format.specs.Accepted.{settingOf, dimensionsOf, emptyOf, wordsCount, firstCount, secondCount, firstOffset, secondOffset, wordsOffset, lengthField}
 use Rattle.laws.proofs.Bytes.{number-bytes}
 
 -- the header's numbers fit their fields
@@ -24,7 +24,7 @@ pub record Small (s : Setting) (d : Dimensions) (E : ℕ) (n : Counts) : Type 0 
   pub words : n .words < 256 ^ 4
   pub first : n .firstCount < 256 ^ 4
   pub second : n .secondCount < 256 ^ 4
-  pub total : 52 + n .firstBytes + n .secondBytes + 4 * n .words < 256 ^ 4
+  pub total : headerLength + n .firstBytes + n .secondBytes + 4 * n .words < 256 ^ 4
 
 -- what is read of bytes that begin with a header
 pub record Read (s : Setting) (d : Dimensions) (E : ℕ) (n : Counts) (more b : List ℕ) : Type 0 where
@@ -34,12 +34,12 @@ pub record Read (s : Setting) (d : Dimensions) (E : ℕ) (n : Counts) (more b : 
   pub words : wordsCount b ≡ n .words
   pub first : firstCount b ≡ n .firstCount
   pub second : secondCount b ≡ n .secondCount
-  pub first-at : field 4 36 b ≡ 52
-  pub second-at : field 4 40 b ≡ 52 + n .firstBytes
-  pub words-at : field 4 44 b ≡ 52 + n .firstBytes + n .secondBytes
-  pub end : field 4 48 b ≡ 52 + n .firstBytes + n .secondBytes + 4 * n .words
-  pub rest : drop 52 b ≡ more
-  pub size : length b ≡ 52 + length more
+  pub first-at : firstOffset b ≡ headerLength
+  pub second-at : secondOffset b ≡ headerLength + n .firstBytes
+  pub words-at : wordsOffset b ≡ headerLength + n .firstBytes + n .secondBytes
+  pub end : lengthField b ≡ headerLength + n .firstBytes + n .secondBytes + 4 * n .words
+  pub rest : drop headerLength b ≡ more
+  pub size : length b ≡ headerLength + length more
 
 dims : ℕ → List ℕ → Dimensions
 dims c es = record { count = c; extents = es }
@@ -50,10 +50,10 @@ four-path p q r t = cc
 dims-path : {c c′ : ℕ} {es es′ : List ℕ} → c ≡ c′ → es ≡ es′ → dims c es ≡ dims c′ es′
 dims-path p q = cc
 
--- With four extents the header is 52 bytes in a row, so that each field is found by computing.
+-- With four extents the header is a row of bytes, so that each field is found by computing.
 read-four : (s : Setting) (c e0 e1 e2 e3 E : ℕ) (n : Counts) (more : List ℕ) → Small s (dims c (e0 ∷ e1 ∷ e2 ∷ e3 ∷ [])) E n
     → Read s (dims c (e0 ∷ e1 ∷ e2 ∷ e3 ∷ [])) E n more (header s (dims c (e0 ∷ e1 ∷ e2 ∷ e3 ∷ [])) E n ++ more)
-unfolding dims header bytesOf bytes field numbersOf settingOf dimensionsOf emptyOf wordsCount firstCount secondCount
+unfolding dims header bytesOf bytes field numbersOf settingOf dimensionsOf emptyOf wordsCount firstCount secondCount firstOffset secondOffset wordsOffset lengthField
 read-four s c e0 e1 e2 e3 E n more h =
     record {
       setting = rw (number-bytes 1 (s .kind) (h .kind), number-bytes 1 (s .width) (h .width), number-bytes 1 (s .step) (h .step));
@@ -65,10 +65,10 @@ read-four s c e0 e1 e2 e3 E n more h =
       words = number-bytes 4 (n .words) (h .words);
       first = number-bytes 4 (n .firstCount) (h .first);
       second = number-bytes 4 (n .secondCount) (h .second);
-      first-at = number-bytes 4 52 (omega arith);
-      second-at = number-bytes 4 (52 + n .firstBytes) (omega arith);
-      words-at = number-bytes 4 (52 + n .firstBytes + n .secondBytes) (omega arith);
-      end = number-bytes 4 (52 + n .firstBytes + n .secondBytes + 4 * n .words) (h .total);
+      first-at = number-bytes 4 headerLength (omega arith);
+      second-at = number-bytes 4 (headerLength + n .firstBytes) (omega arith);
+      words-at = number-bytes 4 (headerLength + n .firstBytes + n .secondBytes) (omega arith);
+      end = number-bytes 4 (headerLength + n .firstBytes + n .secondBytes + 4 * n .words) (h .total);
       rest = refl;
       size = omega arith;
     }

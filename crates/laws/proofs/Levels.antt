@@ -11,10 +11,10 @@ use Rattle.laws.proofs.Search.{Proper}
 
 -- ---- sums of pairs
 
-span-path : {a b c d : ℕ} → a ≡ c → b ≡ d → _≡_ {A = Span} (record { cells = a; empty = b }) (record { cells = c; empty = d })
+pub span-path : {a b c d : ℕ} → a ≡ c → b ≡ d → _≡_ {A = Span} (record { cells = a; empty = b }) (record { cells = c; empty = d })
 span-path p q = cc
 
-none-plus : (x : Span) → plus none x ≡ x
+pub none-plus : (x : Span) → plus none x ≡ x
 none-plus x = span-path (zero-add (x .cells)) (zero-add (x .empty))
 
 pub plus-none : (x : Span) → plus x none ≡ x

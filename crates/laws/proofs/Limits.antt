@@ -1,4 +1,4 @@
--- The header's numbers fit their fields: bounds of an allowed setting and of allowed dimensions. Assumes nothing.
+-- The header's numbers fit their fields: bounds of allowed dimensions. Assumes nothing.
 use Prim.Native.Nat.{ℕ, zero, suc, _*_, _^_, _≤_, _<_}
 use mathlib.Core.Path.{_≡_, refl}
 use mathlib.Core.Bool.{true}
@@ -11,27 +11,7 @@ use borrow.Author.Tests.{eqb-true, leb-true, le-leb}
 use Rattle.format.specs.Tools.{Below, within, every}
 use Rattle.format.specs.declared.Dimensions.{Dimensions}
 use Rattle.format.specs.Picture.{product, cells, dimensionsAllowed, mostCells}
-use Rattle.format.specs.declared.Setting.{Setting}
-use Rattle.format.specs.Kinds.{settingAllowed}
 use Rattle.laws.proofs.Tools.{both-true, both-make, within-true}
-use Rattle.laws.proofs.Settings.{by-kind}
-
-pub record SmallSetting (s : Setting) : Type 0 where
-  pub kind-least : 1 ≤ s .kind
-  pub kind : s .kind ≤ 5
-  pub width : s .width < 256
-  pub step : s .step < 256
-
-pub small-setting : (s : Setting) → settingAllowed s ≡ true → SmallSetting s
-small-setting =
-    by-kind SmallSetting
-    (record {
-      runs = record { kind-least = omega arith; kind = omega arith; width = omega arith; step = omega arith };
-      positions = record { kind-least = omega arith; kind = omega arith; width = omega arith; step = omega arith };
-      based = λ w l a b c e. record { kind-least = omega arith; kind = omega arith; width = omega arith; step = omega arith };
-      jumps = λ w a b. record { kind-least = omega arith; kind = omega arith; width = omega arith; step = omega arith };
-      paged = λ b a c. record { kind-least = omega arith; kind = omega arith; width = omega arith; step = omega arith };
-    })
 
 -- each extent is at least 1
 every-take-drop : (n : ℕ) (es : List ℕ) → every (leb 1) (take n es) ≡ true → every (eqb 1) (drop n es) ≡ true → every (leb 1) es ≡ true

@@ -18,24 +18,26 @@ use Rattle.format.specs.Positions.{positionParts, positionsKind}
 use Rattle.format.specs.Codec.{Codec, Parts}
 use Rattle.format.specs.declared.Setting.{Setting}
 use Rattle.format.specs.Kinds.{codec, settingAllowed}
-use Rattle.laws.proofs.Stored.{Rising}
+use Rattle.laws.proofs.Stored.{Rising, rising-length}
 use Rattle.laws.proofs.Tools.{not-false}
-use Rattle.laws.proofs.Bytes.{length-bytesOf, numbersOf-bytesOf}
+use Rattle.laws.proofs.Bytes.{length-bytesOf, numbersOf-bytesOf, below-bytesOf}
 use Rattle.laws.proofs.Positions.{based-back, length-bases, length-offsets, jumps-back, runs-back, pairs-back, runs-in-flat, spans-in-flat, length-flatRuns, length-flatSpans}
 use Rattle.laws.proofs.Bounds.{below-rising, below-widen, below-bases, below-offsets, upTo-le, length-differences, below-differences, below-jumpsOf, length-jumpsOf, below-runs, length-runs, length-level, length-upperLevels, upperEntries-le, below-level, length-spans}
 use Rattle.laws.proofs.Settings.{setting, by-kind}
 
--- what is known of the parts of the stored positions ls in a kind
-pub record Known (c : Codec) (ls : List ℕ) : Type 0 where
+-- what is known of the parts of the stored positions ls of n cells in a kind
+pub record Known (c : Codec) (n : ℕ) (ls : List ℕ) : Type 0 where
   pub back : (more more′ : List ℕ)
-      → c .positions (c .parts ls .firstCount) (c .parts ls .first ++ more) (c .parts ls .secondCount) (c .parts ls .second ++ more′) ≡ ls
-  pub first-size : length (c .parts ls .first) ≡ c .firstSize * c .parts ls .firstCount
-  pub second-size : length (c .parts ls .second) ≡ c .secondSize * c .parts ls .secondCount
-  pub allowed : c .counts (length ls) (c .parts ls .firstCount) (c .parts ls .secondCount) ≡ true
-  pub first-most : length (c .parts ls .first) ≤ 16 * length ls
-  pub second-most : length (c .parts ls .second) ≤ 8 * length ls
-  pub firsts : c .parts ls .firstCount ≤ 2 * length ls
-  pub seconds : c .parts ls .secondCount ≤ length ls
+      → c .positions (c .parts n ls .firstCount) (c .parts n ls .first ++ more) (c .parts n ls .secondCount) (c .parts n ls .second ++ more′) ≡ ls
+  pub first-size : length (c .parts n ls .first) ≡ c .firstBytes (c .parts n ls .firstCount) (c .parts n ls .secondCount)
+  pub second-size : length (c .parts n ls .second) ≡ c .secondBytes (c .parts n ls .firstCount) (c .parts n ls .secondCount)
+  pub allowed : c .counts n (length ls) (c .parts n ls .firstCount) (c .parts n ls .secondCount) ≡ true
+  pub first-most : length (c .parts n ls .first) ≤ 16 * n
+  pub second-most : length (c .parts n ls .second) ≤ 8 * n
+  pub firsts : c .parts n ls .firstCount ≤ 2 * n
+  pub seconds : c .parts n ls .secondCount ≤ n
+  pub first-small : Below 256 (c .parts n ls .first)
+  pub second-small : Below 256 (c .parts n ls .second)
 
 numbers-back : (w n : ℕ) (xs more : List ℕ) → length xs ≡ n → Below (256 ^ w) xs → numbersOf w n (bytesOf w xs ++ more) ≡ xs
 numbers-back w n xs more e h = subst (λ (k : ℕ). numbersOf w k (bytesOf w xs ++ more) ≡ xs) e (numbersOf-bytesOf w xs more h)
@@ -44,15 +46,19 @@ twice-four : (xs : List ℕ) (n : ℕ) → length xs ≡ 2 * n → length (bytes
 twice-four xs n h = rw (length-bytesOf 4 xs) (omega arith)
 
 module _ (B : ℕ) (ls : List ℕ) (small : B ≤ 16777216) (r : Rising 0 B ls) where
+  few : length ls ≤ B
+  few = let n = rising-length 0 B ls (omega arith) r in omega arith
+
   fits4 : Below (256 ^ 4) ls
   fits4 = below-widen B (256 ^ 4) ls (omega arith) (below-rising 0 B ls r)
 
-  run-known : Known (runsKind 0 0) ls
+  run-known : Known (runsKind 0 0) B ls
   unfolding runsKind runParts
   run-known =
       let f : Below (256 ^ 4) (flatRuns (runs ls)) = below-widen B (256 ^ 4) (flatRuns (runs ls)) (omega arith) (below-runs 0 B ls r) in
       let n = length-runs ls in
       let t : length (bytesOf 4 (flatRuns (runs ls))) ≡ 8 * length (runs ls) = twice-four (flatRuns (runs ls)) (length (runs ls)) (length-flatRuns (runs ls)) in
+      let m0 = few in
       record {
         back = λ more more′. rw (numbers-back 4 (2 * length (runs ls)) (flatRuns (runs ls)) more (length-flatRuns (runs ls)) f, runs-in-flat, runs-back 0 B ls r);
         first-size = t;
@@ -62,12 +68,15 @@ module _ (B : ℕ) (ls : List ℕ) (small : B ≤ 16777216) (r : Rising 0 B ls) 
         second-most = omega arith;
         firsts = omega arith;
         seconds = omega arith;
+        first-small = below-bytesOf 4 (flatRuns (runs ls));
+        second-small = tt;
       }
 
-  position-known : Known (positionsKind 0 0) ls
+  position-known : Known (positionsKind 0 0) B ls
   unfolding positionsKind positionParts
   position-known =
       let t = length-bytesOf 4 ls in
+      let m0 = few in
       record {
         back = λ more more′. numbersOf-bytesOf 4 ls more fits4;
         first-size = t;
@@ -77,9 +86,11 @@ module _ (B : ℕ) (ls : List ℕ) (small : B ≤ 16777216) (r : Rising 0 B ls) 
         second-most = omega arith;
         firsts = omega arith;
         seconds = omega arith;
+        first-small = below-bytesOf 4 ls;
+        second-small = tt;
       }
 
-  based-known : (w l : ℕ) → w ≤ 2 → 1 ≤ l → offsetsFit w l ls ≡ true → Known (basedKind w l) ls
+  based-known : (w l : ℕ) → w ≤ 2 → 1 ≤ l → offsetsFit w l ls ≡ true → Known (basedKind w l) B ls
   unfolding basedKind basedParts
   based-known w l hw hl u =
       let n : length (bases l ls) ≤ length ls = rw (length-bases l ls) (upTo-le (length ls) l hl) in
@@ -87,6 +98,7 @@ module _ (B : ℕ) (ls : List ℕ) (small : B ≤ 16777216) (r : Rising 0 B ls) 
       let t : length (bytesOf w (offsets l ls)) ≡ w * length ls = length-bytesOf w (offsets l ls) ∙ rw (length-offsets l ls) in
       let t4 = length-bytesOf 4 (bases l ls) in
       let t2 : w * length ls ≤ 2 * length ls = mul-le-mul hw (le-refl (length ls)) in
+      let m0 = few in
       record {
         back = λ more more′. rw (numbersOf-bytesOf 4 (bases l ls) more f, numbers-back w (length ls) (offsets l ls) more′ (length-offsets l ls) (below-offsets w l ls u), based-back l 0 B ls hl r);
         first-size = t4;
@@ -96,9 +108,11 @@ module _ (B : ℕ) (ls : List ℕ) (small : B ≤ 16777216) (r : Rising 0 B ls) 
         second-most = omega arith;
         firsts = omega arith;
         seconds = omega arith;
+        first-small = below-bytesOf 4 (bases l ls);
+        second-small = below-bytesOf w (offsets l ls);
       }
 
-  jump-known : (w : ℕ) → w ≤ 2 → Known (jumpsKind w 0) ls
+  jump-known : (w : ℕ) → w ≤ 2 → Known (jumpsKind w 0) B ls
   unfolding jumpsKind jumpParts jumps
   jump-known w hw =
       let n : length (jumps w ls) ≤ length ls = length-jumpsOf (differences w ls) ls in
@@ -106,6 +120,7 @@ module _ (B : ℕ) (ls : List ℕ) (small : B ≤ 16777216) (r : Rising 0 B ls) 
       let t : length (bytesOf w (differences w ls)) ≡ w * length ls = length-bytesOf w (differences w ls) ∙ rw (length-differences w ls) in
       let t4 = length-bytesOf 4 (jumps w ls) in
       let t2 : w * length ls ≤ 2 * length ls = mul-le-mul hw (le-refl (length ls)) in
+      let m0 = few in
       record {
         back = λ more more′. rw (numbersOf-bytesOf 4 (jumps w ls) more f, numbers-back w (length ls) (differences w ls) more′ (length-differences w ls) (below-differences w ls), jumps-back w 0 B ls r);
         first-size = t4;
@@ -115,9 +130,11 @@ module _ (B : ℕ) (ls : List ℕ) (small : B ≤ 16777216) (r : Rising 0 B ls) 
         second-most = omega arith;
         firsts = omega arith;
         seconds = omega arith;
+        first-small = below-bytesOf 4 (jumps w ls);
+        second-small = below-bytesOf w (differences w ls);
       }
 
-  paged-known : (b : ℕ) → 2 ≤ b → Known (pagesKind 0 b) ls
+  paged-known : (b : ℕ) → 2 ≤ b → Known (pagesKind 0 b) B ls
   unfolding pagesKind pagedParts
   paged-known b hb =
       let xs = spans (runs ls) in
@@ -130,6 +147,7 @@ module _ (B : ℕ) (ls : List ℕ) (small : B ≤ 16777216) (r : Rising 0 B ls) 
       let t : length (bytesOf 4 (flatSpans (level b xs))) ≡ 8 * length xs = twice-four (flatSpans (level b xs)) (length xs) fl in
       let t1 : length (bytesOf 4 (flatSpans (upperLevels b (level b xs)))) ≡ 8 * length (upperLevels b (level b xs))
       = twice-four (flatSpans (upperLevels b (level b xs))) (length (upperLevels b (level b xs))) (length-flatSpans (upperLevels b (level b xs))) in
+      let m0 = few in
       record {
         back = λ more more′. rw (numbers-back 4 (2 * length xs) (flatSpans (level b xs)) more′ fl f, spans-in-flat, pairs-back b xs, runs-back 0 B ls r);
         first-size = t1;
@@ -139,11 +157,13 @@ module _ (B : ℕ) (ls : List ℕ) (small : B ≤ 16777216) (r : Rising 0 B ls) 
         second-most = omega arith;
         firsts = omega arith;
         seconds = omega arith;
+        first-small = below-bytesOf 4 (flatSpans (upperLevels b (level b xs)));
+        second-small = below-bytesOf 4 (flatSpans (level b xs));
       }
 
-  pub known : (s : Setting) → settingAllowed s ≡ true → codec s .unfit ls ≡ false → Known (codec s) ls
+  pub known : (s : Setting) → settingAllowed s ≡ true → codec s .unfit ls ≡ false → Known (codec s) B ls
   unfolding codec basedKind
-  known = by-kind (λ (s : Setting). codec s .unfit ls ≡ false → Known (codec s) ls)
+  known = by-kind (λ (s : Setting). codec s .unfit ls ≡ false → Known (codec s) B ls)
       (record {
         runs = λ u. run-known;
         positions = λ u. position-known;

@@ -14,7 +14,7 @@ use lib.Dec.{eqb}
 use borrow.Author.Tests.{eqb-true, eqb-false, eq-eqb, ne-eqb}
 use Rattle.format.specs.Tools.{range}
 use Rattle.format.specs.Runs.{Run, runAt, runsFrom, runs, spansFrom, spans, positionsFrom}
-use Rattle.laws.proofs.Tools.{cases}
+use Rattle.laws.proofs.Tools.{cases, length-range}
 use Rattle.laws.proofs.Stored.{Rising}
 use Rattle.laws.proofs.Positions.{runs-back}
 use Rattle.laws.proofs.Ranks.{InOrder}
@@ -157,11 +157,6 @@ rising-from e v B (x ∷ xs) o h =
 pub rising-again : (B : ℕ) (rs : List Run) → InOrder 0 0 rs → lastEnd 0 rs ≤ B → Rising 0 B (positionsFrom 0 (spans rs))
 unfolding spans
 rising-again B rs o h = rising-from 0 0 B rs o h
-
-length-range : (a n : ℕ) → length (range a n) ≡ n
-unfolding range
-length-range a zero = refl
-length-range a (suc n) = ap suc (length-range (suc a) n)
 
 length-from : (e v : ℕ) (rs : List Run) → InOrder e v rs → v ≤ e → length (positionsFrom e (spansFrom e v rs)) + e + lastEmpty v rs ≡ lastEnd e rs + v
 length-from e v [] o h = unfold positionsFrom spansFrom in (omega arith)

@@ -1,13 +1,14 @@
 -- An allowed setting is one of five shapes: the case analysis by kind, once. Assumes nothing.
-use Prim.Native.Nat.{ℕ, zero, suc, _≤_}
-use mathlib.Core.Path.{_≡_, sym, ap, subst, subst₂}
+use Prim.Native.Nat.{ℕ, zero, suc, _≤_, _<_}
+use mathlib.Core.Path.{_≡_, refl, sym, ap, subst, subst₂}
 use mathlib.Core.Bool.{true, false, not}
 use native.Mathlib.Omega.{arith}
 use lib.Dec.{eqb}
 use borrow.Author.Tests.{eqb-true}
 use Rattle.format.specs.Tools.{both, within}
 use Rattle.format.specs.declared.Setting.{Setting}
-use Rattle.format.specs.Kinds.{codec, settingAllowed}
+use Rattle.format.specs.Codec.{noCodec}
+use Rattle.format.specs.Kinds.{codec, codecOf, settingAllowed}
 use Rattle.format.specs.Runs.{runsKind}
 use Rattle.format.specs.Positions.{positionsKind}
 use Rattle.format.specs.BaseOffset.{basedKind}
@@ -55,3 +56,31 @@ by-kind P five s h = go (s .kind) (s .width) (s .step) h
         let b = within-true 2 64 l (t .1) in
         subst (λ (y : ℕ). P (setting 5 y l)) (sym (eqb-true w 0 (t .0))) (five .paged l (b .0) (b .1))
     go (suc (suc (suc (suc (suc (suc n)))))) w l h = absurd (never h)
+
+-- an allowed setting fits its fields
+pub record SmallSetting (s : Setting) : Type 0 where
+  pub kind-least : 1 ≤ s .kind
+  pub kind : s .kind ≤ 5
+  pub width : s .width < 256
+  pub step : s .step < 256
+
+pub small-setting : (s : Setting) → settingAllowed s ≡ true → SmallSetting s
+small-setting =
+    by-kind SmallSetting
+    (record {
+      runs = record { kind-least = omega arith; kind = omega arith; width = omega arith; step = omega arith };
+      positions = record { kind-least = omega arith; kind = omega arith; width = omega arith; step = omega arith };
+      based = λ w l a b c e. record { kind-least = omega arith; kind = omega arith; width = omega arith; step = omega arith };
+      jumps = λ w a b. record { kind-least = omega arith; kind = omega arith; width = omega arith; step = omega arith };
+      paged = λ b a c. record { kind-least = omega arith; kind = omega arith; width = omega arith; step = omega arith };
+    })
+
+-- none of the kinds
+pub no-kind : (k w l : ℕ) → (k ≡ 1 → ⊥) → (k ≡ 2 → ⊥) → (k ≡ 3 → ⊥) → (k ≡ 4 → ⊥) → (k ≡ 5 → ⊥) → codecOf k w l ≡ noCodec
+no-kind zero w l h1 h2 h3 h4 h5 = refl
+no-kind (suc zero) w l h1 h2 h3 h4 h5 = absurd (h1 refl)
+no-kind (suc (suc zero)) w l h1 h2 h3 h4 h5 = absurd (h2 refl)
+no-kind (suc (suc (suc zero))) w l h1 h2 h3 h4 h5 = absurd (h3 refl)
+no-kind (suc (suc (suc (suc zero)))) w l h1 h2 h3 h4 h5 = absurd (h4 refl)
+no-kind (suc (suc (suc (suc (suc zero))))) w l h1 h2 h3 h4 h5 = absurd (h5 refl)
+no-kind (suc (suc (suc (suc (suc (suc k)))))) w l h1 h2 h3 h4 h5 = refl

@@ -15,6 +15,9 @@ use Rattle.format.specs.Accepted.{dimensionsOf, emptyOf, wordsOf}
 use Rattle.format.specs.Shorter.{samePicture, shorterOf}
 use Rattle.laws.proofs.Tools.{cases, both-true, same-refl, same-true}
 
+pub dimensions-path : {c c′ : ℕ} {es es′ : List ℕ} → c ≡ c′ → es ≡ es′ → _≡_ {A = Dimensions} (record { count = c; extents = es }) (record { count = c′; extents = es′ })
+dimensions-path p q = cc
+
 pub one-of-two {ℓ} : {X : Type ℓ} (n₁ n₂ : ℕ) (x₁ x₂ : X) → (shorterOf n₁ n₂ x₁ x₂ ≡ x₁) ⊎ (shorterOf n₁ n₂ x₁ x₂ ≡ x₂)
 one-of-two n₁ n₂ x₁ x₂ = cases (ltb n₂ n₁) (λ e. inr (rw e)) (λ e. inl (rw e))
 
@@ -34,15 +37,12 @@ pub same-picture-iff : (b₁ b₂ : List ℕ)
 unfolding samePicture
 same-picture-iff b₁ b₂ = (only, made)
   where
-    path : {c c′ : ℕ} {es es′ : List ℕ} → c ≡ c′ → es ≡ es′ → _≡_ {A = Dimensions} (record { count = c; extents = es }) (record { count = c′; extents = es′ })
-    path p q = cc
-
     only : samePicture b₁ b₂ ≡ true → (dimensionsOf b₁ ≡ dimensionsOf b₂) × (emptyOf b₁ ≡ emptyOf b₂) × (wordsOf b₁ ≡ wordsOf b₂)
     only h =
         let t1 = both-true (eqb (dimensionsOf b₁ .count) (dimensionsOf b₂ .count)) _ h in
         let t2 = both-true (same (dimensionsOf b₁ .extents) (dimensionsOf b₂ .extents)) _ (t1 .1) in
         let t3 = both-true (eqb (emptyOf b₁) (emptyOf b₂)) _ (t2 .1) in (
-          path (eqb-true _ _ (t1 .0)) (same-true _ _ (t2 .0)),
+          dimensions-path (eqb-true _ _ (t1 .0)) (same-true _ _ (t2 .0)),
           eqb-true _ _ (t3 .0),
           same-true _ _ (t3 .1),
         )

@@ -1,7 +1,7 @@
 -- Where the lists of demand 3 start: a picture whose cells are all empty is made in every allowed setting and dimensions, and its file is a header alone.
 -- Assumes nothing.
 use Prim.Native.Nat.{ℕ, zero, suc, _^_, _≤_, _<_}
-use mathlib.Core.Path.{_≡_, refl, sym, ap, subst, _∙_}
+use mathlib.Core.Path.{_≡_, refl, ap, _∙_}
 use mathlib.Core.Bool.{true, false}
 use mathlib.Core.List.{List, []}
 use native.Mathlib.Omega.{arith}
@@ -13,28 +13,41 @@ use Rattle.format.specs.declared.Setting.{Setting}
 use Rattle.format.specs.Picture.{cells, dimensionsAllowed}
 use Rattle.format.specs.Stored.{storedFrom, stored, kept}
 use Rattle.format.specs.Kinds.{codec, settingAllowed}
-use Rattle.format.specs.Runs.{runsKind}
-use Rattle.format.specs.Positions.{positionsKind}
-use Rattle.format.specs.BaseOffset.{basedKind, offsets, offsetsFit}
-use Rattle.format.specs.Jumps.{jumpsKind}
-use Rattle.format.specs.PagedRuns.{pagesKind}
+use Rattle.format.specs.Codec.{Codec}
+use Rattle.format.specs.Bytes.{bytesOf}
+use Rattle.format.specs.Runs.{runs, spansFrom, spans, flatRuns, runParts, runsKind}
+use Rattle.format.specs.Positions.{positionParts, positionsKind}
+use Rattle.format.specs.BaseOffset.{bases, offsets, offsetsFit, basedParts, basedKind}
+use Rattle.format.specs.Jumps.{differences, jumpsOf, jumps, jumpParts, jumpsKind}
+use Rattle.format.specs.PagedRuns.{sumsFrom, level, levelsAbove, upperLevels, flatSpans, pagedParts, pagesKind}
 use Rattle.format.specs.File.{headerLength, layout, HasFile}
 use Rattle.format.specs.Calls.{makeNumber}
 use Rattle.format.specs.Demand3.{Call, Listed}
 use Rattle.laws.proofs.Bytes.{length-bytesOf}
 use Rattle.laws.proofs.Settings.{by-kind}
-use Rattle.laws.proofs.Parts.{Known, known}
-use Rattle.laws.proofs.Files.{from-first, at-least-52}
+use Rattle.laws.proofs.Bounds.{upTo-zero}
+use Rattle.laws.proofs.Files.{from-first, header-there}
 use Rattle.laws.proofs.Calls.{below-replicate}
 use Rattle.laws.proofs.Fits.{make-iff}
 use Rattle.laws.proofs.Demand3.{WordsIn, lists-exist}
 
--- each kind can hold no stored cell; its parts are then empty, by `known`
-none-fit : (s : Setting) → settingAllowed s ≡ true → codec s .unfit [] ≡ false
-unfolding codec runsKind positionsKind basedKind offsetsFit offsets listed jumpsKind pagesKind
-none-fit =
-    by-kind (λ s. codec s .unfit [] ≡ false)
-    (record { runs = refl; positions = refl; based = λ w l _ _ _ _. refl; jumps = λ w _ _. refl; paged = λ b _ _. refl })
+-- each kind can hold no stored cell, and its parts are then empty
+record None (c : Codec) : Type 0 where
+  fit : c .unfit [] ≡ false
+  first : (n : ℕ) → c .parts n [] .first ≡ []
+  second : (n : ℕ) → c .parts n [] .second ≡ []
+
+nothing : (s : Setting) → settingAllowed s ≡ true → None (codec s)
+unfolding codec runsKind runParts runs flatRuns positionsKind positionParts basedKind basedParts offsetsFit bases offsets listed jumpsKind jumpParts jumps jumpsOf differences pagesKind pagedParts spans spansFrom level sumsFrom upperLevels levelsAbove flatSpans bytesOf
+nothing =
+    by-kind (λ s. None (codec s))
+    (record {
+      runs = record { fit = refl; first = λ n. refl; second = λ n. refl };
+      positions = record { fit = refl; first = λ n. refl; second = λ n. refl };
+      based = λ w l _ _ c _. record { fit = refl; first = λ n. rw (upTo-zero l c); second = λ n. refl };
+      jumps = λ w _ _. record { fit = refl; first = λ n. refl; second = λ n. refl };
+      paged = λ b _ _. record { fit = refl; first = λ n. refl; second = λ n. refl };
+    })
 
 stored-none : (E p n : ℕ) → storedFrom E p (replicate n E) ≡ []
 unfolding storedFrom
@@ -62,25 +75,24 @@ module _ (s : Setting) (d : Dimensions) (E : ℕ) (allowed : settingAllowed s �
         empty = small;
         words = below-replicate (2 ^ 32) (cells d) E small;
         size = length-replicate (cells d) E;
-        fits = rw none (none-fit s allowed);
+        fits = rw none (nothing s allowed .fit);
         file = refl;
       }
 
   -- nothing follows the header
-  nothing-after : length (drop 52 (layout s d E empties)) ≡ 0
+  nothing-after : length (drop headerLength (layout s d E empties)) ≡ 0
   nothing-after =
-      let k = subst (λ (ls : List ℕ). Known (codec s) ls) (sym none) (known 0 [] (omega arith) tt s allowed (none-fit s allowed)) in
-      let k1 = k .first-most in
-      let k2 = k .second-most in
-      let n : length (stored E empties) ≡ 0 = ap length none in
+      let k = nothing s allowed in
+      let f : length (codec s .parts (cells d) (stored E empties) .first) ≡ 0 = ap (λ (ls : List ℕ). length (codec s .parts (cells d) ls .first)) none ∙ ap length (k .first (cells d)) in
+      let g : length (codec s .parts (cells d) (stored E empties) .second) ≡ 0 = ap (λ (ls : List ℕ). length (codec s .parts (cells d) ls .second)) none ∙ ap length (k .second (cells d)) in
       ap length (from-first s d E empties (layout s d E empties) file)
-      ∙ simp (length-append, length-bytesOf, kept-none) (omega arith)
+      ∙ simp (kept-none, length-append, length-bytesOf) (omega arith)
 
   pub start-length : length (layout s d E empties) ≡ headerLength
   start-length =
-      let k = at-least-52 s d E empties (layout s d E empties) file in
+      let k = header-there s d E empties (layout s d E empties) file in
       let n = nothing-after in
-      omega (arith, length-drop 52 (layout s d E empties))
+      omega (arith, length-drop headerLength (layout s d E empties))
 
   pub start-made : (room : ℕ) → headerLength ≤ room → makeNumber s d E empties room ≡ 0
   start-made room k = make-iff s d E empties room small (file .words) .1 (file, rw start-length k)

@@ -2,8 +2,8 @@
 use Prim.Native.Nat.{ℕ, zero, suc, _+_, _-_, _≤_, _<_}
 use mathlib.Core.Path.{_≡_, refl, sym, ap, subst}
 use mathlib.Core.Bool.{true, false, not}
-use mathlib.Core.List.{List, [], _∷_}
-use native.Mathlib.Nat.{add-suc, suc-add, le-refl}
+use mathlib.Core.List.{List, [], _∷_, _++_}
+use native.Mathlib.Nat.{add-zero, add-suc, suc-add, le-refl}
 use native.Mathlib.Omega.{arith}
 use lib.Arith.{lt-of-le-ne}
 use lib.ListN.{length}
@@ -25,6 +25,11 @@ rising-weaken a b B (l ∷ ls) h r = (omega arith, r .1, r .2)
 pub rising-widen : (a B C : ℕ) (ls : List ℕ) → B ≤ C → Rising a B ls → Rising a C ls
 rising-widen a B C [] h r = tt
 rising-widen a B C (l ∷ ls) h r = (r .0, omega arith, rising-widen (suc l) B C ls h (r .2))
+
+-- so many fit below the bound
+pub rising-length : (a B : ℕ) (ls : List ℕ) → a ≤ B → Rising a B ls → a + length ls ≤ B
+rising-length a B [] h r = omega arith
+rising-length a B (l ∷ ls) h r = let n = rising-length (suc l) B ls (r .1) (r .2) in omega (arith, r .0)
 
 -- the stored positions rise
 pub rising-stored : (E p B : ℕ) (ws : List ℕ) → p + length ws ≤ B → Rising p B (storedFrom E p ws)
@@ -135,3 +140,19 @@ below-placed M E p (suc n) (l ∷ ls) vs e h =
     cases (eqb l p)
     (λ t. rw t (below-first M vs (omega arith) h, below-placed M E (suc p) n ls (others vs) e (below-others M vs h)))
     (λ t. rw t (e, below-placed M E (suc p) n (l ∷ ls) vs e h))
+
+-- ---- one list of words after another
+
+pub stored-append : (E at : ℕ) (xs ys : List ℕ) → storedFrom E at (xs ++ ys) ≡ storedFrom E at xs ++ storedFrom E (at + length xs) ys
+unfolding storedFrom
+stored-append E at [] ys = rw add-zero
+stored-append E at (x ∷ xs) ys =
+    let e : at + suc (length xs) ≡ suc at + length xs = omega arith in
+    cases (eqb x E)
+    (λ t. rw (t, stored-append E (suc at) xs ys, e))
+    (λ t. rw (t, stored-append E (suc at) xs ys, e))
+
+pub kept-append : (E : ℕ) (xs ys : List ℕ) → kept E (xs ++ ys) ≡ kept E xs ++ kept E ys
+unfolding kept
+kept-append E [] ys = refl
+kept-append E (x ∷ xs) ys = cases (eqb x E) (λ t. rw (t, kept-append E xs ys)) (λ t. rw (t, kept-append E xs ys))

@@ -26,6 +26,18 @@ both-true false b h = let z : _≡_ {A = Bool} true false = cc in (sym z, absurd
 pub both-make : (a b : Bool) → a ≡ true → b ≡ true → both a b ≡ true
 both-make a b p q = rw (p, q)
 
+pub both-false : (a : Bool) → both a false ≡ false
+both-false true = refl
+both-false false = refl
+
+pub both-one : (a : Bool) → both a true ≡ a
+both-one true = refl
+both-one false = refl
+
+pub both-assoc : (a b c : Bool) → both (both a b) c ≡ both a (both b c)
+both-assoc true b c = refl
+both-assoc false b c = refl
+
 pub not-false : (a : Bool) → not a ≡ false → a ≡ true
 not-false true h = refl
 not-false false h = sym h
@@ -55,6 +67,9 @@ pub same-refl : (xs : List ℕ) → same xs xs ≡ true
 same-refl [] = refl
 same-refl (x ∷ xs) = both-make (eqb x x) (same xs xs) (eq-eqb x x refl) (same-refl xs)
 
+pub same-eq : (xs ys : List ℕ) → xs ≡ ys → same xs ys ≡ true
+same-eq xs ys e = rw e (same-refl ys)
+
 pub same-true : (xs ys : List ℕ) → same xs ys ≡ true → xs ≡ ys
 same-true [] [] h = refl
 same-true [] (y ∷ ys) h = cc
@@ -80,6 +95,11 @@ unfolding listed
 getD-listed zero f i h = absurd (not-suc-le-zero h)
 getD-listed (suc n) f zero h = refl
 getD-listed (suc n) f (suc i) h = getD-listed n (λ k. f (suc k)) i (le-of-suc-le-suc h)
+
+pub length-range : (a n : ℕ) → length (range a n) ≡ n
+unfolding range
+length-range a zero = refl
+length-range a (suc n) = ap suc (length-range (suc a) n)
 
 pub range-snoc : (a n : ℕ) → range a (suc n) ≡ range a n ++ (a + n) ∷ []
 unfolding range

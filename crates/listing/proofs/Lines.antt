@@ -10,22 +10,18 @@ use Rattle.format.specs.declared.View.{View}
 use Rattle.format.specs.Tools.{Below, first, others}
 use Rattle.format.specs.Bytes.{field}
 use Rattle.format.specs.Picture.{cells}
+use Rattle.format.specs.File.{headerLength}
 use Rattle.format.specs.Accepted.{settingOf, dimensionsOf, wordsCount, positionsOf, keptOf}
-use Rattle.format.specs.Opened.{viewOf}
 use Rattle.format.specs.Lister.{mostListed, line, rankLines, fileLines}
-use Rattle.laws.proofs.Acceptance.{accepted, header-right}
-use Rattle.laws.proofs.Limits.{small-setting}
+use Rattle.laws.proofs.Settings.{small-setting}
 use Rattle.laws.proofs.Bounds.{below-rising, below-widen}
-use Rattle.laws.proofs.Check.{length-numbersOf}
 use Rattle.stores.specs.Put.{put}
 use Rattle.stores.proofs.Laws.{put-append, put-nil}
-use Rattle.header.specs.View.{secondPlace, wordsPlace}
-use Rattle.header.specs.Search.{ViewOf}
-use Rattle.header.proofs.Frame.{Framed, framed}
-use Rattle.cursor.specs.declared.Cursor.{Cursor}
-use Rattle.cursor.specs.Cursor.{walked}
-use Rattle.cursor.proofs.Walks.{Turned, walked-next}
-use Rattle.scatter.proofs.Turn.{words-seen, cells-seen, as-long, size-seen, word-seen, begin-rising}
+use Rattle.parts.specs.declared.Cursor.{Cursor}
+use Rattle.parts.specs.Holds.{ViewOf}
+use Rattle.parts.proofs.Seen.{Seen, seen}
+use Rattle.kinds.proofs.Walks.{Ahead, Turned, walk-next}
+use Rattle.scatter.proofs.Turn.{word-seen}
 use Rattle.listing.specs.Text.{Room, TextPut}
 use Rattle.listing.proofs.Decimal.{length-decimal, decimal-most}
 use Rattle.listing.proofs.Placing.{text-then, room-first, room-then, length-line}
@@ -79,8 +75,8 @@ ranks-length r (l ∷ ls) vs h k =
 
 -- ---- of the view v of an accepted file b
 module _ (b : List ℕ) (v : View) (o : ViewOf b v) where
-  frame : Framed b
-  frame = framed b (accepted b (o .accepted) .header)
+  known : Seen b v
+  known = seen b v o
 
   -- the lines of the ranks, and those from rank r on
   abbrev lines : List ℕ
@@ -89,37 +85,27 @@ module _ (b : List ℕ) (v : View) (o : ViewOf b v) where
   abbrev linesFrom : ℕ → List ℕ
   linesFrom r = rankLines r (drop r (positionsOf b)) (drop r (keptOf b))
 
-  kept-long : length (keptOf b) ≡ wordsCount b
-  unfolding keptOf
-  kept-long = length-numbersOf 4 (wordsCount b) _
-
   -- a file of at most 65,536 bytes has few words
-  header-there : 52 ≤ wordsPlace v
-  unfolding wordsPlace secondPlace
-  header-there = omega arith
+  header-there : headerLength ≤ v .place
+  header-there = omega (arith, known .header .start, known .header .counted .second, known .header .behind)
 
   few-words : length b ≤ mostListed → v .words ≤ 16371
-  few-words h = omega (arith, words-seen b v o, size-seen b v o, header-there)
+  few-words h = omega (arith, known .header .long, header-there)
 
-  pub word-inside : (r : ℕ) → r < v .words → wordsPlace v + 4 * r + 4 ≤ length b
-  word-inside r h = omega (arith, words-seen b v o, size-seen b v o)
+  pub word-inside : (r : ℕ) → r < v .words → v .place + 4 * r + 4 ≤ length b
+  word-inside r h = omega (arith, known .header .long)
 
   -- the first line
-  kind-seen : v .kind ≡ settingOf b .kind
-  unfolding viewOf
-  kind-seen = ap (λ (x : View). x .kind) (o .view)
-
   first-seen : line (v .kind) (v .cells) (v .words) ≡ line (settingOf b .kind) (cells (dimensionsOf b)) (wordsCount b)
-  first-seen = rw (kind-seen, cells-seen b v o, frame .cells, words-seen b v o)
+  first-seen = rw (known .kind, known .header .cells, known .words)
 
   first-length : length b ≤ mostListed → length (line (v .kind) (v .cells) (v .words)) ≤ 20
   first-length h =
-      let s = small-setting (settingOf b) (header-right b (accepted b (o .accepted) .header) .setting) in
+      let s = small-setting (settingOf b) (known .header .setting) in
       let k = s .kind in
-      let m = frame .cells-most in
-      let e = cells-seen b v o in
+      let m = known .header .counted .cells-most in
       let w = few-words h in
-      let t = kind-seen in
+      let t = known .kind in
       let x = length-decimal 0 (v .kind) (omega arith) in
       let y = length-decimal 7 (v .cells) (omega arith) in
       let z = length-decimal 4 (v .words) (omega arith) in
@@ -146,11 +132,9 @@ module _ (b : List ℕ) (v : View) (o : ViewOf b v) where
   pub file-most : length b ≤ mostListed → length (fileLines b) ≤ 426000
   file-most h =
       let n = few-words h in
-      let w = words-seen b v o in
-      let z = as-long b v o in
-      let m = frame .cells-most in
-      let e = cells-seen b v o in
-      let low = below-widen (v .cells) 16777216 (positionsOf b) (omega arith) (below-rising 0 (v .cells) (positionsOf b) (begin-rising b v o)) in
+      let z = known .holds .size in
+      let m = known .header .counted .cells-most in
+      let low = below-widen (v .cells) 16777216 (positionsOf b) (omega arith) (below-rising 0 (v .cells) (positionsOf b) (known .holds .rising)) in
       let x = first-length h in
       let y = ranks-length 0 (positionsOf b) (keptOf b) (omega arith) low in
       omega (arith, length-file)
@@ -160,7 +144,7 @@ module _ (b : List ℕ) (v : View) (o : ViewOf b v) where
 
   -- no line is left after the last rank
   none-left : (r : ℕ) → v .words ≤ r → linesFrom r ≡ []
-  none-left r h = rank-end r (positionsOf b) (drop r (keptOf b)) (omega (arith, words-seen b v o, as-long b v o))
+  none-left r h = rank-end r (positionsOf b) (drop r (keptOf b)) (omega (arith, known .holds .size))
 
   pub lines-end : (before : List ℕ) (at r to : ℕ) (d : List ℕ) → v .words ≤ r → Left lines before at (linesFrom r) to d → TextPut lines before at to d
   lines-end before at r to d h = left-end lines before at (linesFrom r) d to (none-left r h)
@@ -169,18 +153,15 @@ module _ (b : List ℕ) (v : View) (o : ViewOf b v) where
   total-end r total h e = let z : length (linesFrom r) ≡ 0 = ap length (none-left r h) in omega arith
 
   -- ---- one rank
-  module _ (r : ℕ) (c : Cursor) (word : ℕ) (h : r < v .words) (walk : walked b v c (wordsCount b - r) ≡ drop r (positionsOf b))
-      (at : word ≡ field 4 (wordsPlace v + 4 * r) b) where
-    below : r < wordsCount b
-    below = omega (arith, words-seen b v o)
-
+  module _ (r : ℕ) (c : Cursor) (word : ℕ) (h : r < v .words) (walk : Ahead b v c r)
+      (at : word ≡ field 4 (v .place + 4 * r) b) where
     pub step : Turned b v c r
-    step = walked-next b (o .accepted) v c r below walk
+    step = walk-next b v o c r h walk
 
     this-line : line r (c .at) word ++ linesFrom (r + 1) ≡ linesFrom r
     this-line =
-        rw (step .position, at, word-seen b v o r below)
-        (sym (rank-turn r (positionsOf b) (keptOf b) (omega (arith, below, as-long b v o)) (omega (arith, below, kept-long))))
+        rw (step .position, at, word-seen b v o r h)
+        (sym (rank-turn r (positionsOf b) (keptOf b) (omega (arith, known .holds .size)) (omega (arith, known .kept-size))))
 
     pub lines-turn : (before : List ℕ) (from : ℕ) (d e : List ℕ) (to m : ℕ) → Left lines before from (linesFrom r) to d → TextPut (line r (c .at) word) d to m e
         → Left lines before from (linesFrom (r + 1)) m e

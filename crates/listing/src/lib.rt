@@ -2,12 +2,10 @@
 pub mod measure;
 pub mod text;
 
-use archive::check::check;
-use cursor::next;
-use cursor::start;
+use checked::check;
 use format::View;
-use header::places::words_at;
-use header::view::read_view;
+use kinds::steps::next;
+use kinds::steps::start;
 use measure::file_length;
 use text::put_bytes;
 use text::put_line;
@@ -17,7 +15,7 @@ ghost use Prim.Native.Nat.{_≤_};
 ghost use lib.ListN.{length};
 ghost use Rattle.format.specs.Accepted.{positionsOf, keptOf};
 ghost use Rattle.format.specs.Lister.{mostListed, rankLines, fileLines, refusedLine, listing};
-ghost use Rattle.header.specs.Search.{ViewOf};
+ghost use Rattle.parts.specs.Holds.{ViewOf};
 ghost use Rattle.listing.specs.Text.{Room, TextPut, Offered};
 
 // A text that is at hand, into a buffer that has room for it; its length.
@@ -53,7 +51,7 @@ fn put_ranks(file: &[u8], v: View, out: &mut [u8], at: usize) -> usize
     requires { ⌜ ViewOf (now file) v × Room (rankLines 0 (positionsOf (now file)) (keptOf (now file))) (now out) at ⌝ }
     ensures { λ r. ⌜ TextPut (rankLines 0 (positionsOf (now (file .entry))) (keptOf (now (file .entry)))) (now (out .entry)) at r (now (out .exit)) ⌝ }
 {
-    let words = words_at(v);
+    let words = v.place as usize;
     let mut c = start(file, v);
     let mut to = at;
     let mut rank: u32 = 0;
@@ -95,9 +93,9 @@ pub fn list(input: &[u8], out: &mut [u8]) -> usize
     if 65536 < input.len() {
         return offer(b"too long\n", out);
     }
-    let number = check(input);
-    if number != 0 {
-        return offer_refused(number, out);
+    let verdict = check(input);
+    if verdict.number != 0 {
+        return offer_refused(verdict.number, out);
     }
-    offer_file(input, read_view(input), out)
+    offer_file(input, verdict.view, out)
 }

@@ -1,23 +1,22 @@
 // How long the lister's text of an accepted file is.
 use crate::text::line_length;
-use cursor::next;
-use cursor::start;
 use format::View;
-use header::places::words_at;
+use kinds::steps::next;
+use kinds::steps::start;
 use wire::get_u32;
 ghost use mathlib.Core.Path.{_≡_};
 ghost use Prim.Native.Nat.{_≤_};
 ghost use lib.ListN.{length};
 ghost use Rattle.format.specs.Accepted.{positionsOf, keptOf};
 ghost use Rattle.format.specs.Lister.{mostListed, rankLines, fileLines};
-ghost use Rattle.header.specs.Search.{ViewOf};
+ghost use Rattle.parts.specs.Holds.{ViewOf};
 
 // The lines of the ranks.
 fn ranks_length(file: &[u8], v: View) -> usize
     requires { ⌜ ViewOf (now file) v × (length (now file) ≤ mostListed) ⌝ }
     ensures { λ r. ⌜ r ≡ length (rankLines 0 (positionsOf (now (file .entry))) (keptOf (now (file .entry)))) ⌝ }
 {
-    let words = words_at(v);
+    let words = v.place as usize;
     let mut c = start(file, v);
     let mut total: usize = 0;
     let mut rank: u32 = 0;

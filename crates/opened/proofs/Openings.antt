@@ -11,12 +11,15 @@ use Rattle.format.specs.declared.View.{View}
 use Rattle.format.specs.Tools.{pick}
 use Rattle.format.specs.Signals.{BEYOND}
 use Rattle.format.specs.Answers.{Answer, refused, answered}
-use Rattle.format.specs.Accepted.{emptyOf, wordsOf, checkNumber, Checked}
+use Rattle.format.specs.Accepted.{emptyOf, wordsOf, checkNumber}
 use Rattle.format.specs.Lookups.{cellIn, rankIn, positionIn, cellAnswer, rankAnswer, positionAnswer}
 use Rattle.format.specs.Opened.{Opened, viewOf, noView, opening, OpeningOf, viaOpening, Free, FreeWord, OpenedCell, OpenedRank, OpenedPosition}
 use Rattle.laws.proofs.Tools.{cases}
-use Rattle.header.specs.Search.{ViewOf, CellSearched, RankSearched, PositionSearched}
-use Rattle.search.proofs.Cells.{kind-known}
+use Rattle.laws.proofs.Settings.{small-setting}
+use Rattle.parts.specs.Holds.{ViewOf}
+use Rattle.parts.proofs.Seen as parts
+use Rattle.checked.specs.Verdict.{Judged}
+use Rattle.search.specs.Searched.{CellSearched, RankSearched, PositionSearched}
 use Rattle.opened.specs.Kept.{Kept}
 
 -- ---- opening
@@ -35,15 +38,16 @@ opening-refused b h = rw (ne-eqb (checkNumber b) 0 h)
 -- no accepted file has kind 0
 kind-opened : (b : List ℕ) → checkNumber b ≡ 0 → opening b .view .kind ≡ 0 → ⊥
 kind-opened b e z =
-    let k = kind-known b (viewOf b) (record { accepted = e; view = refl }) .0 in
+    let s = parts.seen b (viewOf b) (record { accepted = e; view = refl }) in
+    let k = s .kind in
     let o = ap (λ (x : Opened). x .view .kind) (opening-accepted b e) in
-    omega (arith, k, o)
+    omega (arith, small-setting _ (s .header .setting) .kind-least)
 
-pub view-accepted : (b : List ℕ) (n : ℕ) (v : View) → Checked b n → n ≡ 0 → v ≡ viewOf b → v ≡ opening b .view
-view-accepted b n v c z e = e ∙ sym (ap (λ (x : Opened). x .view) (opening-accepted b (sym (c .number) ∙ z)))
+pub view-accepted : (b : List ℕ) (n : ℕ) (v : View) → Judged b n v → n ≡ 0 → v ≡ opening b .view
+view-accepted b n v j z = let o = j .view z in o .view ∙ sym (ap (λ (x : Opened). x .view) (opening-accepted b (o .accepted)))
 
-pub view-refused : (b : List ℕ) (n : ℕ) → Checked b n → (n ≡ 0 → ⊥) → noView ≡ opening b .view
-view-refused b n c h = sym (ap (λ (x : Opened). x .view) (opening-refused b (λ e. h (c .number ∙ e))))
+pub view-refused : (b : List ℕ) (n : ℕ) (v : View) → Judged b n v → (n ≡ 0 → ⊥) → noView ≡ opening b .view
+view-refused b n v j h = sym (ap (λ (x : Opened). x .view) (opening-refused b (λ e. h (j .number ∙ e))))
 
 -- the contract of open, by what it keeps
 pub opened : (x r : RefT (List ℕ)) (v : View) → v ≡ opening (now x) .view → Kept x v r → OpeningOf x r v

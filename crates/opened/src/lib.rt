@@ -1,13 +1,14 @@
 // The opened file (document 01, "The calls"): it refers to the caller's bytes and keeps the header's numbers. The lookups through it search without
 // checking again.
-use archive::check::check;
+use checked::check;
+use checked::no_view;
 use format::CellAnswer;
 use format::Position;
 use format::PositionAnswer;
 use format::Rank;
 use format::RankAnswer;
 use format::View;
-use header::view::read_view;
+use format::signals::BEYOND;
 ghost use mathlib.Core.Path.{_≡_};
 ghost use Rattle.format.specs.Answers.{cellSays, rankSays, positionSays};
 ghost use Rattle.format.specs.Opened.{opening, OpeningOf, OpenedCell, OpenedRank, OpenedPosition};
@@ -23,19 +24,11 @@ pub struct Opened<'a> {
 fn opened_view(file: &[u8]) -> View
     ensures { λ r. ⌜ r ≡ opening (now (file .entry)) .view ⌝ }
 {
-    if check(file) != 0 {
-        return View {
-            kind: 0,
-            width: 0,
-            step: 0,
-            cells: 0,
-            empty: 0,
-            words: 0,
-            firsts: 0,
-            seconds: 0,
-        };
+    let verdict = check(file);
+    if verdict.number != 0 {
+        return no_view();
     }
-    read_view(file)
+    verdict.view
 }
 
 // The file itself, or no bytes of it where the numbers are those of a refusal: no kind is 0.
@@ -62,7 +55,7 @@ fn cell_within(file: &[u8], v: View, p: Position) -> CellAnswer
     ensures { λ r. ⌜ OpenedCell (over (file .entry) v) (p .0) (cellSays r) ⌝ }
 {
     if v.kind == 0 {
-        return CellAnswer::Refused(8);
+        return CellAnswer::Refused(BEYOND);
     }
     search::cell_in(file, v, p)
 }
@@ -72,7 +65,7 @@ fn rank_within(file: &[u8], v: View, p: Position) -> RankAnswer
     ensures { λ r. ⌜ OpenedRank (over (file .entry) v) (p .0) (rankSays r) ⌝ }
 {
     if v.kind == 0 {
-        return RankAnswer::Refused(8);
+        return RankAnswer::Refused(BEYOND);
     }
     search::rank_in(file, v, p)
 }
@@ -82,7 +75,7 @@ fn position_within(file: &[u8], v: View, r: Rank) -> PositionAnswer
     ensures { λ a. ⌜ OpenedPosition (over (file .entry) v) (r .0) (positionSays a) ⌝ }
 {
     if v.kind == 0 {
-        return PositionAnswer::Refused(8);
+        return PositionAnswer::Refused(BEYOND);
     }
     search::position_in(file, v, r)
 }

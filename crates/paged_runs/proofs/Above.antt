@@ -3,7 +3,7 @@ use Prim.Native.Nat.{ℕ, zero, suc, _+_, _-_, _*_, _≤_, _<_, min}
 use mathlib.Core.Path.{_≡_, refl, sym, ap, _∙_}
 use mathlib.Core.Bool.{Bool, true, false, _&&_}
 use mathlib.Core.List.{List, [], _∷_, _++_}
-use native.Mathlib.Nat.{zero-add, add-zero, suc-mul, zero-mul, le-div-iff-mul-le, sub-zero}
+use native.Mathlib.Nat.{zero-add, add-zero, suc-mul, zero-mul, sub-zero}
 use native.Mathlib.Numerals.{add-one}
 use native.Mathlib.Omega.{arith}
 use lib.ListN.{length, take, drop, getD, length-take, length-drop, drop-of-length-le}
@@ -13,16 +13,17 @@ use borrow.Author.Tests.{eqb-true, ne-eqb}
 use Rattle.format.specs.Tools.{pick, both, same, upTo}
 use Rattle.format.specs.Runs.{Span}
 use Rattle.format.specs.PagedRuns.{plus, none, sumsFrom, level, lasts, upperLevels, upperEntries, flatSpans, spansIn}
-use Rattle.laws.proofs.Tools.{same-true}
-use Rattle.laws.proofs.Bounds.{length-lasts, length-upperLevels, upTo-half}
+use Rattle.laws.proofs.Tools.{both-false, both-one, both-assoc, same-true}
+use Rattle.laws.proofs.Levels.{span-path}
+use Rattle.laws.proofs.Bounds.{index-inside, length-lasts, length-upperLevels, upTo-half}
 use Rattle.laws.proofs.Positions.{spans-in-flat, length-flatSpans}
 use Rattle.laws.proofs.Accumulation.{last-is-last, length-above, no-more-level, one-more-level, no-more-entries, one-more-entries}
-use Rattle.paged_runs.specs.declared.entry.Pair.{Pair}
+use Rattle.wire.specs.declared.Pair.{Pair}
+use Rattle.parts.specs.Encoder.{leftAfter}
 use Rattle.paged_runs.specs.declared.check.Compared.{Compared}
 use Rattle.paged_runs.specs.Levels.{spanOf}
-use Rattle.paged_runs.specs.Passing.{leftAfter, comparedWith, sameSpans}
+use Rattle.paged_runs.specs.Passing.{comparedWith, sameSpans}
 use Rattle.paged_runs.proofs.Bounded.{flat-append}
-use Rattle.paged_runs.proofs.GoodPairs.{span-path}
 use Rattle.paged_runs.proofs.Along.{and-both}
 
 -- ---- one entry
@@ -40,19 +41,19 @@ state k a r = record { left = k; sum = a; right = r }
 turn : (b k : ℕ) (a u : Pair) (r : Bool) (x : Span) (us ls : List Span)
     → both r (sameSpans (spanOf u ∷ us) (sumsFrom b k (spanOf a) (x ∷ ls)))
     ≡ both (comparedWith b (state k a r) u x .right) (sameSpans us (sumsFrom b (leftAfter b k) (spanOf u) ls))
-unfolding sumsFrom flatSpans state
+unfolding sumsFrom flatSpans state leftAfter
 turn b zero a u r x us ls =
     rw (zero-add (x .cells), zero-add (x .empty))
-    (both-turn r (eqb (u .cells) (x .cells)) (eqb (u .empty) (x .empty)) _ _
+    (both-turn r (eqb (u .first) (x .cells)) (eqb (u .second) (x .empty)) _ _
     (λ s t.
-    let e : spanOf u ≡ x = span-path (eqb-true (u .cells) (x .cells) s) (eqb-true (u .empty) (x .empty) t) in
+    let e : spanOf u ≡ x = span-path (eqb-true (u .first) (x .cells) s) (eqb-true (u .second) (x .empty) t) in
     ap (λ (y : Span). same (flatSpans us) (flatSpans (sumsFrom b (b - 1) y ls))) (sym e)))
 turn b (suc k) a u r x us ls =
     let d : suc k - 1 ≡ k = omega arith in
     rw (ne-eqb (suc k) 0 (λ z. omega arith), d)
-    (both-turn r (eqb (u .cells) (a .cells + x .cells)) (eqb (u .empty) (a .empty + x .empty)) _ _
+    (both-turn r (eqb (u .first) (a .first + x .cells)) (eqb (u .second) (a .second + x .empty)) _ _
     (λ s t.
-    let e : spanOf u ≡ plus (spanOf a) x = span-path (eqb-true (u .cells) (a .cells + x .cells) s) (eqb-true (u .empty) (a .empty + x .empty) t) in
+    let e : spanOf u ≡ plus (spanOf a) x = span-path (eqb-true (u .first) (a .first + x .cells) s) (eqb-true (u .second) (a .second + x .empty) t) in
     ap (λ (y : Span). same (flatSpans us) (flatSpans (sumsFrom b k y ls))) (sym e)))
 
 pub compare-turn : (b : ℕ) (s : Compared) (u : Pair) (x : Span) (us ls : List Span)
@@ -62,8 +63,8 @@ unfolding state
 compare-turn b s u x us ls = turn b (s .left) (s .sum) u (s .right) x us ls
 
 pub compared-path : (b : ℕ) (s : Compared) (u : Pair) (x : Span) (left cells empty uc ue : ℕ) → left ≡ leftAfter b (s .left)
-    → cells ≡ pick (eqb (s .left) 0) 0 (s .sum .cells) + x .cells → empty ≡ pick (eqb (s .left) 0) 0 (s .sum .empty) + x .empty
-    → uc ≡ u .cells → ue ≡ u .empty
+    → cells ≡ pick (eqb (s .left) 0) 0 (s .sum .first) + x .cells → empty ≡ pick (eqb (s .left) 0) 0 (s .sum .second) + x .empty
+    → uc ≡ u .first → ue ≡ u .second
     → _≡_ {A = Compared} (record { left = left; sum = u; right = (s .right && eqb uc cells) && eqb ue empty }) (comparedWith b s u x)
 compared-path b s u x left cells empty uc ue l c e p q =
     rw (l, c, e, p, q)
@@ -75,25 +76,18 @@ compared-path b s u x left cells empty uc ue l c e p q =
 
 -- ---- the last entries below
 
--- a page begins below the level's end
-pub page-starts : (b n i : ℕ) → 1 ≤ b → i < upTo n b → i * b < n
-page-starts b n i h k =
-    let m : suc i * b ≤ n + (b - 1) = le-div-iff-mul-le h .0 k in
-    let e = suc-mul i b in
-    omega arith
-
 pub first-end : (b n : ℕ) → 0 ≡ min (0 * b) n
 first-end b n = omega (arith, zero-mul b)
 
 pub page-ends : (b n i end : ℕ) → 1 ≤ b → i < upTo n b → end ≡ min (i * b) n → min (end + b) n ≡ min (suc i * b) n
 page-ends b n i end h k e =
-    let s = page-starts b n i h k in
+    let s = index-inside b n i h k in
     let m = suc-mul i b in
     omega arith
 
 pub end-some : (b n i : ℕ) → 1 ≤ b → i < upTo n b → 1 ≤ min (suc i * b) n
 end-some b n i h k =
-    let s = page-starts b n i h k in
+    let s = index-inside b n i h k in
     let m = suc-mul i b in
     omega arith
 
@@ -161,26 +155,14 @@ module _ (b : ℕ) (es : List Span) (start size below under : ℕ) (h : 2 ≤ b)
       let z : size - i ≡ 0 = omega arith in
       let l : length (lasts b (take under (drop below es))) ≤ i = rw length-ls k in
       rw (z, drop-of-length-le (lasts b (take under (drop below es))) l) (both-one (s .right))
-    where
-      both-one : (r : Bool) → both r true ≡ r
-      both-one true = refl
-      both-one false = refl
 
 -- ---- level by level
-
-both-false : (r : Bool) → both r false ≡ false
-both-false true = refl
-both-false false = refl
 
 same-append : (xs ys zs ws : List ℕ) → length xs ≡ length ys → same (xs ++ zs) (ys ++ ws) ≡ both (same xs ys) (same zs ws)
 same-append [] [] zs ws h = refl
 same-append [] (y ∷ ys) zs ws h = absurd (omega arith)
 same-append (x ∷ xs) [] zs ws h = absurd (omega arith)
-same-append (x ∷ xs) (y ∷ ys) zs ws h = rw (same-append xs ys zs ws (omega arith)) (sym (assoc (eqb x y) (same xs ys) (same zs ws)))
-  where
-    assoc : (r s t : Bool) → both (both r s) t ≡ both r (both s t)
-    assoc true s t = refl
-    assoc false s t = refl
+same-append (x ∷ xs) (y ∷ ys) zs ws h = rw (same-append xs ys zs ws (omega arith)) (sym (both-assoc (eqb x y) (same xs ys) (same zs ws)))
 
 pub same-spans : (xs ys : List Span) → sameSpans xs ys ≡ true → xs ≡ ys
 same-spans xs ys h = sym (spans-in-flat xs) ∙ ap spansIn (same-true (flatSpans xs) (flatSpans ys) h) ∙ spans-in-flat ys
@@ -244,10 +226,6 @@ module _ (b : ℕ) (es : List Span) (below under : ℕ) (h : 2 ≤ b) (count : b
     upper-turn e =
         let s = same-spans _ _ e in
         upper-split ∙ rw (e, ← s) (both-one (sameSpans (take (below - upTo under b) es) (upperLevels b (take (upTo under b) (drop (below - upTo under b) es)))))
-      where
-        both-one : (r : Bool) → both r true ≡ r
-        both-one true = refl
-        both-one false = refl
 
 -- ---- the loop up the levels
 

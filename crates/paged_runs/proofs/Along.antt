@@ -14,11 +14,14 @@ use Rattle.format.specs.Tools.{pick, both}
 use Rattle.format.specs.Runs.{Span}
 use Rattle.format.specs.PagedRuns.{plus, less, none, sumsFrom, level, pairsFrom, pairsOf}
 use Rattle.laws.proofs.Tools.{both-true, both-make}
+use Rattle.laws.proofs.Levels.{span-path}
+use Rattle.laws.proofs.RunsBack.{leastEmpty}
+use Rattle.parts.specs.Encoder.{leftAfter}
 use Rattle.paged_runs.specs.declared.check.Sum.{Sum}
 use Rattle.paged_runs.specs.declared.check.Passed.{Passed}
-use Rattle.paged_runs.specs.Passing.{leftAfter, leastEmpty, follows, sumWith, Small, passedWith, passedAll, noSum, passedNone, runsEnd, runsRight}
+use Rattle.paged_runs.specs.Passing.{follows, sumWith, Small, passedWith, passedAll, noSum, passedNone, runsEnd, runsRight}
 use Rattle.paged_runs.proofs.Bounded.{cellsOf, emptyOf}
-use Rattle.paged_runs.proofs.GoodPairs.{Good, good-moved, span-path}
+use Rattle.paged_runs.proofs.GoodPairs.{Good, good-moved}
 
 pub and-both : (s t : Bool) → (s && t) ≡ both s t
 and-both true t = refl
@@ -57,11 +60,11 @@ state : ℕ → Sum → Sum → Bool → Passed
 state k d p r = record { left = k; start = d; sum = p; right = r }
 
 at-first : (b : ℕ) (d p : Sum) (r : Bool) (y : Span) → passedWith b (state 0 d p r) y ≡ state (b - 1) p (sumWith p y) (both r (follows p (sumWith p y)))
-unfolding state
+unfolding state leftAfter
 at-first b d p r y = refl
 
 at-later : (b k : ℕ) (d p : Sum) (r : Bool) (y : Span) → passedWith b (state (suc k) d p r) y ≡ state k d (sumWith d y) (both r (follows p (sumWith d y)))
-unfolding state
+unfolding state leftAfter
 at-later b k d p r y =
     let e : suc k - 1 ≡ k = omega arith in
     rw (ne-eqb (suc k) 0 (λ z. omega arith), e)

@@ -1,44 +1,145 @@
--- What the place that a search finds says: the rank at a position, and the position of a rank. Assumes nothing.
-use Prim.Native.Nat.{ℕ, suc, _+_, _-_, _≤_, _<_}
-use mathlib.Core.Path.{_≡_, refl, sym, _∙_}
-use mathlib.Core.List.{List, [], _∷_}
+-- What the place that a search finds says: where a position stands among the stored ones, and the position of a rank. Assumes nothing.
+use Prim.Native.Nat.{ℕ, zero, suc, _+_, _-_, _≤_, _<_}
+use mathlib.Core.Path.{_≡_, refl, sym}
+use mathlib.Core.Bool.{true, false}
+use mathlib.Core.List.{List, [], _∷_, _++_}
+use native.Mathlib.Nat.{add-zero}
 use native.Mathlib.Omega.{arith}
-use lib.ListN.{length}
-use lib.Dec.{ltb, leb, eqb}
-use borrow.Author.Tests.{ltb-true, ltb-false, lt-ltb, le-ltb, le-leb, lt-leb}
-use Rattle.format.specs.Signals.{BEYOND}
-use Rattle.format.specs.Answers.{Answer, refused, empty, given}
-use Rattle.format.specs.Stored.{stored}
-use Rattle.format.specs.Lookups.{rankIn}
-use Rattle.format.specs.Opened.{Free}
-use Rattle.format.specs.Runs.{Span}
-use Rattle.format.specs.PagedRuns.{plus, none, allCells, storedCells, Place, lost, at, rankAtPlace, positionAtPlace}
-use Rattle.laws.proofs.Tools.{cases}
-use Rattle.laws.proofs.Search.{rankAmong, rank-among, seekFrom, Proper}
-use Rattle.paged_runs.specs.declared.search.Found.{Found}
-use Rattle.paged_runs.specs.declared.search.Found.the-variants.{Run, Nowhere}
-use Rattle.paged_runs.specs.Descent.{foundAt, rankFound, positionFound}
+use lib.ListN.{length, length-append}
+use lib.Arith.{lt-of-le-ne}
+use lib.Dec.{ltb, eqb}
+use borrow.Author.Tests.{eqb-true, eqb-false, ne-eqb, ltb-true, ltb-false, lt-ltb, le-ltb, lt-leb}
+use Rattle.format.specs.Tools.{range}
+use Rattle.format.specs.Answers.{given}
+use Rattle.format.specs.Runs.{Span, positionsFrom}
+use Rattle.format.specs.PagedRuns.{plus, none, allCells, storedCells, Place, lost, at, positionAtPlace}
+use Rattle.laws.proofs.Tools.{cases, length-range}
+use Rattle.laws.proofs.Search.{seekFrom, Proper}
+use Rattle.parts.specs.declared.Found.{Found}
+use Rattle.parts.specs.Found.{countBelow, among}
+use Rattle.paged_runs.specs.declared.search.Reached.{Reached}
+use Rattle.paged_runs.specs.declared.search.Reached.the-variants.{Run, Nowhere}
+use Rattle.paged_runs.specs.Descent.{foundAt, placeBy, positionBy}
 
--- ---- the sums before a place and the number that is left make up the number
+-- ---- a position among others, r of which are counted already
 
-abbrev pub CellsAt : ℕ → Place → Type 0
-CellsAt p lost = Unit
-CellsAt p (at i q a x) = (a .cells + q ≡ p) × (a .empty ≤ a .cells)
+pub record CountedFrom (p r : ℕ) (ls : List ℕ) (f : Found) : Type 0 where
+  pub below : f .below ≡ r + countBelow p ls
+  pub here : f .here ≡ among p ls
 
+-- all are above p
+abbrev Clear : ℕ → List ℕ → Type 0
+Clear p ls = (countBelow p ls ≡ 0) × (among p ls ≡ false)
+
+-- a stretch of n positions from a on: above p, around it and below it
+clear-range : (p a n : ℕ) (ls : List ℕ) → p < a → Clear p ls → Clear p (range a n ++ ls)
+unfolding range countBelow among
+clear-range p a zero ls h c = c
+clear-range p a (suc n) ls h c =
+    let i = clear-range p (suc a) n ls (omega arith) c in
+    let i0 = i .0 in
+    (rw (le-ltb a p (omega arith)) (omega arith), rw (ne-eqb a p (λ z. omega arith)) (i .1))
+
+inside : (p r a n : ℕ) (ls : List ℕ) → a ≤ p → p < a + n → Clear p ls → CountedFrom p r (range a n ++ ls) (record { below = r + (p - a); here = true })
+unfolding range countBelow among
+inside p r a zero ls h k c = absurd (omega arith)
+inside p r a (suc n) ls h k c =
+    cases (eqb a p)
+    (λ e.
+    let m = eqb-true a p e in
+    let d = clear-range p (suc a) n ls (omega arith) c in
+    let d0 = d .0 in
+    record { below = rw (le-ltb a p (omega arith)) (omega arith); here = rw e })
+    (λ e.
+    let lt : a < p = lt-of-le-ne h (eqb-false a p e) in
+    let i = inside p (suc r) (suc a) n ls lt (omega arith) c in
+    let i0 = i .below in
+    record { below = rw (lt-ltb a p lt) (omega arith); here = rw e (i .here) })
+
+past : (p r a n : ℕ) (ls : List ℕ) (f : Found) → a + n ≤ p → CountedFrom p (r + n) ls f → CountedFrom p r (range a n ++ ls) f
+unfolding range countBelow among
+past p r a zero ls f h w = rw (add-zero r) at w
+past p r a (suc n) ls f h w =
+    let e : suc r + n ≡ r + suc n = omega arith in
+    let i = past p (suc r) (suc a) n ls f (omega arith) (rw e w) in
+    let i0 = i .below in
+    record { below = rw (lt-ltb a p (omega arith)) (omega arith); here = rw (ne-eqb a p (λ z. omega arith)) (i .here) }
+
+clear-from : (p from : ℕ) (xs : List Span) → p < from → Clear p (positionsFrom from xs)
+unfolding positionsFrom
+clear-from p from [] h = unfold countBelow among in (refl, refl)
+clear-from p from (x ∷ xs) h =
+    clear-range p (from + x .empty) (x .cells - x .empty) (positionsFrom (from + x .cells) xs) (omega arith)
+    (clear-from p (from + x .cells) xs (omega arith))
+
+-- ---- the place of a position
+
+-- Arithmetic of one run past c cells, e of them empty; q is what is left of p.
+module _ (c e q p : ℕ) (g : e ≤ c) (h : c + q ≡ p) where
+  gap-rank : p - q - e ≡ c - e
+  gap-rank = omega arith
+
+  stored-rank : (x : ℕ) → x ≤ q → p - x - e ≡ c - e + (p - (c + x))
+  stored-rank x k = omega arith
+
+  ranks-past : (x y : ℕ) → y ≤ x → c - e + (x - y) ≡ c + x - (e + y)
+  ranks-past x y k = omega arith
+
+-- along pairs, a before them, with n stored cells in all
+pub place-along : (p n i q : ℕ) (a : Span) (xs : List Span) → Proper xs → a .empty ≤ a .cells → a .cells + q ≡ p
+    → n ≡ a .cells - a .empty + length (positionsFrom (a .cells) xs)
+    → CountedFrom p (a .cells - a .empty) (positionsFrom (a .cells) xs) (placeBy (foundAt (seekFrom allCells i q a xs)) p n)
+unfolding positionsFrom seekFrom
+place-along p n i q a [] o g h m = unfold countBelow among in (record { below = m; here = refl })
+place-along p n i q a (x ∷ xs) o g h m =
+    let o0 = o .0 in
+    let later = positionsFrom (a .cells + x .cells) xs in
+    let l = length-append (range (a .cells + x .empty) (x .cells - x .empty)) later in
+    let s = length-range (a .cells + x .empty) (x .cells - x .empty) in
+    let k : n ≡ a .cells - a .empty + (x .cells - x .empty + length later) = omega arith in
+    cases (ltb q (x .cells))
+    (λ e. let t = ltb-true q (x .cells) e in rw e (here k t))
+    (λ e.
+    let t = ltb-false q (x .cells) e in
+    let r = ranks-past (a .cells) (a .empty) q p g h (x .cells) (x .empty) o0 in
+    rw e
+    (past p (a .cells - a .empty) (a .cells + x .empty) (x .cells - x .empty) later _ (omega arith)
+    (rw r (place-along p n (suc i) (q - x .cells) (plus a x) xs (o .1) (omega arith) (omega arith) (omega arith)))))
+  where
+    here : n ≡ a .cells - a .empty + (x .cells - x .empty + length (positionsFrom (a .cells + x .cells) xs)) → q < x .cells
+        → CountedFrom p (a .cells - a .empty) (range (a .cells + x .empty) (x .cells - x .empty) ++ positionsFrom (a .cells + x .cells) xs)
+        (placeBy (Run (a .empty) (x .empty) q) p n)
+    here k t =
+        let c = clear-from p (a .cells + x .cells) xs (omega arith) in
+        cases (ltb q (x .empty))
+        (λ u.
+        let w = ltb-true q (x .empty) u in
+        let d = clear-range p (a .cells + x .empty) (x .cells - x .empty) (positionsFrom (a .cells + x .cells) xs) (omega arith) c in
+        let d0 = d .0 in
+        let z = gap-rank (a .cells) (a .empty) q p g h in
+        rw u (record { below = omega arith; here = sym (d .1) }))
+        (λ u.
+        let w = ltb-false q (x .empty) u in
+        let d = inside p (a .cells - a .empty) (a .cells + x .empty) (x .cells - x .empty) (positionsFrom (a .cells + x .cells) xs)
+        (omega arith) (omega arith) c in
+        let d0 = d .below in
+        let z = stored-rank (a .cells) (a .empty) q p g h (x .empty) w in
+        rw (u, lt-ltb (p - x .empty - a .empty) n (omega arith)) (record { below = omega arith; here = d .here }))
+
+-- any stored cell has a rank below n
+pub place-free : (p n : ℕ) (f : Reached) → placeBy f p n .here ≡ true → placeBy f p n .below < n
+place-free p n Nowhere h = let z : _≡_ {A = ℕ} 0 1 = cc in absurd (omega arith)
+place-free p n (Run before own rest) h =
+    cases (ltb rest own)
+    (λ e. let k = rw e at h in let z : _≡_ {A = ℕ} 0 1 = cc in absurd (omega arith))
+    (λ e. rw e (ltb-true (p - own - before) n (rw e at h)))
+
+-- ---- the position of a rank
+
+-- the stored cells before a place and the number that is left make up the rank
 abbrev pub StoredAt : ℕ → Place → Type 0
 StoredAt r lost = Unit
 StoredAt r (at i q a x) = (a .cells - a .empty + q ≡ r) × (a .empty ≤ a .cells)
-
-cells-from : (i p q : ℕ) (a : Span) (xs : List Span) → Proper xs → a .empty ≤ a .cells → a .cells + q ≡ p → CellsAt p (seekFrom allCells i q a xs)
-unfolding seekFrom
-cells-from i p q a [] o g h = tt
-cells-from i p q a (x ∷ xs) o g h =
-    let o0 = o .0 in
-    cases (ltb q (x .cells))
-    (λ e. rw e (h, g))
-    (λ e.
-    let t = ltb-false q (x .cells) e in
-    rw e (cells-from (suc i) p (q - x .cells) (plus a x) xs (o .1) (omega arith) (omega arith)))
 
 stored-from : (i r q : ℕ) (a : Span) (xs : List Span) → Proper xs → a .empty ≤ a .cells → a .cells - a .empty + q ≡ r
     → StoredAt r (seekFrom storedCells i q a xs)
@@ -52,92 +153,13 @@ stored-from i r q a (x ∷ xs) o g h =
     let t = ltb-false q (x .cells - x .empty) e in
     rw e (stored-from (suc i) r (q - (x .cells - x .empty)) (plus a x) xs (o .1) (omega arith) (omega arith)))
 
-pub cells-at : (p : ℕ) (xs : List Span) → Proper xs → CellsAt p (seekFrom allCells 0 p none xs)
-cells-at p xs o = cells-from 0 p p none xs o (omega arith) (omega arith)
-
 pub stored-at : (r : ℕ) (xs : List Span) → Proper xs → StoredAt r (seekFrom storedCells 0 r none xs)
 stored-at r xs o = stored-from 0 r r none xs o (omega arith) (omega arith)
 
--- ---- the answers
-
-pub rank-right : (p n : ℕ) (q : Place) → CellsAt p q → ((k : ℕ) → rankAtPlace q ≡ given k → k < n) → rankFound (foundAt q) p n ≡ rankAtPlace q
-rank-right p n lost h m = refl
-rank-right p n (at i q a x) h m =
+pub position-at : (r n k : ℕ) (q : Place) → StoredAt r q → positionAtPlace q ≡ given k → k < n → positionBy (foundAt q) r n ≡ k
+position-at r n k lost h e l = let z : _≡_ {A = ℕ} 0 1 = cc in absurd (omega arith)
+position-at r n k (at i q a x) h e l =
     let h0 = h .0 in
     let h1 = h .1 in
-    cases (ltb q (x .empty))
-    (λ e. rw e)
-    (λ e.
-    let t = ltb-false q (x .empty) e in
-    let s : a .empty + x .empty ≤ p = omega arith in
-    let d : p - (a .empty + x .empty) ≡ a .cells - a .empty + (q - x .empty) = omega arith in
-    let l : a .cells - a .empty + (q - x .empty) < n = m (a .cells - a .empty + (q - x .empty)) (rw e) in
-    rw (e, le-leb (a .empty + x .empty) p s, d, lt-ltb (a .cells - a .empty + (q - x .empty)) n l))
-
-pub position-right : (r n : ℕ) (q : Place) → StoredAt r q → ((k : ℕ) → positionAtPlace q ≡ given k → k < n) → positionFound (foundAt q) r n ≡ positionAtPlace q
-position-right r n lost h m = refl
-position-right r n (at i q a x) h m =
-    let h0 = h .0 in
-    let h1 = h .1 in
-    let d : r + (a .empty + x .empty) ≡ a .cells + x .empty + q = omega arith in
-    rw (d, lt-ltb (a .cells + x .empty + q) n (m (a .cells + x .empty + q) refl))
-
--- any answer is in range
-pub rank-free : (p n : ℕ) (f : Found) → Free n (rankFound f p n)
-rank-free p n Nowhere = Free.none
-rank-free p n (Run before own rest) =
-    cases (ltb rest own)
-    (λ e. rw e Free.none)
-    (λ e.
-    cases (leb (before + own) p)
-    (λ t.
-    cases (ltb (p - (before + own)) n)
-    (λ u. rw (e, t, u) (Free.number (p - (before + own)) (ltb-true (p - (before + own)) n u)))
-    (λ u. rw (e, t, u) Free.beyond))
-    (λ t. rw (e, t) Free.beyond))
-
-pub position-free : (r n : ℕ) (f : Found) → Free n (positionFound f r n)
-position-free r n Nowhere = Free.beyond
-position-free r n (Run before own rest) =
-    cases (ltb (r + (before + own)) n)
-    (λ u. rw u (Free.number (r + (before + own)) (ltb-true (r + (before + own)) n u)))
-    (λ u. rw u Free.beyond)
-
--- ---- a rank is below N
-
-given-path : (m k : ℕ) → _≡_ {A = Answer} (given m) (given k) → m ≡ k
-given-path m k e = cc
-
-among-bound : (p r k : ℕ) (ls : List ℕ) → rankAmong p r ls ≡ given k → k < r + length ls
-unfolding rankAmong
-among-bound p r k [] e = let z : _≡_ {A = ℕ} 0 1 = cc in absurd (omega arith)
-among-bound p r k (l ∷ ls) e =
-    cases (eqb l p)
-    (λ t. let z = given-path r k (rw t at e) in omega arith)
-    (λ t. let i = among-bound p (suc r) k ls (rw t at e) in omega arith)
-
-pub rank-bound : (E p k : ℕ) (ws : List ℕ) → p < length ws → rankIn E ws p ≡ given k → k < length (stored E ws)
-rank-bound E p k ws h e = let i = among-bound p 0 k (stored E ws) (sym (rank-among E p ws h) ∙ e) in omega arith
-
--- ---- as code finds them, test by test
-
-module _ (p n before own rest : ℕ) where
-  pub in-gap : rest < own → empty ≡ rankFound (Run before own rest) p n
-  in-gap h = rw (lt-ltb rest own h)
-
-  pub past-number : own ≤ rest → p < before + own → refused BEYOND ≡ rankFound (Run before own rest) p n
-  past-number g h = rw (le-ltb rest own g, lt-leb (before + own) p h)
-
-  pub past-words : own ≤ rest → before + own ≤ p → n ≤ p - before - own → refused BEYOND ≡ rankFound (Run before own rest) p n
-  past-words g h k = let e : n ≤ p - (before + own) = omega arith in rw (le-ltb rest own g, le-leb (before + own) p h, le-ltb (p - (before + own)) n e)
-
-  pub rank-there : own ≤ rest → before + own ≤ p → p - before - own < n → given (p - before - own) ≡ rankFound (Run before own rest) p n
-  rank-there g h k =
-      let d : p - (before + own) ≡ p - before - own = omega arith in
-      rw (le-ltb rest own g, le-leb (before + own) p h, d, lt-ltb (p - before - own) n k)
-
-  pub past-cells : n ≤ p + (before + own) → refused BEYOND ≡ positionFound (Run before own rest) p n
-  past-cells h = rw (le-ltb (p + (before + own)) n h)
-
-  pub position-there : p + (before + own) < n → given (p + (before + own)) ≡ positionFound (Run before own rest) p n
-  position-there h = rw (lt-ltb (p + (before + own)) n h)
+    let d : a .cells + x .empty + q ≡ k = cc in
+    rw (lt-leb n (a .empty) (omega arith)) (omega arith)

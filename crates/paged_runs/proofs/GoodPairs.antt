@@ -1,14 +1,13 @@
 -- Length pairs, each with a stored cell and, but for the first, with empty cells before it, are those of the runs of their positions. Assumes nothing.
-use Prim.Native.Nat.{ℕ, zero, suc, _+_, _-_, _≤_, _<_}
+use Prim.Native.Nat.{ℕ, suc, _+_, _-_, _≤_, _<_}
 use mathlib.Core.Path.{_≡_, refl, ap₂, subst}
 use mathlib.Core.List.{List, [], _∷_}
 use native.Mathlib.Omega.{arith}
 use lib.ListN.{length}
 use Rattle.format.specs.Runs.{Run, Span, runs, spansFrom, spans, positionsFrom}
 use Rattle.laws.proofs.Stored.{Rising}
-use Rattle.laws.proofs.RunsBack as back
-use Rattle.laws.proofs.RunsBack.{InOrder', lastEnd, lastEmpty, weaker, runs-again, rising-again, length-again, runs-ordered}
-use Rattle.paged_runs.specs.Passing.{leastEmpty}
+use Rattle.laws.proofs.Levels.{span-path}
+use Rattle.laws.proofs.RunsBack.{leastEmpty, InOrder', lastEnd, lastEmpty, weaker, runs-again, rising-again, length-again, runs-ordered}
 use Rattle.paged_runs.proofs.Bounded.{cellsOf, emptyOf}
 
 -- pairs past so many cells
@@ -19,19 +18,12 @@ Good e (x ∷ xs) = (leastEmpty e ≤ x .empty) × (x .empty < x .cells) × Good
 pub good-moved : (e f : ℕ) (xs : List Span) → e ≡ f → Good e xs → Good f xs
 good-moved e f xs h g = subst (λ (n : ℕ). Good n xs) h g
 
-same-least : (e : ℕ) → leastEmpty e ≡ back.leastEmpty e
-same-least zero = refl
-same-least (suc e) = refl
-
 -- ---- the runs of good pairs
 
 -- `e` is the L before + 1, v the V before
 unfoldable pub runsOf : ℕ → ℕ → List Span → List Run
 runsOf e v [] = []
 runsOf e v (x ∷ xs) = record { last = e + (x .cells - 1); empty = v + x .empty } ∷ runsOf (suc (e + (x .cells - 1))) (v + x .empty) xs
-
-pub span-path : {a b c d : ℕ} → a ≡ c → b ≡ d → _≡_ {A = Span} (record { cells = a; empty = b }) (record { cells = c; empty = d })
-span-path p q = cc
 
 next-good : (e : ℕ) (x : Span) (xs : List Span) → x .empty < x .cells → Good (e + x .cells) xs → Good (suc (e + (x .cells - 1))) xs
 next-good e x xs h g = good-moved (e + x .cells) (suc (e + (x .cells - 1))) xs (omega arith) g
@@ -51,7 +43,6 @@ order-of e v [] g = tt
 order-of e v (x ∷ xs) g =
     let g0 = g .0 in
     let g1 = g .1 in
-    let s = same-least e in
     (omega arith, omega arith, order-of (suc (e + (x .cells - 1))) (v + x .empty) xs (next-good e x xs g1 (g .2)))
 
 end-of : (e v : ℕ) (xs : List Span) → Good e xs → lastEnd e (runsOf e v xs) ≡ e + cellsOf xs
@@ -97,7 +88,6 @@ good-spans e v [] o = tt
 good-spans e v (x ∷ rs) o =
     let o0 = o .0 in
     let o1 = o .1 in
-    let s = same-least e in
     let m : suc (x .last) ≡ e + (suc (x .last) - e) = omega arith in (
       omega arith,
       omega arith,

@@ -1,108 +1,93 @@
--- What a file of kind 5 holds: counts and places by a right header, and the levels by right parts. Assumes nothing.
-use Prim.Native.Nat.{ℕ, _+_, _-_, _*_, _^_, _≤_, _<_}
+-- What the parts of kind 5 hold: counts and places where they are right, and the levels. Assumes nothing.
+use Prim.Native.Nat.{ℕ, _+_, _*_, _^_, _≤_, _<_}
 use mathlib.Core.Path.{_≡_, sym, ap, ap₂, _∙_}
+use mathlib.Core.Bool.{true}
 use mathlib.Core.List.{List, _++_}
 use native.Mathlib.Omega.{arith}
 use lib.ListN.{length, take, drop, take-append-drop}
-use Rattle.format.specs.Picture.{cells}
+use lib.Dec.{leb, eqb}
+use borrow.Author.Tests.{leb-true, eqb-true}
+use Rattle.format.specs.declared.View.{View}
+use Rattle.format.specs.Tools.{within}
 use Rattle.format.specs.Bytes.{bytesOf}
-use Rattle.format.specs.Kinds.{codec, codecOf}
 use Rattle.format.specs.Runs.{Span, runs, spans}
 use Rattle.format.specs.PagedRuns.{level, upperLevels, upperEntries, flatSpans, pagesKind, pagedParts}
-use Rattle.format.specs.Accepted.{settingOf, dimensionsOf, wordsCount, firstCount, secondCount, secondAt, positionsOf, headerNumber}
-use Rattle.format.specs.Opened.{viewOf}
-use Rattle.laws.proofs.Stored.{Rising}
+use Rattle.laws.proofs.Tools.{both-true, within-true}
 use Rattle.laws.proofs.Bounds.{length-level}
-use Rattle.laws.proofs.Check.{BodyBy}
-use Rattle.header.specs.View.{secondPlace, wordsPlace}
-use Rattle.header.proofs.Frame.{framed, CountsOf}
+use Rattle.parts.specs.Holds.{Counted, Holds}
 use Rattle.paged_runs.specs.Levels.{entries}
+use Rattle.paged_runs.specs.Passing.{Inside}
 use Rattle.paged_runs.proofs.Reading.{pairs-back, entries-take, entries-next}
-use Rattle.paged_runs.proofs.Bounded.{level-below, upper-below, cells-runs, empty-runs}
+use Rattle.paged_runs.proofs.Bounded.{cellsOf, emptyOf, level-below, upper-below, cells-runs, empty-runs}
 
--- ---- a right header
+-- ---- right counts
 
-pub record Paged (b : List ℕ) : Type 0 where
-  pub kind : codec (settingOf b) ≡ pagesKind (settingOf b .width) (settingOf b .step)
-  pub low : 2 ≤ settingOf b .step
-  pub high : settingOf b .step ≤ 64
-  pub firsts : firstCount b ≡ upperEntries (settingOf b .step) (secondCount b)
-  pub seconds : secondCount b ≤ wordsCount b
-  pub words : wordsCount b ≤ cells (dimensionsOf b)
-  pub cells-most : cells (dimensionsOf b) ≤ 16777216
-  pub second-at : secondAt b ≡ 52 + 8 * firstCount b
-  pub size : length b ≡ 52 + 8 * firstCount b + 8 * secondCount b + 4 * wordsCount b
+pub allowed-step : (w b : ℕ) → pagesKind w b .allowed ≡ true → (2 ≤ b) × (b ≤ 64)
+unfolding pagesKind
+allowed-step w b h = within-true 2 64 b (both-true (eqb w 0) (within 2 64 b) h .1)
 
-pub paged : (b : List ℕ) → headerNumber b ≡ 0 → settingOf b .kind ≡ 5 → Paged b
-unfolding codec secondPlace wordsPlace viewOf
-paged b h k =
-    let f = framed b h in
-    let c : CountsOf 5 (settingOf b .width) (settingOf b .step) (wordsCount b) (firstCount b) (secondCount b) = rw k at (f .counts) in
-    let m : cells (dimensionsOf b) ≤ 16777216 = rw (f .cells) at (f .cells-most) in
-    let w : wordsCount b ≤ cells (dimensionsOf b) = rw (f .cells) at (f .words-most) in
+pub inside : (b : List ℕ) (v : View) → Counted (pagesKind (v .width) (v .step)) b v → Inside b v
+unfolding pagesKind
+inside b v c =
+    let s = allowed-step (v .width) (v .step) (c .allowed) in
+    let n = both-true (eqb (v .firsts) (upperEntries (v .step) (v .seconds))) (leb (v .seconds) (v .words)) (c .counts) in
+    let m = leb-true (v .seconds) (v .words) (n .1) in
+    let w = c .words-most in
+    let k = c .cells-most in
+    let e : v .second ≡ v .start + 8 * v .firsts = c .second in
+    let l : v .second + 8 * v .seconds ≤ length b = c .inside in
     record {
-      kind = ap (λ (n : ℕ). codecOf n (settingOf b .width) (settingOf b .step)) k;
-      low = c .1;
-      high = c .2;
-      firsts = c .3;
-      seconds = c .4;
-      words = w;
-      cells-most = m;
-      second-at = rw k at (f .second-at);
-      size = rw k at (f .size);
+      low = s .0;
+      high = s .1;
+      firsts = eqb-true (v .firsts) (upperEntries (v .step) (v .seconds)) (n .0);
+      seconds = omega arith;
+      second = e;
+      long = omega arith;
     }
 
 -- ---- right parts
 
--- the pairs of the file's positions
-unfoldable pub pairsHeld : List ℕ → List Span
-pairsHeld b = spans (runs (positionsOf b))
+module _ (b : List ℕ) (v : View) (ls : List ℕ) (h : Holds (pagesKind (v .width) (v .step)) b v ls) where
+  pub seconds-held : length (spans (runs ls)) ≡ v .seconds
+  unfolding pagesKind pagedParts
+  seconds-held = h .second-count
 
-pub record Holds (b : List ℕ) : Type 0 where
-  pub rising : Rising 0 (cells (dimensionsOf b)) (positionsOf b)
-  pub words : length (positionsOf b) ≡ wordsCount b
-  pub firsts : length (upperLevels (settingOf b .step) (level (settingOf b .step) (pairsHeld b))) ≡ firstCount b
-  pub seconds : length (pairsHeld b) ≡ secondCount b
-  pub first : bytesOf 4 (flatSpans (upperLevels (settingOf b .step) (level (settingOf b .step) (pairsHeld b)))) ≡ take (8 * firstCount b) (drop 52 b)
-  pub second : bytesOf 4 (flatSpans (level (settingOf b .step) (pairsHeld b))) ≡ take (8 * secondCount b) (drop (52 + 8 * firstCount b) b)
+  pub firsts-held : length (upperLevels (v .step) (level (v .step) (spans (runs ls)))) ≡ v .firsts
+  unfolding pagesKind pagedParts
+  firsts-held = h .first-count
 
-pub holds : (b : List ℕ) → Paged b → BodyBy b → Holds b
-unfolding pagesKind pagedParts pairsHeld
-holds b p y =
-    record {
-      rising = y .rising;
-      words = y .size;
-      firsts = rw (p .kind) at (y .first-count);
-      seconds = rw (p .kind) at (y .second-count);
-      first = rw (p .kind) at (y .first);
-      second = rw (p .kind, p .second-at) at (y .second);
-    }
+  first-bytes : bytesOf 4 (flatSpans (upperLevels (v .step) (level (v .step) (spans (runs ls))))) ≡ take (8 * v .firsts) (drop (v .start) b)
+  unfolding pagesKind pagedParts
+  first-bytes = h .first
 
-module _ (b : List ℕ) (p : Paged b) (y : Holds b) where
-  cells-small : Rattle.paged_runs.proofs.Bounded.cellsOf (pairsHeld b) < 256 ^ 4
-  unfolding pairsHeld
-  cells-small = omega (arith, cells-runs (cells (dimensionsOf b)) (positionsOf b) (y .rising), p .cells-most)
+  second-bytes : bytesOf 4 (flatSpans (level (v .step) (spans (runs ls)))) ≡ take (8 * v .seconds) (drop (v .second) b)
+  unfolding pagesKind pagedParts
+  second-bytes = h .second
 
-  empty-small : Rattle.paged_runs.proofs.Bounded.emptyOf (pairsHeld b) < 256 ^ 4
-  unfolding pairsHeld
-  empty-small = omega (arith, empty-runs (cells (dimensionsOf b)) (positionsOf b) (y .rising), p .cells-most)
+  cells-small : cellsOf (spans (runs ls)) < 256 ^ 4
+  cells-small = omega (arith, cells-runs (v .cells) ls (h .rising), h .counted .cells-most)
+
+  empty-small : emptyOf (spans (runs ls)) < 256 ^ 4
+  empty-small = omega (arith, empty-runs (v .cells) ls (h .rising), h .counted .cells-most)
 
   -- the entries of the file are those of the levels, the top first
-  pub upper-held : take (firstCount b) (entries b) ≡ upperLevels (settingOf b .step) (level (settingOf b .step) (pairsHeld b))
+  pub upper-held : take (v .firsts) (entries (v .start) b) ≡ upperLevels (v .step) (level (v .step) (spans (runs ls)))
   upper-held =
-      entries-take b (firstCount b) (omega (arith, p .size))
-      ∙ pairs-back (firstCount b) _ (drop 52 b) (upper-below (settingOf b .step) (256 ^ 4) (pairsHeld b) cells-small empty-small) (y .firsts) (y .first)
+      entries-take (v .start) b (v .firsts) (omega (arith, inside b v (h .counted) .long))
+      ∙ pairs-back (v .firsts) _ (drop (v .start) b) (upper-below (v .step) (256 ^ 4) (spans (runs ls)) cells-small empty-small) firsts-held first-bytes
 
-  pub level-held : take (secondCount b) (drop (firstCount b) (entries b)) ≡ level (settingOf b .step) (pairsHeld b)
+  pub level-held : take (v .seconds) (drop (v .firsts) (entries (v .start) b)) ≡ level (v .step) (spans (runs ls))
   level-held =
-      entries-next b (firstCount b) (secondCount b) (omega (arith, p .size))
-      ∙ pairs-back (secondCount b) _ (drop (52 + 8 * firstCount b) b) (level-below (settingOf b .step) (256 ^ 4) (pairsHeld b) cells-small empty-small)
-      (length-level (settingOf b .step) (pairsHeld b) ∙ y .seconds) (y .second)
+      let i = inside b v (h .counted) in
+      entries-next (v .start) b (v .firsts) (v .seconds) (omega arith)
+      ∙ rw (← i .second)
+      (pairs-back (v .seconds) _ (drop (v .second) b) (level-below (v .step) (256 ^ 4) (spans (runs ls)) cells-small empty-small)
+      (length-level (v .step) (spans (runs ls)) ∙ seconds-held) second-bytes)
 
-  pub entries-held : entries b
-      ≡ upperLevels (settingOf b .step) (level (settingOf b .step) (pairsHeld b))
-      ++ (level (settingOf b .step) (pairsHeld b) ++ drop (secondCount b) (drop (firstCount b) (entries b)))
+  pub entries-held : entries (v .start) b
+      ≡ upperLevels (v .step) (level (v .step) (spans (runs ls)))
+      ++ (level (v .step) (spans (runs ls)) ++ drop (v .seconds) (drop (v .firsts) (entries (v .start) b)))
   entries-held =
-      sym (take-append-drop (firstCount b) (entries b))
-      ∙ ap₂ _++_ upper-held (sym (take-append-drop (secondCount b) (drop (firstCount b) (entries b)))
-      ∙ ap (λ (l : List Span). l ++ drop (secondCount b) (drop (firstCount b) (entries b))) level-held)
+      sym (take-append-drop (v .firsts) (entries (v .start) b))
+      ∙ ap₂ _++_ upper-held (sym (take-append-drop (v .seconds) (drop (v .firsts) (entries (v .start) b)))
+      ∙ ap (λ (l : List Span). l ++ drop (v .seconds) (drop (v .firsts) (entries (v .start) b))) level-held)

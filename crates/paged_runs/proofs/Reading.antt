@@ -10,7 +10,9 @@ use Rattle.format.specs.Bytes.{bytes, number, bytesOf, field, numbersOf}
 use Rattle.format.specs.Runs.{Span}
 use Rattle.format.specs.PagedRuns.{none, flatSpans, spansIn}
 use Rattle.laws.proofs.Bytes.{length-bytes, number-bytes}
-use Rattle.paged_runs.specs.Levels.{entries}
+use Rattle.laws.proofs.Levels.{span-path}
+use Rattle.wire.specs.Wire.{fieldPair}
+use Rattle.paged_runs.specs.Levels.{entries, spanOf}
 
 -- n entries from the front of bytes
 unfoldable pub pairsIn : ℕ → List ℕ → List Span
@@ -34,9 +36,6 @@ field-drop : (w m n : ℕ) (b : List ℕ) → field w m (drop n b) ≡ field w (
 unfolding field
 field-drop w m n b = rw (drop-drop m n b)
 
-pair-path : {a b c d : ℕ} → a ≡ c → b ≡ d → _≡_ {A = Span} (record { cells = a; empty = b }) (record { cells = c; empty = d })
-pair-path p q = cc
-
 pub pairs-at : (n i : ℕ) (b : List ℕ) → i < n → getD (pairsIn n b) i none ≡ record { cells = field 4 (8 * i) b; empty = field 4 (8 * i + 4) b }
 pairs-at zero i b h = absurd (omega arith)
 pairs-at (suc n) zero b h = rw (pairs-cons n b)
@@ -45,7 +44,7 @@ pairs-at (suc n) (suc i) b h =
     let f : 8 + (8 * i + 4) ≡ 8 * suc i + 4 = omega arith in
     rw (pairs-cons n b)
     (pairs-at n i (drop 8 b) (omega arith)
-    ∙ pair-path (field-drop 4 (8 * i) 8 b ∙ ap (λ (k : ℕ). field 4 k b) e) (field-drop 4 (8 * i + 4) 8 b ∙ ap (λ (k : ℕ). field 4 k b) f))
+    ∙ span-path (field-drop 4 (8 * i) 8 b ∙ ap (λ (k : ℕ). field 4 k b) e) (field-drop 4 (8 * i + 4) 8 b ∙ ap (λ (k : ℕ). field 4 k b) f))
 
 -- fewer entries, and those from an entry on
 pub pairs-take : (n m : ℕ) (b : List ℕ) → n ≤ m → take n (pairsIn m b) ≡ pairsIn n b
@@ -65,17 +64,16 @@ pairs-drop (suc n) (suc m) b =
 
 -- ---- the entries of a file
 
-pub length-entries : (b : List ℕ) → length (entries b) ≡ length b
+pub length-entries : (start : ℕ) (b : List ℕ) → length (entries start b) ≡ length b
 unfolding entries pairsIn
-length-entries b = length-pairs (length b) (drop 52 b)
+length-entries start b = length-pairs (length b) (drop start b)
 
-pub entry-at : (b : List ℕ) (i : ℕ) → i < length b
-    → getD (entries b) i none ≡ record { cells = field 4 (52 + 8 * i) b; empty = field 4 (52 + 8 * i + 4) b }
-unfolding entries pairsIn
-entry-at b i h =
-    let f : 52 + (8 * i + 4) ≡ 52 + 8 * i + 4 = omega arith in
-    pairs-at (length b) i (drop 52 b) h
-    ∙ pair-path (field-drop 4 (8 * i) 52 b) (field-drop 4 (8 * i + 4) 52 b ∙ ap (λ (k : ℕ). field 4 k b) f)
+pub entry-at : (start : ℕ) (b : List ℕ) (i : ℕ) → i < length b → getD (entries start b) i none ≡ spanOf (fieldPair (start + 8 * i) b)
+unfolding entries pairsIn fieldPair
+entry-at start b i h =
+    let f : start + (8 * i + 4) ≡ start + 8 * i + 4 = omega arith in
+    pairs-at (length b) i (drop start b) h
+    ∙ span-path (field-drop 4 (8 * i) start b) (field-drop 4 (8 * i + 4) start b ∙ ap (λ (k : ℕ). field 4 k b) f)
 
 -- ---- entries back from the bytes that were made of them
 
@@ -123,13 +121,13 @@ pairs-back n xs b s h e =
     ∙ rw (z, pairs-none (drop (8 * n) b)) (append-nil xs)
 
 -- the first f entries of a file, and the s after them
-pub entries-take : (b : List ℕ) (f : ℕ) → f ≤ length b → take f (entries b) ≡ pairsIn f (drop 52 b)
+pub entries-take : (start : ℕ) (b : List ℕ) (f : ℕ) → f ≤ length b → take f (entries start b) ≡ pairsIn f (drop start b)
 unfolding entries pairsIn
-entries-take b f h = pairs-take f (length b) (drop 52 b) h
+entries-take start b f h = pairs-take f (length b) (drop start b) h
 
-pub entries-next : (b : List ℕ) (f s : ℕ) → f + s ≤ length b → take s (drop f (entries b)) ≡ pairsIn s (drop (52 + 8 * f) b)
-entries-next b f s h =
-    ap (take s) (next b f) ∙ pairs-take s (length b - f) (drop (52 + 8 * f) b) (omega arith)
+pub entries-next : (start : ℕ) (b : List ℕ) (f s : ℕ) → f + s ≤ length b → take s (drop f (entries start b)) ≡ pairsIn s (drop (start + 8 * f) b)
+entries-next start b f s h =
+    ap (take s) next ∙ pairs-take s (length b - f) (drop (start + 8 * f) b) (omega arith)
   where
-    next : (b : List ℕ) (f : ℕ) → drop f (entries b) ≡ pairsIn (length b - f) (drop (52 + 8 * f) b)
-    next b f = unfold entries pairsIn in (pairs-drop f (length b) (drop 52 b) ∙ ap (pairsIn (length b - f)) (drop-drop (8 * f) 52 b))
+    next : drop f (entries start b) ≡ pairsIn (length b - f) (drop (start + 8 * f) b)
+    next = unfold entries pairsIn in (pairs-drop f (length b) (drop start b) ∙ ap (pairsIn (length b - f)) (drop-drop (8 * f) start b))

@@ -1,6 +1,6 @@
 -- The search from the top page, for any bytes and any view. Assumes nothing.
-use Prim.Native.Nat.{ℕ, _+_, _-_, _*_, _≤_, _<_}
-use mathlib.Core.Path.{_≡_, refl, sym, ap, _∙_}
+use Prim.Native.Nat.{ℕ, _+_, _*_, _≤_, _<_}
+use mathlib.Core.Path.{_≡_, sym, ap, _∙_}
 use mathlib.Core.Bool.{Bool, true, false}
 use mathlib.Core.List.{List}
 use native.Mathlib.Omega.{arith}
@@ -9,16 +9,13 @@ use borrow.Author.Tests.{le-leb, lt-leb}
 use Rattle.format.specs.declared.View.{View}
 use Rattle.format.specs.Tools.{both, within}
 use Rattle.format.specs.PagedRuns.{none, at}
-use Rattle.paged_runs.specs.declared.search.Found.the-variants.{Nowhere}
+use Rattle.laws.proofs.Tools.{both-false}
+use Rattle.paged_runs.specs.declared.search.Reached.the-variants.{Nowhere}
 use Rattle.paged_runs.specs.Levels.{entries, sizesOf, total, cut, Sized}
 use Rattle.paged_runs.specs.Descent.{foundAt, descended, viewFits, searched, LevelsFit}
 use Rattle.paged_runs.proofs.Sizes.{total-take, cut-take}
 
 -- ---- refused views
-
-both-false : (a : Bool) → both a false ≡ false
-both-false true = refl
-both-false false = refl
 
 module _ (file : List ℕ) (v : View) (stored : Bool) (number : ℕ) where
   none-unfit : viewFits v ≡ false → searched file v stored number ≡ Nowhere
@@ -47,19 +44,19 @@ module _ (file : List ℕ) (v : View) (stored : Bool) (number : ℕ) where
     same-total : total (sizesOf (v .step) (v .seconds)) (length (sizesOf (v .step) (v .seconds))) ≡ n
     same-total = rw (counted-sizes, ← s .levels) (total-take sizes count count (omega arith) ∙ sym (s .sum))
 
-    pub short-file : length file < 52 + 8 * n → searched file v stored number ≡ Nowhere
+    pub short-file : length file < v .start + 8 * n → searched file v stored number ≡ Nowhere
     unfolding searched
-    short-file h = rw (fits, same-total, lt-leb (52 + 8 * n) (length file) h)
+    short-file h = rw (fits, same-total, lt-leb (v .start + 8 * n) (length file) h)
 
-    pub from-top : 52 + 8 * n ≤ length file
-        → foundAt (descended (entries file) sizes (v .step) stored count 0 (at 0 number none none)) ≡ searched file v stored number
+    pub from-top : v .start + 8 * n ≤ length file
+        → foundAt (descended (entries (v .start) file) sizes (v .step) stored count 0 (at 0 number none none)) ≡ searched file v stored number
     unfolding searched descended
     from-top h =
-        let e : cut (sizesOf (v .step) (v .seconds)) count (entries file) ≡ cut sizes count (entries file)
-        = ap (λ (l : List ℕ). cut l count (entries file)) (sym (s .levels)) ∙ cut-take sizes count count (entries file) (omega arith) in
-        rw (fits, same-total, counted-sizes, le-leb (52 + 8 * n) (length file) h, e)
+        let e : cut (sizesOf (v .step) (v .seconds)) count (entries (v .start) file) ≡ cut sizes count (entries (v .start) file)
+        = ap (λ (l : List ℕ). cut l count (entries (v .start) file)) (sym (s .levels)) ∙ cut-take sizes count count (entries (v .start) file) (omega arith) in
+        rw (fits, same-total, counted-sizes, le-leb (v .start + 8 * n) (length file) h, e)
 
-    pub top-fits : 52 + 8 * n ≤ length file → LevelsFit file sizes (v .step) count 0 0 0
+    pub top-fits : v .start + 8 * n ≤ length file → LevelsFit file (v .start) sizes (v .step) count 0 0 0
     top-fits h =
         let sum = s .sum in
         let most = s .count-most in

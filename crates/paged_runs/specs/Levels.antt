@@ -8,15 +8,14 @@ use Rattle.format.specs.Tools.{pick, upTo}
 use Rattle.format.specs.Bytes.{numbersOf}
 use Rattle.format.specs.Runs.{Span}
 use Rattle.format.specs.PagedRuns.{spansIn}
-use Rattle.format.specs.File.{headerLength}
-use Rattle.paged_runs.specs.declared.entry.Pair.{Pair}
+use Rattle.wire.specs.declared.Pair.{Pair}
 
 abbrev pub spanOf : Pair → Span
-spanOf x = record { cells = x .cells; empty = x .empty }
+spanOf x = record { cells = x .first; empty = x .second }
 
--- the entries past the header, one after the other; bytes past the end count 0
-unfoldable pub entries : List ℕ → List Span
-entries b = spansIn (numbersOf 4 (2 * length b) (drop headerLength b))
+-- the entries from an offset on, one after the other; bytes past the end count 0
+unfoldable pub entries : ℕ → List ℕ → List Span
+entries start b = spansIn (numbersOf 4 (2 * length b) (drop start b))
 
 -- the sizes of the levels above a level of v entries, the nearest first; n bounds their number
 unfoldable pub sizesAbove : ℕ → ℕ → ℕ → List ℕ

@@ -1,3 +1,6 @@
 pub mod Levels
 pub mod Descent
 pub mod Passing
+pub mod Steps
+pub mod Coding
+pub mod LevelZero

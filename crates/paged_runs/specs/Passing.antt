@@ -1,5 +1,5 @@
 -- The entries of a level as the check goes along them. Assumes nothing.
-use Prim.Native.Nat.{ℕ, zero, suc, _+_, _-_, _*_, _^_, _≤_, _<_}
+use Prim.Native.Nat.{ℕ, _+_, _*_, _^_, _≤_, _<_}
 use mathlib.Core.Path.{_≡_}
 use mathlib.Core.Bool.{Bool, true}
 use mathlib.Core.List.{List, [], _∷_}
@@ -9,21 +9,14 @@ use Rattle.format.specs.declared.View.{View}
 use Rattle.format.specs.Tools.{pick, both, same, upTo}
 use Rattle.format.specs.Runs.{Span}
 use Rattle.format.specs.PagedRuns.{upperEntries, flatSpans}
-use Rattle.paged_runs.specs.declared.entry.Pair.{Pair}
+use Rattle.laws.proofs.RunsBack.{leastEmpty}
+use Rattle.wire.specs.declared.Pair.{Pair}
+use Rattle.parts.specs.Encoder.{leftAfter}
 use Rattle.paged_runs.specs.declared.check.Sum.{Sum}
 use Rattle.paged_runs.specs.declared.check.Passed.{Passed}
 use Rattle.paged_runs.specs.declared.check.Compared.{Compared}
 
--- the entries left in a page after one more, where `left` are left before it: with none left it is the first of a page of b
-abbrev pub leftAfter : ℕ → ℕ → ℕ
-leftAfter b left = pick (eqb left 0) (b - 1) (left - 1)
-
 -- ---- level 0
-
--- the empty cells that a run begins with at least, past so many cells: none before the first run
-abbrev pub leastEmpty : ℕ → ℕ
-leastEmpty zero = 0
-leastEmpty (suc cells) = 1
 
 -- the sums after a run follow on those before it: it has empty cells before it, and a stored cell
 abbrev pub follows : Sum → Sum → Bool
@@ -74,7 +67,7 @@ comparedWith b s u x =
       sum = u;
       right =
           both (s .right)
-          (both (eqb (u .cells) (pick (eqb (s .left) 0) 0 (s .sum .cells) + x .cells)) (eqb (u .empty) (pick (eqb (s .left) 0) 0 (s .sum .empty) + x .empty)));
+          (both (eqb (u .first) (pick (eqb (s .left) 0) 0 (s .sum .first) + x .cells)) (eqb (u .second) (pick (eqb (s .left) 0) 0 (s .sum .second) + x .empty)));
     }
 
 abbrev pub sameSpans : List Span → List Span → Bool
@@ -82,19 +75,20 @@ sameSpans xs ys = same (flatSpans xs) (flatSpans ys)
 
 -- ---- what the header tells
 
--- both parts are in the file, and their counts are those of kind 5
+-- both parts are in the file, one behind the other, and their counts are those of kind 5
 pub record Inside (file : List ℕ) (v : View) : Type 0 where
   pub low : 2 ≤ v .step
   pub high : v .step ≤ 64
   pub firsts : v .firsts ≡ upperEntries (v .step) (v .seconds)
   pub seconds : v .seconds ≤ 16777216
-  pub long : 52 + 8 * (v .firsts + v .seconds) ≤ length file
+  pub second : v .second ≡ v .start + 8 * v .firsts
+  pub long : v .start + 8 * (v .firsts + v .seconds) ≤ length file
 
 -- a level and the one below it are in the file
-pub record LevelInside (file : List ℕ) (step start size below under : ℕ) : Type 0 where
+pub record LevelInside (file : List ℕ) (start step first size below under : ℕ) : Type 0 where
   pub low : 2 ≤ step
   pub high : step ≤ 64
   pub size-of : size ≡ upTo under step
   pub most : under ≤ 16777216
-  pub long : 52 + 8 * (start + size) ≤ length file
-  pub long-below : 52 + 8 * (below + under) ≤ length file
+  pub long : start + 8 * (first + size) ≤ length file
+  pub long-below : start + 8 * (below + under) ≤ length file

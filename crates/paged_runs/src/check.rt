@@ -1,20 +1,21 @@
 // The check of kind 5's parts: along level 0 once, and along each level above it once, with the last entries of the pages below.
-use crate::entry::Pair;
-use crate::entry::index;
-use crate::entry::least;
-use crate::entry::long;
 use crate::entry::pair_at;
 use format::View;
+use parts::encode::left_after;
+use wire::Pair;
+use wire::numbers::index;
+use wire::numbers::lesser;
+use wire::numbers::long;
 ghost use mathlib.Core.Path.{_≡_};
 ghost use Prim.Native.Nat.{_≤_, _<_, _^_};
 ghost use lib.ListN.{take, drop};
 ghost use lib.Dec.{eqb};
 ghost use Rattle.format.specs.Tools.{pick};
-ghost use Rattle.format.specs.PagedRuns.{level, lasts, upperLevels};
-ghost use Rattle.header.specs.Body.{partsRight};
-ghost use Rattle.header.specs.Search.{HeaderView};
+ghost use Rattle.format.specs.PagedRuns.{level, lasts, upperLevels, pagesKind};
+ghost use Rattle.laws.proofs.RunsBack.{leastEmpty};
+ghost use Rattle.parts.specs.Holds.{Counted, partsRight};
 ghost use Rattle.paged_runs.specs.Levels.{entries, spanOf};
-ghost use Rattle.paged_runs.specs.Passing.{leftAfter, leastEmpty, follows, Small, passedWith, runsRight, comparedWith, sameSpans, Inside, LevelInside};
+ghost use Rattle.paged_runs.specs.Passing.{follows, Small, passedWith, runsRight, comparedWith, sameSpans, Inside, LevelInside};
 
 // All cells, and the empty ones among them.
 struct Sum {
@@ -35,14 +36,6 @@ struct Compared {
     left: u32,
     sum: Pair,
     right: bool,
-}
-
-// How many entries are left in the page after one more.
-fn left_after(step: u32, left: u32) -> u32
-    requires { ⌜ 1 ≤ step ⌝ }
-    ensures { λ r. ⌜ r ≡ leftAfter step left ⌝ }
-{
-    if left == 0 { step - 1 } else { left - 1 }
 }
 
 // The sums before the page of the next entry.
@@ -78,8 +71,8 @@ fn pass(step: u32, s: Passed, y: Pair) -> Passed
     let old = s.start;
     let start = start_of(left, before, old);
     let sum = Sum {
-        cells: start.cells + long(y.cells),
-        empty: start.empty + long(y.empty),
+        cells: start.cells + long(y.first),
+        empty: start.empty + long(y.second),
     };
     let right = s.right & run_follows(before, sum);
     Passed {
@@ -93,7 +86,7 @@ fn pass(step: u32, s: Passed, y: Pair) -> Passed
 // Level 0 is right.
 fn runs_right(file: &[u8], v: View) -> bool
     requires { ⌜ Inside (now file) v ⌝ }
-    ensures { λ r. ⌜ r ≡ runsRight (v .step) (v .cells) (v .words) (take (v .seconds) (drop (v .firsts) (entries (now (file .entry))))) ⌝ }
+    ensures { λ r. ⌜ r ≡ runsRight (v .step) (v .cells) (v .words) (take (v .seconds) (drop (v .firsts) (entries (v .start) (now (file .entry))))) ⌝ }
 {
     let step = v.step;
     let mut at = index(v.firsts);
@@ -106,7 +99,7 @@ fn runs_right(file: &[u8], v: View) -> bool
         right: true,
     };
     while at < end {
-        s = pass(step, s, pair_at(file, at));
+        s = pass(step, s, pair_at(file, v.start, at));
         at += 1;
     }
     let sum = s.sum;
@@ -127,9 +120,9 @@ fn compare(step: u32, s: Compared, u: Pair, x: Pair) -> Compared
 {
     let left = s.left;
     let before = s.sum;
-    let cells = before_of(left, before.cells) + long(x.cells);
-    let empty = before_of(left, before.empty) + long(x.empty);
-    let right = s.right & (long(u.cells) == cells) & (long(u.empty) == empty);
+    let cells = before_of(left, before.first) + long(x.first);
+    let empty = before_of(left, before.second) + long(x.second);
+    let right = s.right & (long(u.first) == cells) & (long(u.second) == empty);
     Compared {
         left: left_after(step, left),
         sum: u,
@@ -137,34 +130,38 @@ fn compare(step: u32, s: Compared, u: Pair, x: Pair) -> Compared
     }
 }
 
-// The level of `size` entries from `start` on is the one above the level of `under` entries from `below` on.
+// The level of `size` entries from entry `first` on is the one above the level of `under` entries from entry `below` on.
 fn level_right(
     file: &[u8],
+    start: u32,
     step: u32,
-    start: usize,
+    first: usize,
     size: usize,
     below: usize,
     under: usize,
 ) -> bool
-    requires { ⌜ LevelInside (now file) step start size below under ⌝ }
-    ensures { λ r. ⌜ r ≡ sameSpans (take size (drop start (entries (now (file .entry)))))
-        (level step (lasts step (take under (drop below (entries (now (file .entry))))))) ⌝ }
+    requires { ⌜ LevelInside (now file) start step first size below under ⌝ }
+    ensures { λ r. ⌜ r ≡ sameSpans (take size (drop first (entries start (now (file .entry)))))
+        (level step (lasts step (take under (drop below (entries start (now (file .entry))))))) ⌝ }
 {
     let page = index(step);
     let mut s = Compared {
         left: 0,
-        sum: Pair { cells: 0, empty: 0 },
+        sum: Pair {
+            first: 0,
+            second: 0,
+        },
         right: true,
     };
     let mut i = 0;
     let mut end = 0;
     while i < size {
-        end = least(end + page, under);
+        end = lesser(end + page, under);
         s = compare(
             step,
             s,
-            pair_at(file, start + i),
-            pair_at(file, below + end - 1),
+            pair_at(file, start, first + i),
+            pair_at(file, start, below + end - 1),
         );
         i += 1;
     }
@@ -174,19 +171,19 @@ fn level_right(
 // The levels above level 0 are right.
 fn upper_right(file: &[u8], v: View) -> bool
     requires { ⌜ Inside (now file) v ⌝ }
-    ensures { λ r. ⌜ r ≡ sameSpans (take (v .firsts) (entries (now (file .entry))))
-        (upperLevels (v .step) (take (v .seconds) (drop (v .firsts) (entries (now (file .entry)))))) ⌝ }
+    ensures { λ r. ⌜ r ≡ sameSpans (take (v .firsts) (entries (v .start) (now (file .entry))))
+        (upperLevels (v .step) (take (v .seconds) (drop (v .firsts) (entries (v .start) (now (file .entry)))))) ⌝ }
 {
     let page = index(v.step);
     let mut below = index(v.firsts);
     let mut under = index(v.seconds);
     while page < under {
         let size = (under + (page - 1)) / page;
-        let start = below - size;
-        if !level_right(file, v.step, start, size, below, under) {
+        let first = below - size;
+        if !level_right(file, v.start, v.step, first, size, below, under) {
             return false;
         }
-        below = start;
+        below = first;
         under = size;
     }
     true
@@ -194,8 +191,8 @@ fn upper_right(file: &[u8], v: View) -> bool
 
 // The parts are those of rising positions below cells, as many as the words.
 pub fn parts_right(file: &[u8], v: View) -> bool
-    requires { ⌜ HeaderView 5 (now file) v ⌝ }
-    ensures { λ r. ⌜ r ≡ partsRight (now (file .entry)) ⌝ }
+    requires { ⌜ Counted (pagesKind (v .width) (v .step)) (now file) v ⌝ }
+    ensures { λ r. ⌜ r ≡ partsRight (pagesKind (v .width) (v .step)) (now (file .entry)) v ⌝ }
 {
     if runs_right(file, v) {
         return upper_right(file, v);

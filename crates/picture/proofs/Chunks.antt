@@ -9,14 +9,15 @@ use lib.Seq.{drop-drop, length-take-le}
 use Rattle.format.specs.declared.Setting.{Setting}
 use Rattle.format.specs.Kinds.{settingAllowed}
 use Rattle.format.specs.Stored.{storedFrom, stored, kept}
-use Rattle.laws.proofs.Stored.{rising-stored}
-use Rattle.encode.specs.declared.state.Encoder.{Encoder}
-use Rattle.encode.specs.Encoder.{begun, takenAll}
-use Rattle.encode.specs.Ready.{passed}
-use Rattle.encode.specs.Batch.{Along}
-use Rattle.encode.proofs.Sounds.{sound-begun}
-use Rattle.encode.proofs.Batches.{rising-front, all-append, along-added}
-use Rattle.cells.proofs.Stored.{stored-append, kept-append}
+use Rattle.laws.proofs.Stored.{rising-stored, stored-append, kept-append}
+use Rattle.parts.specs.declared.Encoder.{Encoder}
+use Rattle.parts.specs.Encoder.{begun, takenAllBy}
+use Rattle.parts.specs.Ready.{passed}
+use Rattle.parts.specs.Batch.{Along}
+use Rattle.parts.proofs.Sounds.{sound-begun}
+use Rattle.parts.proofs.Added.{rising-front}
+use Rattle.kinds.specs.Coding.{takenAll}
+use Rattle.kinds.proofs.Driving.{all-append, along-added}
 
 -- the stored positions from index `at` on
 abbrev pub left : ℕ → List ℕ → ℕ → List ℕ
@@ -42,6 +43,10 @@ left-all E ws = unfold stored in refl
 -- after the last cell
 pub left-none : (E : ℕ) (ws : List ℕ) (at : ℕ) → length ws ≤ at → left E ws at ≡ []
 left-none E ws at h = unfold storedFrom in rw (drop-of-length-le ws {i = at} h)
+
+pub all-done : (E : ℕ) (ws : List ℕ) (at : ℕ) (s : Setting) (e : Encoder) → length ws ≤ at → e ≡ takenAll s e (left E ws at)
+unfolding takenAll takenAllBy
+all-done E ws at s e h = sym (ap (takenAll s e) (left-none E ws at h))
 
 -- of n cells, a chunk begins at `at` and ends at `end`
 pub record Cut (n at end : ℕ) : Type 0 where

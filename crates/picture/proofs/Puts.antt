@@ -1,31 +1,27 @@
 -- The cells of a picture put out chunk by chunk: those of the chunk first, then those that are left, give the whole. Assumes nothing.
 use Prim.Native.Nat.{ℕ, _+_, _*_, _≤_}
-use mathlib.Core.Path.{_≡_, refl, sym, ap, ap₂, _∙_}
+use mathlib.Core.Path.{_≡_, sym, ap, ap₂, _∙_}
 use mathlib.Core.Bool.{true}
-use mathlib.Core.List.{List, [], _∷_, _++_, append-assoc}
+use mathlib.Core.List.{List, [], _++_}
 use native.Mathlib.Nat.{add-zero}
 use native.Mathlib.Omega.{arith}
 use lib.ListN.{length, drop, length-append, drop-of-length-le}
 use Rattle.format.specs.declared.Setting.{Setting}
 use Rattle.format.specs.Kinds.{settingAllowed}
-use Rattle.format.specs.Bytes.{bytes, bytesOf}
+use Rattle.format.specs.Bytes.{bytesOf}
 use Rattle.format.specs.Stored.{stored, kept}
-use Rattle.laws.proofs.Bytes.{length-bytesOf}
+use Rattle.format.specs.File.{headerLength}
+use Rattle.laws.proofs.Bytes.{length-bytesOf, bytes-append}
 use Rattle.laws.proofs.Stored.{length-stored}
 use Rattle.stores.specs.Put.{put}
-use Rattle.encode.specs.declared.state.Encoder.{Encoder}
-use Rattle.encode.specs.Encoder.{begun, takenAll, firsts, seconds, endFirst, endSecond}
-use Rattle.encode.specs.Ready.{Apart}
-use Rattle.encode.specs.Batch.{Along}
-use Rattle.encode.proofs.Turn.{put-end}
-use Rattle.encode.proofs.Batches.{rank-added, room-first-all, room-second-all, apart-added, put-turn-all}
+use Rattle.stores.proofs.Laws.{put-nil}
+use Rattle.parts.specs.declared.Encoder.{Encoder}
+use Rattle.parts.specs.Encoder.{begun, firstsBy, secondsBy}
+use Rattle.parts.specs.Batch.{putAllBy, Along}
+use Rattle.kinds.specs.Coding.{coder, takenAll, firsts, seconds, addedFirst, addedSecond, Apart}
+use Rattle.kinds.proofs.Driving.{rank-added, room-first-all, room-second-all, apart-added, put-turn-all}
 use Rattle.picture.specs.Chunk.{putChunk, ChunkRoom}
 use Rattle.picture.proofs.Chunks.{left, chunk, listed, Cut, left-none, along-begun, stored-cut, kept-cut, along-chunk, along-left}
-
-bytes-append : (w : ℕ) (xs ys : List ℕ) → bytesOf w (xs ++ ys) ≡ bytesOf w xs ++ bytesOf w ys
-unfolding bytesOf
-bytes-append w [] ys = refl
-bytes-append w (x ∷ xs) ys = rw (bytes-append w xs ys) (sym (append-assoc (bytes w x) (bytesOf w xs) (bytesOf w ys)))
 
 -- d with the bytes of the positions ls and of the end, and with the words vs after those put out before
 abbrev pub putRest : Setting → List ℕ → Encoder → List ℕ → ℕ → List ℕ → List ℕ
@@ -39,14 +35,14 @@ pub record Going (s : Setting) (E : ℕ) (ws : List ℕ) (place n : ℕ) (e : En
 
 module _ (s : Setting) (E : ℕ) (ws : List ℕ) (place n : ℕ) where
   -- before the first cell
-  pub going-begun : (g : ℕ) → length ws ≤ 16777216 → g ≤ 4294967296 → Apart s (begun 52 g) (stored E ws) place → place + 4 * length (kept E ws) ≤ n
-      → Going s E ws place n (begun 52 g) 0
+  pub going-begun : (g : ℕ) → length ws ≤ 16777216 → g ≤ 4294967296 → Apart s (begun headerLength g) (stored E ws) place → place + 4 * length (kept E ws) ≤ n
+      → Going s E ws place n (begun headerLength g) 0
   unfolding stored begun
-  going-begun g l h a r = record { along = along-begun 52 g E ws (omega arith) h l; apart = a; room = omega arith }
+  going-begun g l h a r = record { along = along-begun headerLength g E ws (omega arith) h l; apart = a; room = omega arith }
 
   pub put-begun : (g : ℕ) (d : List ℕ)
-      → putRest s d (begun 52 g) (left E ws 0) place (kept E (drop 0 ws))
-      ≡ put (put (put d 52 (firsts s (begun 52 g) (stored E ws))) g (seconds s (begun 52 g) (stored E ws))) place (bytesOf 4 (kept E ws))
+      → putRest s d (begun headerLength g) (left E ws 0) place (kept E (drop 0 ws))
+      ≡ put (put (put d headerLength (firsts s (begun headerLength g) (stored E ws))) g (seconds s (begun headerLength g) (stored E ws))) place (bytesOf 4 (kept E ws))
   unfolding stored begun
   put-begun g d = rw add-zero
 
@@ -64,14 +60,18 @@ module _ (s : Setting) (E : ℕ) (ws : List ℕ) (place n : ℕ) where
         ∙ rw (length-stored E at (chunk ws at end))
 
     pub room-chunk : ChunkRoom s e (listed E ws at end) (place + 4 * e .rank) n
+    unfolding addedFirst addedSecond
     room-chunk =
         let a = apart-cut place (omega arith) in
         let r = g .room in
         let l = length-cut in
         record {
           along = along-chunk E ws at end z e (g .along);
-          first = room-first-all s e (listed E ws at end) (left E ws end) place a;
-          second = room-second-all s e (listed E ws at end) (left E ws end) place a n (omega arith);
+          room =
+              record {
+                first = room-first-all s e (listed E ws at end) (left E ws end) place a;
+                second = room-second-all s e (listed E ws at end) (left E ws end) place a n (omega arith);
+              };
           words = omega arith;
         }
 
@@ -90,7 +90,7 @@ module _ (s : Setting) (E : ℕ) (ws : List ℕ) (place n : ℕ) where
         → putRest s (putChunk s d e (listed E ws at end) (place + 4 * e .rank) (kept E (chunk ws at end)))
         (takenAll s e (listed E ws at end)) (left E ws end) place (kept E (drop end ws))
         ≡ putRest s d e (left E ws at) place (kept E (drop at ws))
-    unfolding putChunk
+    unfolding putChunk putAllBy addedFirst addedSecond
     put-next d =
         let xs : List ℕ = listed E ws at end in
         let ys : List ℕ = left E ws end in
@@ -109,9 +109,18 @@ module _ (s : Setting) (E : ℕ) (ws : List ℕ) (place n : ℕ) where
 
   -- after the last cell
   module _ (e : Encoder) (at : ℕ) (h : length ws ≤ at) where
-    pub apart-end : Going s E ws place n e at → Apart s e [] place
-    apart-end g = rw (← left-none E ws at h) (g .apart)
+    pub room-end : Going s E ws place n e at → (e .first + length (coder s .endFirst e) ≤ n) × (e .second + length (coder s .endSecond e) ≤ n)
+    unfolding firsts firstsBy seconds secondsBy
+    room-end g =
+        let a : Apart s e [] place = rw (← left-none E ws at h) (g .apart) in
+        let f = a .first in
+        let k = a .second in
+        let r = g .room in
+        (omega arith, omega arith)
 
-    pub put-rest-end : (d : List ℕ) → putRest s d e (left E ws at) place (kept E (drop at ws)) ≡ put (put d (e .first) (endFirst s e)) (e .second) (endSecond s e)
-    unfolding kept bytesOf
-    put-rest-end d = rw (left-none E ws at h, drop-of-length-le ws {i = at} h) (put-end s e (place + 4 * e .rank) d)
+    pub put-rest-end : (d : List ℕ)
+        → putRest s d e (left E ws at) place (kept E (drop at ws)) ≡ put (put d (e .first) (coder s .endFirst e)) (e .second) (coder s .endSecond e)
+    unfolding firsts firstsBy seconds secondsBy kept bytesOf
+    put-rest-end d =
+        rw (left-none E ws at h, drop-of-length-le ws {i = at} h)
+        (put-nil (put (put d (e .first) (coder s .endFirst e)) (e .second) (coder s .endSecond e)) (place + 4 * e .rank))

@@ -1,13 +1,15 @@
 // A picture's lent words, chunk by chunk: measured, and put out.
-use cells::put_kept;
-use cells::stored_cells;
-use encode::batch::advance_all;
-use encode::batch::emit_all;
-use encode::begin;
-use encode::finish;
-use encode::finished;
-use encode::state::Encoder;
+use format::HEADER;
 use format::Setting;
+use kinds::Measured;
+use kinds::coding::finish;
+use kinds::coding::put_all;
+use kinds::coding::take_all;
+use layout::measured;
+use parts::Encoder;
+use parts::encode::begin;
+use stored_cells::put_kept;
+use stored_cells::stored_cells;
 ghost use mathlib.Core.Path.{_≡_};
 ghost use mathlib.Core.Bool.{true};
 ghost use Prim.Native.Nat.{_+_, _*_, _≤_, min};
@@ -15,10 +17,12 @@ ghost use lib.ListN.{length};
 ghost use Rattle.format.specs.Kinds.{settingAllowed};
 ghost use Rattle.format.specs.Bytes.{bytesOf};
 ghost use Rattle.format.specs.Stored.{storedFrom, stored, kept};
+ghost use Rattle.format.specs.File.{headerLength};
 ghost use Rattle.stores.specs.Put.{put};
-ghost use Rattle.encode.specs.Encoder.{begun, ended, takenAll, firsts, seconds};
-ghost use Rattle.encode.specs.Ready.{Apart};
-ghost use Rattle.encode.specs.Batch.{Along};
+ghost use Rattle.parts.specs.Encoder.{begun};
+ghost use Rattle.parts.specs.Batch.{Along};
+ghost use Rattle.kinds.specs.Coding.{takenAll, firsts, seconds, Apart};
+ghost use Rattle.layout.specs.Laid.{Measures};
 ghost use Rattle.picture.specs.Chunk.{putChunk, ChunkRoom};
 
 // The cells of a chunk, at most.
@@ -45,13 +49,13 @@ fn measure_chunk(
     ensures { λ r. ⌜ r ≡ takenAll s e (storedFrom empty at (now (words .entry))) ⌝ }
 {
     let n = stored_cells(words, at, empty, batch);
-    advance_all(s, e, &batch[..n])
+    take_all(s, e, &batch[..n])
 }
 
-// The encoder after the stored positions and the end, with nothing put out.
-pub fn measure(words: &[u32], empty: u32, s: Setting) -> Encoder
+// What the file of the words measures, with nothing put out.
+pub fn measure(words: &[u32], empty: u32, s: Setting) -> Measured
     requires { ⌜ (settingAllowed s ≡ true) × (length (now words) ≤ 16777216) ⌝ }
-    ensures { λ r. ⌜ r ≡ ended s (takenAll s (begun 0 0) (stored empty (now (words .entry)))) ⌝ }
+    ensures { λ r. ⌜ Measures s (length (now (words .entry))) (stored empty (now (words .entry))) r ⌝ }
 {
     let mut batch = [0u32; CHUNK];
     let mut e = begin(0, 0);
@@ -62,7 +66,7 @@ pub fn measure(words: &[u32], empty: u32, s: Setting) -> Encoder
         e = measure_chunk(chunk, at as u32, empty, s, e, &mut batch);
         at = end;
     }
-    finished(s, e)
+    measured(s, e)
 }
 
 // The stored cells of a chunk put out: their positions into the parts, and their words after those put out before, the first of which
@@ -83,22 +87,22 @@ fn put_chunk(
         × (now (dst .exit) ≡ putChunk s (now (dst .entry)) e (storedFrom empty at (now (words .entry))) (place + 4 * e .rank) (kept empty (now (words .entry)))) ⌝ }
 {
     let n = stored_cells(words, at, empty, batch);
-    let next = emit_all(dst, s, e, &batch[..n]);
+    let next = put_all(dst, s, e, &batch[..n]);
     let to = place + 4 * (e.rank as usize);
     put_kept(dst, to, words, at, empty, &batch[..n]);
     next
 }
 
-// The parts of the stored positions, the first at byte 52 and the second at `second`, and the stored words at `place`. Of kind 5 only
-// the second part.
+// The parts of the stored positions, the first behind the header and the second at `second`, and the stored words at `place`. A first
+// part that is made of the second is left out.
 pub fn put_out(dst: &mut [u8], words: &[u32], empty: u32, s: Setting, second: usize, place: usize)
     requires { ⌜ (settingAllowed s ≡ true) × (length (now words) ≤ 16777216) × (second ≤ 4294967296)
-        × Apart s (begun 52 second) (stored empty (now words)) place × (place + 4 * length (kept empty (now words)) ≤ length (now dst)) ⌝ }
-    ensures { λ _. ⌜ now (dst .exit) ≡ put (put (put (now (dst .entry)) 52 (firsts s (begun 52 second) (stored empty (now (words .entry))))) second
-        (seconds s (begun 52 second) (stored empty (now (words .entry))))) place (bytesOf 4 (kept empty (now (words .entry)))) ⌝ }
+        × Apart s (begun headerLength second) (stored empty (now words)) place × (place + 4 * length (kept empty (now words)) ≤ length (now dst)) ⌝ }
+    ensures { λ _. ⌜ now (dst .exit) ≡ put (put (put (now (dst .entry)) headerLength (firsts s (begun headerLength second) (stored empty (now (words .entry))))) second
+        (seconds s (begun headerLength second) (stored empty (now (words .entry))))) place (bytesOf 4 (kept empty (now (words .entry)))) ⌝ }
 {
     let mut batch = [0u32; CHUNK];
-    let mut e = begin(52, second);
+    let mut e = begin(HEADER, second);
     let mut at: usize = 0;
     while at < words.len() {
         let next = lesser(at + CHUNK, words.len());

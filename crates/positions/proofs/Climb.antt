@@ -9,7 +9,7 @@ use lib.Dec.{leb, ltb}
 use borrow.Author.Tests.{leb-true, ltb-true, ltb-false, le-leb, lt-leb}
 use Rattle.format.specs.Tools.{both}
 use Rattle.format.specs.Bytes.{field, numbersOf}
-use Rattle.header.specs.Body.{rises}
+use Rattle.parts.specs.Holds.{rises}
 use Rattle.laws.proofs.Tools.{cases}
 use Rattle.laws.proofs.Numbers.{numbers-turn, numbers-end}
 

@@ -1,6 +1,3 @@
 pub mod Climb
-pub mod Last
-pub mod Among
-pub mod Lookup
-pub mod PartsRight
-pub mod Searched
+pub mod Held
+pub mod Laws

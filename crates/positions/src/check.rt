@@ -5,8 +5,8 @@ ghost use mathlib.Core.Path.{_≡_};
 ghost use Prim.Native.Nat.{_+_, _*_, _≤_};
 ghost use lib.ListN.{length, drop};
 ghost use Rattle.format.specs.Bytes.{numbersOf};
-ghost use Rattle.header.specs.Body.{rises, partsRight};
-ghost use Rattle.header.specs.Search.{HeaderView};
+ghost use Rattle.format.specs.Positions.{positionsKind};
+ghost use Rattle.parts.specs.Holds.{Counted, rises, partsRight};
 
 // The n positions of 4 bytes from an offset on rise below cells: each is above the one before, and the last is below cells.
 fn positions_rise(file: &[u8], at: usize, n: u32, cells: u32) -> bool
@@ -32,8 +32,8 @@ fn positions_rise(file: &[u8], at: usize, n: u32, cells: u32) -> bool
 
 // The parts are those of rising positions below cells, as many as the words.
 pub fn parts_right(file: &[u8], v: View) -> bool
-    requires { ⌜ HeaderView 2 (now file) v ⌝ }
-    ensures { λ r. ⌜ r ≡ partsRight (now (file .entry)) ⌝ }
+    requires { ⌜ Counted (positionsKind (v .width) (v .step)) (now file) v ⌝ }
+    ensures { λ r. ⌜ r ≡ partsRight (positionsKind (v .width) (v .step)) (now (file .entry)) v ⌝ }
 {
-    positions_rise(file, 52, v.words, v.cells)
+    positions_rise(file, v.start as usize, v.words, v.cells)
 }

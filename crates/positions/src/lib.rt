@@ -1,3 +1,6 @@
-// Kind 2, positions: the check of the first part, and the searches in it.
+// Kind 2, positions (document 01, "The file").
 pub mod check;
+pub mod coding;
 pub mod search;
+pub mod setting;
+pub mod steps;

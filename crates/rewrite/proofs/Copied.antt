@@ -1,25 +1,22 @@
 -- Bytes copied one after the other, and the words of a file after an edit as three stretches of bytes. Assumes nothing.
 use Prim.Native.Nat.{ℕ, suc, _+_, _-_, _*_, _≤_, _<_}
 use mathlib.Core.Path.{_≡_, refl, sym, ap, _∙_}
-use mathlib.Core.List.{List, [], _∷_, _++_, append-nil, append-assoc}
+use mathlib.Core.List.{List, [], _∷_, _++_, append-nil}
 use native.Mathlib.Nat.{sub-zero, add-zero}
 use native.Mathlib.Omega.{arith}
 use lib.ListN.{length, getD, set, take, drop, length-append, length-drop}
 use lib.Seq.{drop-cons, drop-drop, take-all, length-take-le}
 use Rattle.format.specs.Bytes.{bytes, bytesOf}
-use Rattle.laws.proofs.Bytes.{length-bytesOf}
+use Rattle.laws.proofs.Bytes.{length-bytesOf, bytes-append}
 use Rattle.format.specs.declared.View.{View}
 use Rattle.format.specs.Tools.{pick}
-use Rattle.format.specs.Accepted.{wordsCount, wordsAt, keptOf}
-use Rattle.laws.proofs.Acceptance.{accepted, accepted-has-file}
-use Rattle.laws.proofs.Check.{length-numbersOf}
-use Rattle.laws.proofs.Files.{from-words, kept-back}
+use Rattle.format.specs.Accepted.{keptOf}
+use Rattle.laws.proofs.Files.{from-words}
 use Rattle.laws.proofs.RankRange.{take-bytesOf, drop-bytesOf}
 use Rattle.stores.specs.Put.{put}
 use Rattle.stores.proofs.Laws.{put-append, put-numbers-nil}
-use Rattle.header.specs.View.{wordsPlace}
-use Rattle.header.specs.Search.{ViewOf}
-use Rattle.header.proofs.Frame.{Framed, framed}
+use Rattle.parts.specs.Holds.{ViewOf}
+use Rattle.parts.proofs.Seen.{Seen, seen}
 use Rattle.rewrite.specs.declared.Edit.{Edit}
 use Rattle.rewrite.specs.Edit.{overlaid, EditOf}
 
@@ -61,11 +58,6 @@ put-none d at = put-numbers-nil 4 d at
 
 -- ---- the words of an accepted file after an edit
 
-bytes-append : (w : ℕ) (xs ys : List ℕ) → bytesOf w (xs ++ ys) ≡ bytesOf w xs ++ bytesOf w ys
-unfolding bytesOf
-bytes-append w [] ys = refl
-bytes-append w (x ∷ xs) ys = rw (bytes-append w xs ys) (sym (append-assoc (bytes w x) (bytesOf w xs) (bytesOf w ys)))
-
 module _ (b : List ℕ) (v : View) (o : ViewOf b v) (x : Edit) (i : EditOf b x) (w : ℕ) where
   abbrev vs : List ℕ
   vs = keptOf b
@@ -74,38 +66,32 @@ module _ (b : List ℕ) (v : View) (o : ViewOf b v) (x : Edit) (i : EditOf b x) 
   new = pick (x .put) (w ∷ []) []
 
   abbrev from : ℕ
-  from = wordsPlace v + 4 * x .after
+  from = v .place + 4 * x .after
 
-  frame : Framed b
-  frame = framed b (accepted b (o .accepted) .header)
+  file : Seen b v
+  file = seen b v o
 
-  count : length vs ≡ wordsCount b
-  unfolding keptOf
-  count = length-numbersOf 4 (wordsCount b) (drop (wordsAt b) b)
-
-  long : length b ≡ wordsPlace v + 4 * wordsCount b
-  long = frame .size ∙ rw (o .view)
+  there : (x .before ≤ x .after) × (x .after ≤ v .words) × (length vs ≡ v .words) × (length b ≡ v .place + 4 * v .words)
+  there = (i .ordered, rw (file .words) (i .inside), file .kept-size, file .header .long)
 
   -- both stretches of ranks are in the file
-  pub front-there : wordsPlace v + 4 * x .before ≤ length b
-  front-there = let n = long in let p = i .ordered in let q = i .inside in omega arith
+  pub front-there : v .place + 4 * x .before ≤ length b
+  front-there = let t = there in omega arith
 
   pub rest-there : from ≤ length b
-  rest-there = let n = long in let q = i .inside in omega arith
+  rest-there = let t = there in omega arith
 
-  words-there : drop (wordsPlace v) b ≡ bytesOf 4 vs
+  words-there : drop (v .place) b ≡ bytesOf 4 vs
   words-there =
-      let f = accepted-has-file b (o .accepted) in
-      let p : wordsPlace v ≡ wordsAt b = ap wordsPlace (o .view) ∙ sym (frame .words-at) in
-      rw p (from-words _ _ _ _ b f ∙ ap (bytesOf 4) (sym (kept-back _ _ _ _ b f)))
+      rw (file .header .place) (from-words _ _ _ _ b (file .file)) ∙ ap (bytesOf 4) (sym (file .kept))
 
-  front-bytes : take (4 * x .before) (drop (wordsPlace v) b) ≡ bytesOf 4 (take (x .before) vs)
+  front-bytes : take (4 * x .before) (drop (v .place) b) ≡ bytesOf 4 (take (x .before) vs)
   front-bytes = rw words-there (take-bytesOf 4 (x .before) vs)
 
   rest-bytes : take (length b - from) (drop from b) ≡ bytesOf 4 (drop (x .after) vs)
   rest-bytes =
       take-all (length b - from) (drop from b) (let n = length-drop from b in omega arith)
-      ∙ rw (← drop-drop (4 * x .after) (wordsPlace v) b, words-there) (drop-bytesOf 4 (x .after) vs)
+      ∙ rw (← drop-drop (4 * x .after) (v .place) b, words-there) (drop-bytesOf 4 (x .after) vs)
 
   three : bytesOf 4 (overlaid x w vs) ≡ bytesOf 4 (take (x .before) vs) ++ bytesOf 4 new ++ bytesOf 4 (drop (x .after) vs)
   unfolding overlaid
@@ -115,9 +101,8 @@ module _ (b : List ℕ) (v : View) (o : ViewOf b v) (x : Edit) (i : EditOf b x) 
 
   front-size : length (bytesOf 4 (take (x .before) vs)) ≡ 4 * x .before
   front-size =
-      let p = i .ordered in
-      let q = i .inside in
-      length-bytesOf 4 (take (x .before) vs) ∙ ap (λ (n : ℕ). 4 * n) (length-take-le (x .before) vs (omega (arith, count)))
+      let t = there in
+      length-bytesOf 4 (take (x .before) vs) ∙ ap (λ (n : ℕ). 4 * n) (length-take-le (x .before) vs (omega arith))
 
   pub all-size : 4 * length (overlaid x w vs) ≡ 4 * x .before + length (bytesOf 4 new) + (length b - from)
   all-size =
@@ -126,15 +111,14 @@ module _ (b : List ℕ) (v : View) (o : ViewOf b v) (x : Edit) (i : EditOf b x) 
       let a = length-bytesOf 4 (overlaid x w vs) in
       let t = ap length three ∙ length-append (f ++ bytesOf 4 new) r in
       let u = length-append f (bytesOf 4 new) in
-      let z : length r ≡ 4 * (wordsCount b - x .after)
-      = length-bytesOf 4 (drop (x .after) vs) ∙ ap (λ (n : ℕ). 4 * n) (length-drop (x .after) vs ∙ ap (λ (n : ℕ). n - x .after) count) in
-      let n = long in
-      let q = i .inside in
+      let z : length r ≡ 4 * (v .words - x .after)
+      = length-bytesOf 4 (drop (x .after) vs) ∙ ap (λ (n : ℕ). 4 * n) (length-drop (x .after) vs ∙ ap (λ (n : ℕ). n - x .after) (file .kept-size)) in
+      let q = there in
       let s = front-size in
       omega arith
 
   pub all-put : (d : List ℕ) (place : ℕ)
-      → put (put (put d place (take (4 * x .before) (drop (wordsPlace v) b))) (place + 4 * x .before) (bytesOf 4 new))
+      → put (put (put d place (take (4 * x .before) (drop (v .place) b))) (place + 4 * x .before) (bytesOf 4 new))
       (place + 4 * x .before + length (bytesOf 4 new)) (take (length b - from) (drop from b))
       ≡ put d place (bytesOf 4 (overlaid x w vs))
   all-put d place =

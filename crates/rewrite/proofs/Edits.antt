@@ -8,15 +8,15 @@ use native.Mathlib.Omega.{arith}
 use lib.ListN.{length, getD, set, take, drop, take-append-drop, length-set}
 use lib.Seq.{append-snoc, split-at, set-split, set-getD}
 use Rattle.format.specs.Stored.{stored, kept, rankAt}
-use Rattle.format.specs.File.{HasFile}
-use Rattle.format.specs.Accepted.{settingOf, dimensionsOf, emptyOf, wordsCount, positionsOf, keptOf, wordsOf, checkNumber}
-use Rattle.laws.proofs.Limits.{small-dims}
+use Rattle.format.specs.declared.View.{View}
+use Rattle.format.specs.Picture.{cells}
+use Rattle.format.specs.Accepted.{dimensionsOf, emptyOf, wordsCount, positionsOf, keptOf, wordsOf}
 use Rattle.laws.proofs.Stored.{Rising, rising-stored, length-stored}
-use Rattle.laws.proofs.Acceptance.{accepted-has-file}
-use Rattle.laws.proofs.Files.{positions-back, kept-back}
-use Rattle.header.proofs.Body.{accepted-parts}
+use Rattle.parts.specs.Holds.{ViewOf}
+use Rattle.parts.specs.Found.{countBelow}
+use Rattle.parts.proofs.Seen.{Seen, seen}
 use Rattle.rewrite.specs.declared.Edit.{Edit}
-use Rattle.rewrite.specs.Edit.{edited, overlaid, EditOf, Writes, countBelow}
+use Rattle.rewrite.specs.Edit.{edited, overlaid, EditOf, Writes}
 use Rattle.rewrite.proofs.Written.{put-positions, put-words, removed-positions, removed-words, other-positions, other-words, rank-most, rank-there, rank-position, rank-counts}
 
 -- ---- for a rank k: a new one before it, none in its place, another in its place, or all as they are
@@ -43,40 +43,31 @@ keeping-words n p w vs = rw (append-nil (take n vs)) (take-append-drop n vs)
 
 -- ---- on an accepted file
 
-module _ (b : List ℕ) (h : checkNumber b ≡ 0) where
+module _ (b : List ℕ) (v : View) (o : ViewOf b v) where
   abbrev E : ℕ
   E = emptyOf b
 
   abbrev ws : List ℕ
   ws = wordsOf b
 
-  file : HasFile (settingOf b) (dimensionsOf b) E ws b
-  file = accepted-has-file b h
-
-  ls-back : positionsOf b ≡ stored E ws
-  ls-back = positions-back (settingOf b) (dimensionsOf b) E ws b file
-
-  vs-back : keptOf b ≡ kept E ws
-  vs-back = kept-back (settingOf b) (dimensionsOf b) E ws b file
+  file : Seen b v
+  file = seen b v o
 
   size : length (stored E ws) ≡ wordsCount b
-  size = ap length (sym ls-back) ∙ accepted-parts b h .size
+  size = ap length (sym (file .stored)) ∙ file .holds .size ∙ file .words
 
   kept-size : length (stored E ws) ≡ length (kept E ws)
   unfolding stored
   kept-size = length-stored E 0 ws
 
-  rising : (us : List ℕ) → length us ≡ length ws → Rising 0 16777216 (stored E us)
+  rising : (us : List ℕ) → length us ≡ length ws → Rising 0 (cells (dimensionsOf b)) (stored E us)
   unfolding stored
-  rising us n =
-      let m = small-dims (dimensionsOf b) (file .dims) .most in
-      let c = file .size in
-      rising-stored E 0 16777216 us (omega arith)
+  rising us n = let c = file .file .size in rising-stored E 0 (cells (dimensionsOf b)) us (omega arith)
 
   -- nothing is changed
   pub keeps : (n p : ℕ) → n ≤ wordsCount b → EditOf b (keeping n p)
   keeps n p h =
-      record { ordered = omega arith; near = omega arith; inside = h; rising = rw (keeping-positions n p (positionsOf b), ls-back) (rising ws refl) }
+      record { ordered = omega arith; near = omega arith; inside = h; rising = rw (keeping-positions n p (positionsOf b), file .stored) (rising ws refl) }
 
   module _ (p w : ℕ) (n : p < length ws) where
     abbrev pub k : ℕ
@@ -84,16 +75,16 @@ module _ (b : List ℕ) (h : checkNumber b ≡ 0) where
 
     -- the rank at p, by the file's positions
     pub rank-below : k ≡ countBelow p (positionsOf b)
-    rank-below = rank-counts E p w ws n ∙ ap (countBelow p) (sym ls-back)
+    rank-below = rank-counts E p w ws n ∙ ap (countBelow p) (sym (file .stored))
 
     writes : (x : Edit) → x .before ≤ x .after → x .after ≤ x .before + 1 → x .after ≤ wordsCount b
         → edited x (stored E ws) ≡ stored E (set ws p w) → overlaid x w (kept E ws) ≡ kept E (set ws p w) → Writes b p w x
     writes x o k i e f =
-        let q : edited x (positionsOf b) ≡ stored E (set ws p w) = ap (edited x) ls-back ∙ e in
+        let q : edited x (positionsOf b) ≡ stored E (set ws p w) = ap (edited x) (file .stored) ∙ e in
         record {
           edit = record { ordered = o; near = k; inside = i; rising = rw q (rising (set ws p w) (length-set ws p w)) };
           positions = q;
-          words = ap (overlaid x w) vs-back ∙ f;
+          words = ap (overlaid x w) (file .kept) ∙ f;
         }
 
     -- an empty cell is written
@@ -134,6 +125,6 @@ module _ (b : List ℕ) (h : checkNumber b ≡ 0) where
         let m = rank-most E p w ws n in
         record {
           edit = keeps k p (omega (arith, size));
-          positions = rw s (keeping-positions k p (positionsOf b) ∙ ls-back);
-          words = rw s (keeping-words k p w (keptOf b) ∙ vs-back);
+          positions = rw s (keeping-positions k p (positionsOf b) ∙ file .stored);
+          words = rw s (keeping-words k p w (keptOf b) ∙ file .kept);
         }

@@ -4,8 +4,6 @@ pub mod Copied
 pub mod Stretch
 pub mod RunTurns
 pub mod Three
-pub mod Counting
-pub mod Halving
 pub mod RunCounts
 pub mod RunEdits
 pub mod RunSizes

@@ -1,7 +1,6 @@
 -- The runs of an accepted file's positions after an edit. Assumes nothing.
 use Prim.Native.Nat.{ℕ, zero, suc, _+_, _-_, _≤_, _<_}
 use mathlib.Core.Path.{_≡_, refl, sym, ap, subst, _∙_}
-use mathlib.Core.Logic.{_⊎_, ⊎-elim}
 use mathlib.Core.Bool.{Bool, true, false}
 use mathlib.Core.List.{List, [], _∷_, _++_, append-assoc}
 use native.Mathlib.Numerals.{add-one}
@@ -13,26 +12,19 @@ use lib.Dec.{eqb}
 use borrow.Author.Tests.{eq-eqb, ne-eqb}
 use Rattle.format.specs.declared.View.{View}
 use Rattle.format.specs.Tools.{pick, Below}
-use Rattle.format.specs.Stored.{stored}
-use Rattle.format.specs.Kinds.{codec, codecOf}
-use Rattle.format.specs.File.{HasFile}
-use Rattle.format.specs.Runs.{runs, spans, runsKind, runParts}
-use Rattle.format.specs.PagedRuns.{pagesKind, pagedParts}
-use Rattle.format.specs.Picture.{cells}
-use Rattle.format.specs.Accepted.{settingOf, dimensionsOf, emptyOf, wordsCount, positionsOf, wordsOf}
-use Rattle.format.specs.Opened.{viewOf}
-use Rattle.laws.proofs.Stored.{Rising}
-use Rattle.laws.proofs.Bounds.{below-rising, length-runs, length-spansFrom}
-use Rattle.laws.proofs.Files.{positions-back, first-count-back, second-count-back}
-use Rattle.laws.proofs.Acceptance.{accepted-has-file}
-use Rattle.header.specs.Search.{ViewOf}
-use Rattle.positions.proofs.Lookup.{positions-rising, positions-size}
-use Rattle.search.proofs.Positions.{cells-most}
-use Rattle.encode.specs.Batch.{storesRuns}
+use Rattle.format.specs.Runs.{runs}
+use Rattle.format.specs.Accepted.{positionsOf}
+use Rattle.laws.proofs.Stored.{rising-length}
+use Rattle.laws.proofs.Bounds.{below-rising, length-runs}
+use Rattle.parts.specs.Holds.{ViewOf}
+use Rattle.parts.proofs.Seen.{seen}
+use Rattle.kinds.specs.Steps.{storesRuns, runsOf}
+use Rattle.kinds.proofs.Counts.{run-count}
 use Rattle.rewrite.specs.declared.Edit.{Edit}
 use Rattle.rewrite.specs.Edit.{edited, leftOut, EditOf}
 use Rattle.rewrite.specs.RunCount.{begins, runCount, endAfter, firstBegins, joint}
 use Rattle.rewrite.proofs.RunCounts.{count-runs, count-replaced, end-take}
+use Rattle.rewrite.proofs.Three.{ranks-there, edit-below}
 
 -- ---- one cell
 
@@ -51,7 +43,7 @@ module _ (b : List ℕ) (v : View) (o : ViewOf b v) where
   ls = positionsOf b
 
   size : length ls ≡ v .words
-  size = positions-size b v o
+  size = seen b v o .holds .size
 
   module _ (r : ℕ) (h : r < v .words) where
     pub first-there : (q x t : ℕ) → x ≡ getD ls r 0 → (t ≡ begins q x) × (t ≤ 1) → (t ≡ firstBegins q (drop r ls)) × (t ≤ 1)
@@ -93,12 +85,13 @@ below-back : (B : ℕ) (xs ys : List ℕ) → Below B (xs ++ ys) → Below B ys
 below-back B [] ys h = h
 below-back B (x ∷ xs) ys h = below-back B xs ys (h .1)
 
-pub put-small : (b : List ℕ) (x : Edit) → EditOf b x → x .put ≡ true → x .position < 16777216
+pub put-small : (b : List ℕ) (v : View) → ViewOf b v → (x : Edit) → EditOf b x → x .put ≡ true → x .position < 16777216
 unfolding edited
-put-small b x d e =
+put-small b v o x d e =
     let ls = positionsOf b in
     let r : Below 16777216 (take (x .before) ls ++ (x .position ∷ []) ++ drop (x .after) ls)
-    = subst (λ (t : Bool). Below 16777216 (take (x .before) ls ++ pick t (x .position ∷ []) [] ++ drop (x .after) ls)) e (below-rising 0 16777216 (take (x .before) ls ++ pick (x .put) (x .position ∷ []) [] ++ drop (x .after) ls) (d .rising)) in
+    = subst (λ (t : Bool). Below 16777216 (take (x .before) ls ++ pick t (x .position ∷ []) [] ++ drop (x .after) ls)) e
+    (below-rising 0 16777216 (take (x .before) ls ++ pick (x .put) (x .position ∷ []) [] ++ drop (x .after) ls) (edit-below b v o x d)) in
     below-back 16777216 (take (x .before) ls) (x .position ∷ []) (below-front 16777216 (take (x .before) ls ++ (x .position ∷ [])) (drop (x .after) ls) r) .0
 
 pub none-left : (x : Edit) (ls : List ℕ) → x .before ≡ x .after → [] ≡ leftOut x ls
@@ -133,45 +126,7 @@ runs-edited x ls h total lost won t l w =
 -- ---- the runs of an accepted file
 
 module _ (b : List ℕ) (v : View) (o : ViewOf b v) where
-  file : HasFile (settingOf b) (dimensionsOf b) (emptyOf b) (wordsOf b) b
-  file = accepted-has-file b (o .accepted)
-
-  kind-is : v .kind ≡ settingOf b .kind
-  unfolding viewOf
-  kind-is = ap (λ (t : View). t .kind) (o .view)
-
-  stored-is : positionsOf b ≡ stored (emptyOf b) (wordsOf b)
-  stored-is = positions-back (settingOf b) (dimensionsOf b) (emptyOf b) (wordsOf b) b file
-
-  firsts-is : v .kind ≡ 1 → v .firsts ≡ length (runs (positionsOf b))
-  unfolding viewOf codec runsKind runParts
-  firsts-is k =
-      ap (λ (t : View). t .firsts) (o .view)
-      ∙ first-count-back (settingOf b) (dimensionsOf b) (emptyOf b) (wordsOf b) b file
-      ∙ ap (λ (n : ℕ). codecOf n (settingOf b .width) (settingOf b .step) .parts (stored (emptyOf b) (wordsOf b)) .firstCount) (sym kind-is ∙ k)
-      ∙ ap (λ (t : List ℕ). length (runs t)) (sym stored-is)
-
-  seconds-is : v .kind ≡ 5 → v .seconds ≡ length (runs (positionsOf b))
-  unfolding viewOf codec pagesKind pagedParts spans
-  seconds-is k =
-      ap (λ (t : View). t .seconds) (o .view)
-      ∙ second-count-back (settingOf b) (dimensionsOf b) (emptyOf b) (wordsOf b) b file
-      ∙ ap (λ (n : ℕ). codecOf n (settingOf b .width) (settingOf b .step) .parts (stored (emptyOf b) (wordsOf b)) .secondCount) (sym kind-is ∙ k)
-      ∙ length-spansFrom 0 0 (runs (stored (emptyOf b) (wordsOf b)))
-      ∙ ap (λ (t : List ℕ). length (runs t)) (sym stored-is)
-
-  pub total-runs : (n : ℕ) → n ≡ pick (eqb (v .kind) 1) (v .firsts) (v .seconds) → storesRuns (v .kind) → n ≡ length (runs (positionsOf b))
-  total-runs n e h =
-      ⊎-elim (λ k. e ∙ rw (eq-eqb (v .kind) 1 k) (firsts-is k)) (λ k. e ∙ rw (ne-eqb (v .kind) 1 (λ z. omega arith)) (seconds-is k)) h
-
-  pub words-is : v .words ≡ wordsCount b
-  unfolding viewOf
-  words-is = ap (λ (t : View). t .words) (o .view)
-
   module _ (x : Edit) (d : EditOf b x) where
-    pub ranks-there : (x .before ≤ v .words) × (x .after ≤ v .words)
-    ranks-there = let w = words-is in let i = d .inside in let k = d .ordered in (omega arith, omega arith)
-
     pub lost-none : (q t : ℕ) → x .before ≡ x .after → (t ≡ joint q [] (drop (x .after) (positionsOf b))) × (t ≤ 2)
         → (t ≡ joint q (leftOut x (positionsOf b)) (drop (x .after) (positionsOf b))) × (t ≤ 2)
     lost-none q t e h = (h .0 ∙ ap (λ (m : List ℕ). joint q m (drop (x .after) (positionsOf b))) (none-left x (positionsOf b) e), h .1)
@@ -180,27 +135,19 @@ module _ (b : List ℕ) (v : View) (o : ViewOf b v) where
     before-there h = lt-of-le-ne (d .ordered) h
 
     pub left-there : (x .before ≡ x .after → ⊥) → x .before < v .words
-    left-there h = let k = before-there h in let r = ranks-there .1 in omega arith
+    left-there h = let k = before-there h in let r = ranks-there b v o x d in omega arith
 
     pub lost-one : (q t m : ℕ) → (x .before ≡ x .after → ⊥) → m ≡ getD (positionsOf b) (x .before) 0
         → (t ≡ joint q (m ∷ []) (drop (x .after) (positionsOf b))) × (t ≤ 2)
         → (t ≡ joint q (leftOut x (positionsOf b)) (drop (x .after) (positionsOf b))) × (t ≤ 2)
     lost-one q t m h e k =
         let n = left-there h in
-        let s = positions-size b v o in
+        let s = size b v o in
         let l = ap (λ (y : ℕ). y ∷ []) e ∙ one-left x (positionsOf b) (before-there h) (d .near) (omega arith) in
         (k .0 ∙ ap (λ (ms : List ℕ). joint q ms (drop (x .after) (positionsOf b))) l, k .1)
 
-rising-few : (a B : ℕ) (ls : List ℕ) → a ≤ B → Rising a B ls → a + length ls ≤ B
-rising-few a B [] h r = omega arith
-rising-few a B (l ∷ ls) h r = let n = rising-few (suc l) B ls (omega arith) (r .2) in omega (arith, r .0)
-
 pub few-words : (b : List ℕ) (v : View) → ViewOf b v → v .words ≤ 16777216
-few-words b v o =
-    let f = cells-most b v o in
-    let g = rising-few 0 (v .cells) (positionsOf b) (omega arith) (positions-rising b v o) in
-    let s = positions-size b v o in
-    omega arith
+few-words b v o = let c = seen b v o .header .counted in let m = c .cells-most in let n = c .words-most in omega arith
 
 -- what the runs after an edit are found by
 pub record RunsFound (R total lost won : ℕ) : Type 0 where
@@ -209,16 +156,16 @@ pub record RunsFound (R total lost won : ℕ) : Type 0 where
   pub total-most : total ≤ 16777216
 
 pub runs-found : (b : List ℕ) (v : View) → ViewOf b v → (x : Edit) → EditOf b x → storesRuns (v .kind) → (total lost won q : ℕ)
-    → total ≡ pick (eqb (v .kind) 1) (v .firsts) (v .seconds) → q ≡ endAfter 0 (take (x .before) (positionsOf b))
+    → total ≡ runsOf v → q ≡ endAfter 0 (take (x .before) (positionsOf b))
     → lost ≡ joint q (leftOut x (positionsOf b)) (drop (x .after) (positionsOf b))
     → won ≡ joint q (pick (x .put) (x .position ∷ []) []) (drop (x .after) (positionsOf b))
     → RunsFound (length (runs (edited x (positionsOf b)))) total lost won
 runs-found b v o x d k total lost won q t e l w =
-    let n = total-runs b v o total t k in
-    let f = cells-most b v o in
-    let g = rising-few 0 (v .cells) (positionsOf b) (omega arith) (positions-rising b v o) in
+    let n = t ∙ run-count b v (positionsOf b) (seen b v o .holds) k in
+    let f = few-words b v o in
+    let g = size b v o in
     let h = length-runs (positionsOf b) in
-    let i = rising-few 0 16777216 (edited x (positionsOf b)) (omega arith) (d .rising) in
+    let i = rising-length 0 16777216 (edited x (positionsOf b)) (omega arith) (edit-below b v o x d) in
     let j = length-runs (edited x (positionsOf b)) in
     record {
       equation = runs-edited x (positionsOf b) (d .ordered) total lost won n (l ∙ ap (λ (y : ℕ). joint y (leftOut x (positionsOf b)) (drop (x .after) (positionsOf b))) e)
@@ -226,16 +173,3 @@ runs-found b v o x d k total lost won q t e l w =
       most = omega arith;
       total-most = omega arith;
     }
-
--- the tests of the code
-pub total-one : (v : View) → v .kind ≡ 1 → v .firsts ≡ pick (eqb (v .kind) 1) (v .firsts) (v .seconds)
-total-one v e = choose (v .firsts) (v .seconds) (eqb (v .kind) 1) (eq-eqb (v .kind) 1 e)
-  where
-    choose : (x y : ℕ) (t : Bool) → t ≡ true → x ≡ pick t x y
-    choose x y t e = rw e
-
-pub total-other : (v : View) → (v .kind ≡ 1 → ⊥) → v .seconds ≡ pick (eqb (v .kind) 1) (v .firsts) (v .seconds)
-total-other v e = choose (v .firsts) (v .seconds) (eqb (v .kind) 1) (ne-eqb (v .kind) 1 e)
-  where
-    choose : (x y : ℕ) (t : Bool) → t ≡ false → y ≡ pick t x y
-    choose x y t e = rw e

@@ -10,17 +10,16 @@ use Rattle.format.specs.declared.View.{View}
 use Rattle.format.specs.Tools.{range}
 use Rattle.format.specs.Kinds.{settingAllowed}
 use Rattle.laws.proofs.Stored.{Rising}
-use Rattle.stores.specs.Put.{put}
-use Rattle.cursor.specs.declared.Cursor.{Cursor}
-use Rattle.cursor.specs.Cursor.{walked, steppedBy}
-use Rattle.cursor.proofs.Stretches.{stretch-positions}
-use Rattle.encode.specs.declared.state.Encoder.{Encoder}
-use Rattle.encode.specs.Encoder.{coder, takenAll}
-use Rattle.encode.specs.Ready.{passed, Sound}
-use Rattle.encode.specs.Batch.{addedFirst, addedSecond, Along, RoomAll, putAllBy, storesRuns}
+use Rattle.parts.specs.declared.Cursor.{Cursor}
+use Rattle.parts.specs.declared.Encoder.{Encoder}
+use Rattle.parts.specs.Ready.{passed, Sound}
+use Rattle.parts.specs.Batch.{Along, RoomAll, putAllBy}
+use Rattle.kinds.specs.Steps.{walked, steppedBy, storesRuns}
+use Rattle.kinds.specs.Coding.{coder, takenAll}
+use Rattle.kinds.proofs.Counts.{stretch-positions}
 use Rattle.rewrite.specs.declared.walk.Walk.{Walk}
 use Rattle.rewrite.specs.Walk.{along}
-use Rattle.rewrite.proofs.Stretch.{turn-now, turn-later, turn-whole, turn-room-now, turn-room-later, turn-put, room-asked, put-all-is, length-put-all, end-whole, end-put}
+use Rattle.rewrite.proofs.Stretch.{turn-now, turn-later, turn-whole, turn-room-now, turn-room-later, turn-put, length-put-all, end-whole, end-put}
 
 -- where a rising range lies
 range-rising : (n a B p : ℕ) → 0 < n → Rising a B (range p n) → (a ≤ p) × (p + n ≤ B)
@@ -60,9 +59,8 @@ module _ (s : Setting) (b : List ℕ) (v : View) (kind : storesRuns (v .kind)) (
       let r = range-rising k (passed e) 16777216 (c .at) (q .some) (rw positions at (t .rising)) in
       (t .sound, r .0, r .1)
 
-  pub run-room : (m : ℕ) → RoomAll (coder s) e (walked b v c left) m
-      → (e .first + length (addedFirst s e (range (c .at) k)) ≤ e .second) × (e .second + length (addedSecond s e (range (c .at) k)) ≤ m)
-  run-room m r = rw positions at (room-asked s e (walked b v c k) m (turn-room-now s b v c e k left (q .most) m r))
+  pub run-room : (m : ℕ) → RoomAll (coder s) e (walked b v c left) m → RoomAll (coder s) e (range (c .at) k) m
+  run-room m r = rw positions at (turn-room-now s b v c e k left (q .most) m r)
 
   -- one turn, to the cursor c′ and the encoder e′
   module _ (allowed : settingAllowed s ≡ true) (c₀ : Cursor) (e₀ : Encoder) (n : ℕ) (c′ : Cursor) (e′ : Encoder)
@@ -78,11 +76,11 @@ module _ (s : Setting) (b : List ℕ) (v : View) (kind : storesRuns (v .kind)) (
         }
 
     pub written-turn : (d₀ d d′ : List ℕ)
-        → d′ ≡ put (put d (e .first) (addedFirst s e (range (c .at) k))) (e .second) (addedSecond s e (range (c .at) k))
+        → d′ ≡ putAllBy (coder s) d e (range (c .at) k)
         → Written s b v d₀ c₀ e₀ n d c e left → Written s b v d₀ c₀ e₀ n d′ c′ e′ (left - k)
     written-turn d₀ d d′ w i =
         let now = walked b v c k in
-        let p : d′ ≡ putAllBy (coder s) d e now = rw positions w ∙ put-all-is s e now d in
+        let p : d′ ≡ putAllBy (coder s) d e now = rw positions w in
         let z : length d′ ≡ length d = ap length p ∙ length-put-all (coder s) d e now in
         record {
           measured = measured-turn (i .measured);

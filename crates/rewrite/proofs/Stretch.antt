@@ -2,8 +2,8 @@
 use Prim.Native.Nat.{ℕ, zero, suc, _+_, _-_, _≤_, _<_}
 use mathlib.Core.Path.{_≡_, refl, sym, ap, ap₂, _∙_}
 use mathlib.Core.Bool.{true}
-use mathlib.Core.List.{List, [], _∷_, _++_, append-assoc, append-nil}
-use native.Mathlib.Nat.{zero-add, le-refl}
+use mathlib.Core.List.{List, [], _∷_, _++_, append-assoc}
+use native.Mathlib.Nat.{le-refl}
 use native.Mathlib.Omega.{arith}
 use lib.ListN.{length, take, drop, length-append}
 use lib.Seq.{length-take-le, length-front, take-append-seam}
@@ -12,16 +12,19 @@ use Rattle.format.specs.declared.View.{View}
 use Rattle.format.specs.Kinds.{settingAllowed}
 use Rattle.stores.specs.Put.{put}
 use Rattle.stores.proofs.Laws.{length-put, put3-step}
-use Rattle.cursor.specs.declared.Cursor.{Cursor}
-use Rattle.cursor.specs.Cursor.{nextOf, walked, steppedBy}
-use Rattle.cursor.proofs.Batches.{walked-add, length-walked}
-use Rattle.encode.specs.declared.state.Encoder.{Encoder}
-use Rattle.encode.specs.Encoder.{Coder, coder, takenBy, takenAllBy, firstOf, secondOf, taken, takenAll}
-use Rattle.encode.specs.Ready.{passed}
-use Rattle.encode.specs.Batch.{addedFirstBy, addedSecondBy, addedFirst, addedSecond, Along, RoomAll, putAllBy}
-use Rattle.encode.proofs.Along.{put-all-end}
-use Rattle.encode.proofs.Batches.{rising-front, all-append, first-added, second-added, along-added}
-use Rattle.encode.proofs.Turn.{all-cons, all-end}
+use Rattle.parts.specs.declared.Cursor.{Cursor}
+use Rattle.parts.specs.declared.Encoder.{Encoder}
+use Rattle.parts.specs.Cursor.{walkedAs, steppedAs}
+use Rattle.parts.specs.Encoder.{Coder, takenBy, takenAllBy}
+use Rattle.parts.specs.Ready.{passed}
+use Rattle.parts.specs.Batch.{addedFirstBy, addedSecondBy, Along, RoomAll, putAllBy}
+use Rattle.parts.proofs.Batches.{stepped-as-add}
+use Rattle.parts.proofs.Added.{rising-front}
+use Rattle.parts.proofs.Taken.{put-all-end}
+use Rattle.kinds.specs.Steps.{nextOf, walked, steppedBy}
+use Rattle.kinds.specs.Coding.{coder, takenAll, addedFirst, addedSecond}
+use Rattle.kinds.proofs.Walks.{walked-add, length-walked}
+use Rattle.kinds.proofs.Driving.{all-append, first-added, second-added, along-added}
 use Rattle.rewrite.specs.Walk.{along}
 
 -- ---- what two lists of positions add, one after the other
@@ -104,44 +107,17 @@ module _ (s : Setting) (e : Encoder) (xs ys : List ℕ) (n : ℕ) (r : RoomAll (
       ∙ ap₂ (λ (f g : ℕ). put (put (put (put d (e .first) (addedFirst s e xs)) (e .second) (addedSecond s e xs)) f (addedFirst s after ys)) g (addedSecond s after ys))
       (sym (first-added s e xs)) (sym (second-added s e xs))
 
--- in the words of the code that puts them out
-module _ (s : Setting) (e : Encoder) (ls : List ℕ) where
-  pub room-asked : (n : ℕ) → RoomAll (coder s) e ls n
-      → (e .first + length (addedFirst s e ls) ≤ e .second) × (e .second + length (addedSecond s e ls) ≤ n)
-  unfolding addedFirst addedSecond
-  room-asked n r = (r .first, r .second)
+-- the same bytes by the setting
+pub put-all-is : (s : Setting) (e : Encoder) (ls : List ℕ) (d : List ℕ)
+    → put (put d (e .first) (addedFirst s e ls)) (e .second) (addedSecond s e ls) ≡ putAllBy (coder s) d e ls
+unfolding putAllBy addedFirst addedSecond
+put-all-is s e ls d = refl
 
-  pub put-all-is : (d : List ℕ) → put (put d (e .first) (addedFirst s e ls)) (e .second) (addedSecond s e ls) ≡ putAllBy (coder s) d e ls
-  unfolding putAllBy addedFirst addedSecond
-  put-all-is d = refl
-
--- ---- one position
-
-module _ (s : Setting) (e : Encoder) (p : ℕ) where
-  pub one-taken : taken s e p ≡ takenAll s e (p ∷ [])
-  one-taken = sym (all-cons s e p [] ∙ all-end s (taken s e p))
-
-  first-one : addedFirstBy (coder s) e (p ∷ []) ≡ firstOf s e p
-  unfolding addedFirstBy firstOf
-  first-one = append-nil (coder s .first e p)
-
-  second-one : addedSecondBy (coder s) e (p ∷ []) ≡ secondOf s e p
-  unfolding addedSecondBy secondOf
-  second-one = append-nil (coder s .second e p)
-
-  pub one-room : (n : ℕ) → RoomAll (coder s) e (p ∷ []) n → (e .first + length (firstOf s e p) ≤ n) × (e .second + length (secondOf s e p) ≤ n)
-  one-room n r = let f = ap length first-one in let g = ap length second-one in (omega arith, omega arith)
-
-  pub one-put : (d : List ℕ) → put (put d (e .first) (firstOf s e p)) (e .second) (secondOf s e p) ≡ putAllBy (coder s) d e (p ∷ [])
-  unfolding putAllBy
-  one-put d = rw (first-one, second-one)
+pub all-end : (s : Setting) (e : Encoder) → takenAll s e [] ≡ e
+unfolding takenAll takenAllBy
+all-end s e = refl
 
 -- ---- k ranks, then the rest
-
-stepped-add : (b : List ℕ) (v : View) (c : Cursor) (m n : ℕ) → steppedBy b v c (m + n) ≡ steppedBy b v (steppedBy b v c m) n
-unfolding steppedBy
-stepped-add b v c zero n = rw zero-add
-stepped-add b v c (suc m) n = let e : suc m + n ≡ suc (m + n) = omega arith in rw e (stepped-add b v (nextOf b v c) m n)
 
 module _ (b : List ℕ) (v : View) (c : Cursor) (k n : ℕ) (h : k ≤ n) where
   sum : k + (n - k) ≡ n
@@ -151,7 +127,8 @@ module _ (b : List ℕ) (v : View) (c : Cursor) (k n : ℕ) (h : k ≤ n) where
   walked-split = rw sum at (walked-add b v c k (n - k))
 
   pub stepped-split : steppedBy b v (steppedBy b v c k) (n - k) ≡ steppedBy b v c n
-  stepped-split = sym (rw sum at (stepped-add b v c k (n - k)))
+  unfolding steppedBy
+  stepped-split = sym (rw sum at (stepped-as-add (nextOf b v) c k (n - k)))
 
 -- a batch of k ranks in a buffer, whose first k elements have become out, with the cursor d
 pub record Batch (b : List ℕ) (v : View) (c d : Cursor) (k : ℕ) (buffer out : List ℕ) : Type 0 where
@@ -210,12 +187,12 @@ module _ (s : Setting) (b : List ℕ) (v : View) (c : Cursor) (e : Encoder) (k n
 
 -- one rank, then the rest
 pub skip-turn : (b : List ℕ) (v : View) (c : Cursor) (n : ℕ) → 0 < n → steppedBy b v (nextOf b v c) (n - 1) ≡ steppedBy b v c n
-unfolding steppedBy
+unfolding steppedBy steppedAs
 skip-turn b v c zero h = absurd (omega arith)
 skip-turn b v c (suc n) h = let e : suc n - 1 ≡ n = omega arith in rw e
 
 pub skip-end : (b : List ℕ) (v : View) (c : Cursor) (n : ℕ) → n ≤ 0 → steppedBy b v c n ≡ c
-unfolding steppedBy
+unfolding steppedBy steppedAs
 skip-end b v c zero h = refl
 skip-end b v c (suc n) h = absurd (omega arith)
 
@@ -225,9 +202,9 @@ module _ (s : Setting) (b : List ℕ) (v : View) (c : Cursor) (e : Encoder) (n :
   none-left = omega arith
 
   pub end-whole : along s b v c e n ≡ record { c = c; e = e }
-  unfolding along walked steppedBy takenAll takenAllBy
+  unfolding along walked walkedAs steppedBy steppedAs takenAll takenAllBy
   end-whole = rw none-left
 
   pub end-put : (d : List ℕ) → putAllBy (coder s) d e (walked b v c n) ≡ d
-  unfolding walked
+  unfolding walked walkedAs
   end-put d = rw none-left (put-all-end (coder s) d e)

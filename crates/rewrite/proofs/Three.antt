@@ -1,6 +1,6 @@
 -- An edit in three stretches: the ranks before it, its own position, the ranks after it; then the end. Assumes nothing.
 use Prim.Native.Nat.{ℕ, _+_, _-_, _≤_}
-use mathlib.Core.Path.{_≡_, refl, sym, ap, ap₂, _∙_, subst}
+use mathlib.Core.Path.{_≡_, refl, sym, ap, ap₂, _∙_}
 use mathlib.Core.Bool.{true}
 use mathlib.Core.List.{List, [], _++_, append-nil}
 use native.Mathlib.Nat.{zero-add, le-refl}
@@ -9,21 +9,21 @@ use lib.ListN.{length, drop}
 use Rattle.format.specs.declared.Setting.{Setting}
 use Rattle.format.specs.declared.View.{View}
 use Rattle.format.specs.Kinds.{settingAllowed}
-use Rattle.format.specs.Accepted.{wordsCount, positionsOf}
-use Rattle.format.specs.Opened.{viewOf}
+use Rattle.format.specs.Accepted.{positionsOf}
+use Rattle.laws.proofs.Stored.{Rising, rising-widen}
 use Rattle.stores.specs.Put.{put}
-use Rattle.header.specs.Search.{ViewOf}
-use Rattle.cursor.specs.declared.Cursor.{Cursor}
-use Rattle.cursor.specs.Cursor.{startOf, walked, steppedBy}
-use Rattle.cursor.proofs.Walks.{walked-start}
-use Rattle.cursor.proofs.Batches.{Batched, batched}
-use Rattle.encode.specs.declared.state.Encoder.{Encoder}
-use Rattle.encode.specs.Encoder.{coder, begun, endFirst, endSecond, takenAll, firsts, seconds}
-use Rattle.encode.specs.Ready.{Sound, Apart}
-use Rattle.encode.specs.Batch.{addedFirst, addedSecond, Along, RoomAll, putAllBy}
-use Rattle.encode.proofs.Sounds.{sound-begun}
-use Rattle.encode.proofs.Turn.{firsts-end, seconds-end, room-end-first, room-end-second}
-use Rattle.encode.proofs.Batches.{all-append, along-added, sound-added, room-first-all, room-second-all, apart-added, put-turn-all}
+use Rattle.parts.specs.declared.Cursor.{Cursor}
+use Rattle.parts.specs.declared.Encoder.{Encoder}
+use Rattle.parts.specs.Holds.{ViewOf, kindOf}
+use Rattle.parts.specs.Encoder.{begun, firstsBy, secondsBy}
+use Rattle.parts.specs.Ready.{Sound}
+use Rattle.parts.specs.Batch.{Along, RoomAll, putAllBy}
+use Rattle.parts.proofs.Seen.{seen}
+use Rattle.parts.proofs.Sounds.{sound-begun}
+use Rattle.kinds.specs.Steps.{startOf, walked, steppedBy}
+use Rattle.kinds.specs.Coding.{coder, takenAll, firsts, seconds, addedFirst, addedSecond, Apart}
+use Rattle.kinds.proofs.Walks.{Batched, batched, walk-start}
+use Rattle.kinds.proofs.Driving.{all-append, along-added, sound-added, room-first-all, room-second-all, apart-added, put-turn-all}
 use Rattle.rewrite.specs.declared.Edit.{Edit}
 use Rattle.rewrite.specs.Edit.{edited, EditOf}
 use Rattle.rewrite.specs.Walk.{along, added}
@@ -53,21 +53,29 @@ module _ (b : List ℕ) (v : View) (x : Edit) where
   abbrev pub rest : List ℕ
   rest = walked b v onward (v .words - x .after)
 
-pub words-seen : (b : List ℕ) (v : View) → ViewOf b v → v .words ≡ wordsCount b
-unfolding viewOf
-words-seen b v o = ap (λ (y : View). y .words) (o .view)
+pub allowed : (b : List ℕ) (v : View) → ViewOf b v → kindOf v .allowed ≡ true
+allowed b v o = seen b v o .header .counted .allowed
 
 module _ (b : List ℕ) (v : View) (o : ViewOf b v) (x : Edit) (i : EditOf b x) where
+  -- the ranks are there, and the positions rise below the cells
+  pub ranks-there : (x .before ≤ x .after) × (x .after ≤ v .words)
+  ranks-there = (i .ordered, rw (seen b v o .words) (i .inside))
+
+  pub edit-rising : Rising 0 (v .cells) (edited x (positionsOf b))
+  edit-rising = rw (seen b v o .header .cells) (i .rising)
+
+  pub cells-most : v .cells ≤ 16777216
+  cells-most = seen b v o .header .counted .cells-most
+
+  pub edit-below : Rising 0 16777216 (edited x (positionsOf b))
+  edit-below = rising-widen 0 (v .cells) 16777216 (edited x (positionsOf b)) cells-most edit-rising
+
   first-batch : Batched b v (startOf b v) 0 (x .before)
-  first-batch =
-      let p = i .ordered in
-      let q = i .inside in
-      batched b v (startOf b v) 0 (x .before) (omega arith) (rw (o .view) (walked-start b (o .accepted)))
+  first-batch = let t = ranks-there in batched b v (startOf b v) 0 (x .before) (omega arith) (walk-start b v o)
 
   second-batch : Batched b v (halfway b v x) (x .before) (x .after - x .before)
   second-batch =
-      let p = i .ordered in
-      let q = i .inside in
+      let t = ranks-there in
       batched b v (halfway b v x) (x .before) (x .after - x .before) (omega arith) (rw zero-add at (first-batch .rest))
 
   pub all-edited : front b v x ++ added x ++ rest b v x ≡ edited x (positionsOf b)
@@ -75,10 +83,8 @@ module _ (b : List ℕ) (v : View) (o : ViewOf b v) (x : Edit) (i : EditOf b x) 
   all-edited =
       let p = i .ordered in
       let n : x .before + (x .after - x .before) ≡ x .after = omega arith in
-      let r : walked b v (onward b v x) (wordsCount b - x .after) ≡ drop (x .after) (positionsOf b) = rw n at (second-batch .rest) in
-      let w : rest b v x ≡ drop (x .after) (positionsOf b)
-      = ap (λ (m : ℕ). walked b v (onward b v x) (m - x .after)) (words-seen b v o) ∙ r in
-      ap₂ (λ (f l : List ℕ). f ++ added x ++ l) (first-batch .positions) w
+      let r : rest b v x ≡ drop (x .after) (positionsOf b) = rw n at (second-batch .rest) in
+      ap₂ (λ (f l : List ℕ). f ++ added x ++ l) (first-batch .positions) r
 
 -- ---- three lists of positions into an encoder, and the end
 
@@ -139,8 +145,8 @@ module _ (s : Setting) (e : Encoder) (xs ms ys : List ℕ) where
     pub front : RoomAll (coder s) e xs n
     pub middle : RoomAll (coder s) e1 ms n
     pub rest : RoomAll (coder s) e2 ys n
-    pub first : e3 .first + length (endFirst s e3) ≤ n
-    pub second : e3 .second + length (endSecond s e3) ≤ n
+    pub first : e3 .first + length (coder s .endFirst e3) ≤ n
+    pub second : e3 .second + length (coder s .endSecond e3) ≤ n
 
   module _ (n : ℕ) (a : Apart s e (xs ++ ms ++ ys) n) where
     room-all : (e : Encoder) (us ws : List ℕ) → Apart s e (us ++ ws) n → RoomAll (coder s) e us n
@@ -154,6 +160,10 @@ module _ (s : Setting) (e : Encoder) (xs ms ys : List ℕ) where
 
     last-apart : Apart s e3 [] n
     last-apart = rw whole (apart-added s e (xs ++ ms ++ ys) [] n end-apart)
+
+    end-room : Apart s e3 [] n → (e3 .first + length (coder s .endFirst e3) ≤ n) × (e3 .second + length (coder s .endSecond e3) ≤ n)
+    unfolding firsts seconds firstsBy secondsBy
+    end-room a = (omega (arith, a .first, a .second), a .second)
 
     rest-room : RoomAll (coder s) e2 ys n
     rest-room =
@@ -169,8 +179,8 @@ module _ (s : Setting) (e : Encoder) (xs ms ys : List ℕ) where
           front = room-front s e xs ms n front-room;
           middle = room-rest s e xs ms n front-room;
           rest = rest-room;
-          first = room-end-first s e3 n last-apart n (le-refl n);
-          second = room-end-second s e3 n last-apart n (le-refl n);
+          first = end-room last-apart .0;
+          second = end-room last-apart .1;
         }
 
     -- the stretches one after the other put out all, and the end adds what is left of the parts
@@ -180,17 +190,17 @@ module _ (s : Setting) (e : Encoder) (xs ms ys : List ℕ) where
         ∙ sym (put-all-append s e (xs ++ ms) ys n (room-all e (xs ++ ms ++ ys) [] end-apart) d)
 
     put-end-all : (d : List ℕ) (t : Encoder) → t ≡ takenAll s e (xs ++ ms ++ ys)
-        → put (put (putAllBy (coder s) d e (xs ++ ms ++ ys)) (t .first) (endFirst s t)) (t .second) (endSecond s t)
+        → put (put (putAllBy (coder s) d e (xs ++ ms ++ ys)) (t .first) (coder s .endFirst t)) (t .second) (coder s .endSecond t)
         ≡ put (put d (e .first) (firsts s e (xs ++ ms ++ ys))) (e .second) (seconds s e (xs ++ ms ++ ys))
-    unfolding put
+    unfolding put firsts seconds firstsBy secondsBy
     put-end-all d t q =
         let w : List ℕ = xs ++ ms ++ ys in
         let u : Encoder = takenAll s e w in
         let z = rw (append-nil w) at (put-turn-all s e w [] n end-apart d [] []) in
-        rw (q, ← put-all-is s e w d, ← firsts-end s u, ← seconds-end s u) (sym z)
+        rw (q, ← put-all-is s e w d) (sym z)
 
     pub three-put : (d : List ℕ)
-        → put (put (d3 d) (e3 .first) (endFirst s e3)) (e3 .second) (endSecond s e3)
+        → put (put (d3 d) (e3 .first) (coder s .endFirst e3)) (e3 .second) (coder s .endSecond e3)
         ≡ put (put d (e .first) (firsts s e (xs ++ ms ++ ys))) (e .second) (seconds s e (xs ++ ms ++ ys))
     three-put d = rw (put-three d) (put-end-all d e3 whole)
 
@@ -201,14 +211,11 @@ module _ (b : List ℕ) (v : View) (o : ViewOf b v) (x : Edit) (i : EditOf b x) 
   unfolding begun
   edit-along p h k =
       three s (begun f g) (front b v x) (added x) (rest b v x) p
-      (record { sound = sound-begun f g h k; rising = rw (all-edited b v o x i) (i .rising) })
+      (record { sound = sound-begun f g h k; rising = rw (all-edited b v o x i) (edit-below b v o x i) })
 
   -- the encoder after them, and after the edited positions
   pub edit-all : Three s (begun f g) (front b v x) (added x) (rest b v x) → e3 s (begun f g) (front b v x) (added x) (rest b v x) ≡ takenAll s (begun f g) (edited x (positionsOf b))
   edit-all t = t .all ∙ ap (takenAll s (begun f g)) (all-edited b v o x i)
-
-  pub edit-sound : Three s (begun f g) (front b v x) (added x) (rest b v x) → Sound (takenAll s (begun f g) (edited x (positionsOf b)))
-  edit-sound t = subst Sound (edit-all t) (t .sound)
 
   pub edit-rooms : (n : ℕ) → Apart s (begun f g) (edited x (positionsOf b)) n → Rooms s (begun f g) (front b v x) (added x) (rest b v x) n
   edit-rooms n a = three-rooms s (begun f g) (front b v x) (added x) (rest b v x) n (rw (all-edited b v o x i) a)
@@ -216,8 +223,8 @@ module _ (b : List ℕ) (v : View) (o : ViewOf b v) (x : Edit) (i : EditOf b x) 
   pub edit-put : (n : ℕ) → Apart s (begun f g) (edited x (positionsOf b)) n → (d : List ℕ)
       → put
       (put (d3 s (begun f g) (front b v x) (added x) (rest b v x) d)
-      (e3 s (begun f g) (front b v x) (added x) (rest b v x) .first) (endFirst s (e3 s (begun f g) (front b v x) (added x) (rest b v x))))
-      (e3 s (begun f g) (front b v x) (added x) (rest b v x) .second) (endSecond s (e3 s (begun f g) (front b v x) (added x) (rest b v x)))
+      (e3 s (begun f g) (front b v x) (added x) (rest b v x) .first) (coder s .endFirst (e3 s (begun f g) (front b v x) (added x) (rest b v x))))
+      (e3 s (begun f g) (front b v x) (added x) (rest b v x) .second) (coder s .endSecond (e3 s (begun f g) (front b v x) (added x) (rest b v x)))
       ≡ put (put d f (firsts s (begun f g) (edited x (positionsOf b)))) g (seconds s (begun f g) (edited x (positionsOf b)))
   edit-put n a d =
       three-put s (begun f g) (front b v x) (added x) (rest b v x) n (rw (all-edited b v o x i) a) d

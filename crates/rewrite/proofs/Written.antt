@@ -2,37 +2,20 @@
 use Prim.Native.Nat.{ℕ, suc, _+_, _≤_, _<_}
 use mathlib.Core.Path.{_≡_, refl, sym, ap, _∙_}
 use mathlib.Core.List.{List, [], _∷_, _++_}
-use native.Mathlib.Nat.{le-refl, add-zero, zero-add}
+use native.Mathlib.Nat.{le-refl, zero-add}
 use native.Mathlib.Omega.{arith}
 use lib.ListN.{length, getD, set, take, drop, length-append}
 use lib.Seq.{length-take-le, split-at, set-split, take-at, drop-at, getD-at, set-at, drop-append-add}
-use lib.Dec.{eqb}
-use borrow.Author.Tests.{eq-eqb, ne-eqb, lt-ltb, le-ltb}
+use borrow.Author.Tests.{eq-eqb, ne-eqb, lt-ltb}
 use Rattle.format.specs.Stored.{storedFrom, stored, kept, rankAt}
-use Rattle.laws.proofs.Tools.{cases}
-use Rattle.laws.proofs.Stored.{Rising, rising-stored, length-stored}
-use Rattle.rewrite.specs.Edit.{countBelow}
-
--- ---- along two lists
-
-stored-append : (E q : ℕ) (xs ys : List ℕ) → storedFrom E q (xs ++ ys) ≡ storedFrom E q xs ++ storedFrom E (q + length xs) ys
-unfolding storedFrom
-stored-append E q [] ys = rw add-zero
-stored-append E q (x ∷ xs) ys =
-    let n : q + suc (length xs) ≡ suc q + length xs = omega arith in
-    let later = stored-append E (suc q) xs ys in
-    cases (eqb x E) (λ e. rw (e, n) later) (λ e. rw (e, n) (ap (λ (l : List ℕ). q ∷ l) later))
-
-kept-append : (E : ℕ) (xs ys : List ℕ) → kept E (xs ++ ys) ≡ kept E xs ++ kept E ys
-unfolding kept
-kept-append E [] ys = refl
-kept-append E (x ∷ xs) ys =
-    let later = kept-append E xs ys in
-    cases (eqb x E) (λ e. rw e later) (λ e. rw e (ap (λ (l : List ℕ). x ∷ l) later))
+use Rattle.laws.proofs.Stored.{Rising, rising-stored, length-stored, stored-append, kept-append}
+use Rattle.laws.proofs.Positions.{rising-at}
+use Rattle.parts.specs.Found.{countBelow}
+use Rattle.parts.proofs.Places.{count-at}
 
 -- ---- how many are below
 
-pub count-append : (p : ℕ) (xs ys : List ℕ) → countBelow p (xs ++ ys) ≡ countBelow p xs + countBelow p ys
+count-append : (p : ℕ) (xs ys : List ℕ) → countBelow p (xs ++ ys) ≡ countBelow p xs + countBelow p ys
 unfolding countBelow
 count-append p [] ys = rw zero-add
 count-append p (x ∷ xs) ys = let later = count-append p xs ys in omega arith
@@ -42,12 +25,8 @@ unfolding countBelow
 count-all a p [] r = refl
 count-all a p (l ∷ ls) r = let later = count-all (suc l) p ls (r .2) in rw (lt-ltb l p (r .1)) (omega arith)
 
-pub count-none : (a p B : ℕ) (ls : List ℕ) → p ≤ a → Rising a B ls → countBelow p ls ≡ 0
-unfolding countBelow
-count-none a p B [] h r = refl
-count-none a p B (l ∷ ls) h r =
-    let later = count-none (suc l) p B ls (omega arith) (r .2) in
-    rw (le-ltb l p (omega arith)) (omega arith)
+count-none : (a p B : ℕ) (ls : List ℕ) → p ≤ a → Rising a B ls → countBelow p ls ≡ 0
+count-none a p B ls h r = count-at p B a ls 0 r (omega arith) (λ i k. absurd (omega arith)) (λ k. let g = rising-at a B ls 0 r k in omega arith)
 
 -- ---- a list with a middle: fs, then perhaps one element, then rs
 

@@ -3,10 +3,10 @@ use Prim.Native.Nat.{ℕ, _+_, _-_, _≤_}
 use mathlib.Core.Path.{_≡_}
 use mathlib.Core.List.{List, [], _∷_, _++_}
 use lib.ListN.{take, drop, set}
-use lib.Dec.{ltb}
 use Rattle.format.specs.Tools.{pick}
 use Rattle.format.specs.Stored.{stored, kept}
-use Rattle.format.specs.Accepted.{emptyOf, wordsCount, positionsOf, keptOf, wordsOf}
+use Rattle.format.specs.Picture.{cells}
+use Rattle.format.specs.Accepted.{dimensionsOf, emptyOf, wordsCount, positionsOf, keptOf, wordsOf}
 use Rattle.laws.proofs.Stored.{Rising}
 use Rattle.rewrite.specs.declared.Edit.{Edit}
 
@@ -26,15 +26,10 @@ pub record EditOf (b : List ℕ) (x : Edit) : Type 0 where
   pub ordered : x .before ≤ x .after
   pub near : x .after ≤ x .before + 1
   pub inside : x .after ≤ wordsCount b
-  pub rising : Rising 0 16777216 (edited x (positionsOf b))
+  pub rising : Rising 0 (cells (dimensionsOf b)) (edited x (positionsOf b))
 
 -- the edit x with the word w gives the picture in which w is written at p
 pub record Writes (b : List ℕ) (p w : ℕ) (x : Edit) : Type 0 where
   pub edit : EditOf b x
   pub positions : edited x (positionsOf b) ≡ stored (emptyOf b) (set (wordsOf b) p w)
   pub words : overlaid x w (keptOf b) ≡ kept (emptyOf b) (set (wordsOf b) p w)
-
--- how many elements are below p
-unfoldable pub countBelow : ℕ → List ℕ → ℕ
-countBelow p [] = 0
-countBelow p (l ∷ ls) = pick (ltb l p) 1 0 + countBelow p ls

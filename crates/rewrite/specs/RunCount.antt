@@ -1,10 +1,8 @@
 -- How many runs stored positions have, counted along them. Assumes nothing.
 use Prim.Native.Nat.{ℕ, zero, suc, _+_}
-use mathlib.Core.Bool.{true}
 use mathlib.Core.List.{List, [], _∷_}
 use lib.Dec.{eqb}
 use Rattle.format.specs.Tools.{pick}
-use Rattle.encode.specs.declared.state.Encoder.{Encoder}
 
 -- 1 where the stored cell l begins a run, else 0; the stored cell before it ends at q, and q is 0 where there is none
 abbrev pub begins : ℕ → ℕ → ℕ
@@ -29,18 +27,3 @@ firstBegins q (l ∷ ls) = begins q l
 -- the runs that begin in m and with the first of ys after it
 unfoldable pub joint : ℕ → List ℕ → List ℕ → ℕ
 joint q m ys = runCount q m + firstBegins (endAfter q m) ys
-
--- an encoder of n ranks, with a part of z bytes: the second part in kind 5, else the first
-unfoldable pub sizedEncoder : ℕ → ℕ → ℕ → Encoder
-sizedEncoder k n z =
-    record {
-      rank = n;
-      last = 0;
-      left = 0;
-      base = 0;
-      cells = 0;
-      empty = 0;
-      first = pick (eqb k 5) 0 z;
-      second = pick (eqb k 5) z 0;
-      fits = true;
-    }

@@ -4,10 +4,10 @@ use mathlib.Core.List.{List, [], _∷_}
 use Rattle.format.specs.declared.Setting.{Setting}
 use Rattle.format.specs.declared.View.{View}
 use Rattle.format.specs.Tools.{pick}
-use Rattle.cursor.specs.declared.Cursor.{Cursor}
-use Rattle.cursor.specs.Cursor.{walked, steppedBy}
-use Rattle.encode.specs.declared.state.Encoder.{Encoder}
-use Rattle.encode.specs.Encoder.{takenAll}
+use Rattle.parts.specs.declared.Cursor.{Cursor}
+use Rattle.parts.specs.declared.Encoder.{Encoder}
+use Rattle.kinds.specs.Steps.{walked, steppedBy}
+use Rattle.kinds.specs.Coding.{takenAll}
 use Rattle.rewrite.specs.declared.Edit.{Edit}
 use Rattle.rewrite.specs.declared.walk.Walk.{Walk}
 

@@ -1,28 +1,32 @@
-// What a file measures after an edit, without a pass where the sizes follow from less: in kind 2 from the number of ranks; where source and
-// target store runs, from the runs, which are counted from the edit's neighbours.
+// What a file measures after an edit, without a pass where the sizes follow from less: from the number of ranks in a kind with so many bytes for each;
+// where source and target store runs, from the runs, which are counted from the edit's neighbours.
 use super::Edit;
-use super::parts::measure;
-use super::runs::stores_runs;
-use encode::state::Encoder;
+use super::edited::measure;
 use format::Rank;
 use format::Setting;
 use format::View;
+use kinds::Measured;
+use kinds::coding::counted;
+use kinds::coding::sized_by_ranks;
+use kinds::coding::sizes;
+use kinds::steps::run_count;
+use kinds::steps::stores_runs;
 use search::stored_position;
 ghost use mathlib.Core.Path.{_≡_};
 ghost use mathlib.Core.Bool.{true};
 ghost use mathlib.Core.List.{[], _∷_};
 ghost use Prim.Native.Nat.{_+_, _-_, _≤_, _<_};
 ghost use lib.ListN.{length, take, drop};
-ghost use lib.Dec.{eqb};
 ghost use Rattle.format.specs.Tools.{pick};
 ghost use Rattle.format.specs.Runs.{runs};
 ghost use Rattle.format.specs.Accepted.{positionsOf};
-ghost use Rattle.header.specs.Search.{ViewOf};
+ghost use Rattle.parts.specs.Holds.{ViewOf};
 ghost use Rattle.format.specs.Kinds.{settingAllowed};
-ghost use Rattle.encode.specs.Batch.{storesRuns};
-ghost use Rattle.shape.specs.Shape.{measuredBy, SizedAs};
+ghost use Rattle.kinds.specs.Steps.{storesRuns};
+ghost use Rattle.kinds.specs.Coding.{coder, countedBy};
+ghost use Rattle.layout.specs.Laid.{Measures};
 ghost use Rattle.rewrite.specs.Edit.{edited, leftOut, EditOf};
-ghost use Rattle.rewrite.specs.RunCount.{begins, firstBegins, endAfter, joint, sizedEncoder};
+ghost use Rattle.rewrite.specs.RunCount.{begins, firstBegins, endAfter, joint};
 
 // 1 where the stored cell l begins a run, else 0. The stored cell before it ends at `end`, which is 0 where there is none.
 fn run_begins(end: u32, l: u32) -> u32
@@ -79,13 +83,6 @@ fn runs_lost(file: &[u8], v: View, end: u32, x: Edit) -> u32
     runs_joined(file, v, end, true, m.0, x.after)
 }
 
-// The runs of the file.
-fn run_total(v: View) -> u32
-    ensures { λ r. ⌜ r ≡ pick (eqb (v .kind) 1) (v .firsts) (v .seconds) ⌝ }
-{
-    if v.kind == 1 { v.firsts } else { v.seconds }
-}
-
 // The runs after the edit.
 pub fn runs_after(file: &[u8], v: View, x: Edit) -> u32
     requires { ⌜ ViewOf (now file) v × EditOf (now file) x × storesRuns (v .kind) ⌝ }
@@ -94,7 +91,7 @@ pub fn runs_after(file: &[u8], v: View, x: Edit) -> u32
     let end = end_before(file, v, x.before);
     let lost = runs_lost(file, v, end, x);
     let won = runs_joined(file, v, end, x.put, x.position, x.after);
-    run_total(v) + won - lost
+    run_count(v) + won - lost
 }
 
 // 1 where it holds, else 0.
@@ -112,50 +109,28 @@ fn ranks_after(v: View, x: Edit) -> u32
     x.before + (v.words - x.after) + one_if(x.put)
 }
 
-// An encoder of so many ranks, with a part of so many bytes: the second part in kind 5, else the first.
-fn encoder_of(kind: u32, rank: u32, bytes: usize) -> Encoder
-    ensures { λ r. ⌜ r ≡ sizedEncoder kind rank bytes ⌝ }
+// What a file of so many ranks and runs measures, in a kind whose sizes follow from these.
+fn by_counts(s: Setting, ranks: u32, runs: u32) -> Measured
+    requires { ⌜ (settingAllowed s ≡ true) × (ranks ≤ 16777216) × (runs ≤ 16777216) ⌝ }
+    ensures { λ r. ⌜ (r .fits ≡ true) × (r .sizes ≡ coder s .sizes (countedBy (s .kind) ranks runs)) ⌝ }
 {
-    let mut first = bytes;
-    let mut second: usize = 0;
-    if kind == 5 {
-        first = 0;
-        second = bytes;
-    }
-    Encoder {
-        rank,
-        last: 0,
-        left: 0,
-        base: 0,
-        cells: 0,
-        empty: 0,
-        first,
-        second,
+    Measured {
         fits: true,
+        sizes: sizes(s, counted(s.kind, ranks, runs)),
     }
 }
 
-// An encoder with the sizes of the edited positions.
-pub fn counted(file: &[u8], v: View, x: Edit, s: Setting) -> Encoder
-    requires { ⌜ ViewOf (now file) v × EditOf (now file) x × (settingAllowed s ≡ true) × storesRuns (v .kind) × storesRuns (s .kind) ⌝ }
-    ensures { λ r. ⌜ SizedAs r (measuredBy s (edited x (positionsOf (now (file .entry))))) ⌝ }
-{
-    let runs = runs_after(file, v, x);
-    encoder_of(s.kind, ranks_after(v, x), 8 * runs as usize)
-}
-
-// An encoder with the sizes of the edited positions: measured where they do not follow from less.
-pub fn sized(file: &[u8], v: View, x: Edit, s: Setting) -> Encoder
+// What the edited positions measure: along them where it does not follow from less.
+pub fn sized(file: &[u8], v: View, x: Edit, s: Setting) -> Measured
     requires { ⌜ ViewOf (now file) v × EditOf (now file) x × (settingAllowed s ≡ true) ⌝ }
-    ensures { λ r. ⌜ SizedAs r (measuredBy s (edited x (positionsOf (now (file .entry))))) ⌝ }
+    ensures { λ r. ⌜ Measures s (v .cells) (edited x (positionsOf (now (file .entry)))) r ⌝ }
 {
-    if s.kind == 2 {
-        let ranks = ranks_after(v, x);
-        return encoder_of(2, ranks, 4 * ranks as usize);
+    if sized_by_ranks(s.kind) {
+        return by_counts(s, ranks_after(v, x), 0);
     }
     if stores_runs(s.kind) {
         if stores_runs(v.kind) {
-            return counted(file, v, x, s);
+            return by_counts(s, ranks_after(v, x), runs_after(file, v, x));
         }
     }
     measure(file, v, x, s)

@@ -1,7 +1,6 @@
 // The positions and words of a checked file with one cell laid over them, into the parts and words of a new file.
-pub mod below;
 pub mod counted;
-pub mod parts;
+pub mod edited;
 pub mod runs;
 pub mod walk;
 pub mod words;

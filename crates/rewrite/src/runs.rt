@@ -1,31 +1,21 @@
 // Ranks of a file put out run by run, where both the file's kind and the new one store runs.
 use super::walk::Walk;
-use cursor::Cursor;
-use cursor::runs::past_cells;
-use cursor::runs::stretch;
-use encode::state::Encoder;
-use encode::stretch::emit_run;
 use format::Setting;
 use format::View;
+use kinds::coding::put_run;
+use kinds::steps::past_cells;
+use parts::Cursor;
+use parts::Encoder;
+use parts::walk::stretch;
 ghost use mathlib.Core.Path.{_≡_};
 ghost use mathlib.Core.Bool.{true};
 ghost use Prim.Native.Nat.{_<_};
 ghost use lib.ListN.{length};
 ghost use Rattle.format.specs.Kinds.{settingAllowed};
-ghost use Rattle.cursor.specs.Cursor.{walked};
-ghost use Rattle.encode.specs.Encoder.{coder};
-ghost use Rattle.encode.specs.Batch.{Along, RoomAll, putAllBy, storesRuns};
+ghost use Rattle.parts.specs.Batch.{Along, RoomAll, putAllBy};
+ghost use Rattle.kinds.specs.Steps.{walked, storesRuns};
+ghost use Rattle.kinds.specs.Coding.{coder};
 ghost use Rattle.rewrite.specs.Walk.{along};
-
-// Whether a kind stores runs.
-pub fn stores_runs(kind: u32) -> bool
-    ensures { λ r. ⌜ (r ≡ true → storesRuns kind) ⌝ }
-{
-    if kind == 1 {
-        return true;
-    }
-    kind == 5
-}
 
 // The next n ranks, put out.
 pub fn put_runs(
@@ -43,7 +33,7 @@ pub fn put_runs(
     let mut left = n;
     while 0 < left {
         let k = stretch(c, left);
-        e = emit_run(dst, s, e, c.at, k);
+        e = put_run(dst, s, e, c.at, k);
         c = past_cells(file, v, c, k - 1);
         left -= k;
     }

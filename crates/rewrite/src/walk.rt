@@ -1,26 +1,25 @@
 // A stretch of ranks of a file into an encoder, by runs or in batches: to measure, and to write.
 use super::Edit;
 use super::runs::put_runs;
-use super::runs::stores_runs;
-use cursor::Cursor;
-use cursor::batch::batch_of;
-use cursor::batch::positions;
-use cursor::next;
-use encode::advance;
-use encode::batch::advance_all;
-use encode::batch::emit_all;
-use encode::emit;
-use encode::state::Encoder;
 use format::Setting;
 use format::View;
+use kinds::coding::put_all;
+use kinds::coding::take_all;
+use kinds::steps::next;
+use kinds::steps::positions;
+use kinds::steps::stores_runs;
+use parts::Cursor;
+use parts::Encoder;
+use parts::walk::batch_of;
 ghost use mathlib.Core.Path.{_≡_};
 ghost use mathlib.Core.Bool.{true};
 ghost use Prim.Native.Nat.{_<_};
 ghost use lib.ListN.{length};
 ghost use Rattle.format.specs.Kinds.{settingAllowed};
-ghost use Rattle.cursor.specs.Cursor.{walked, steppedBy};
-ghost use Rattle.encode.specs.Encoder.{coder, takenAll};
-ghost use Rattle.encode.specs.Batch.{Along, RoomAll, putAllBy};
+ghost use Rattle.parts.specs.Holds.{kindOf};
+ghost use Rattle.parts.specs.Batch.{Along, RoomAll, putAllBy};
+ghost use Rattle.kinds.specs.Steps.{walked, steppedBy};
+ghost use Rattle.kinds.specs.Coding.{coder, takenAll};
 ghost use Rattle.rewrite.specs.Walk.{along, added};
 
 // The cursor and the encoder between two stretches.
@@ -31,6 +30,7 @@ pub struct Walk {
 
 // The cursor n ranks on.
 pub fn skip(file: &[u8], v: View, mut c: Cursor, mut n: u32) -> Cursor
+    requires { ⌜ kindOf v .allowed ≡ true ⌝ }
     ensures { λ r. ⌜ r ≡ steppedBy (now (file .entry)) v c n ⌝ }
 {
     while 0 < n {
@@ -49,7 +49,7 @@ pub fn measure_ranks(
     mut e: Encoder,
     n: u32,
 ) -> Walk
-    requires { ⌜ (settingAllowed s ≡ true) × Along e (walked (now file) v c n) ⌝ }
+    requires { ⌜ (kindOf v .allowed ≡ true) × (settingAllowed s ≡ true) × Along e (walked (now file) v c n) ⌝ }
     ensures { λ r. ⌜ r ≡ along s (now (file .entry)) v c e n ⌝ }
 {
     let mut batch: [u32; 512] = [0; 512];
@@ -57,7 +57,7 @@ pub fn measure_ranks(
     while 0 < left {
         let k = batch_of(left);
         c = positions(file, v, c, &mut batch[..k]);
-        e = advance_all(s, e, &batch[..k]);
+        e = take_all(s, e, &batch[..k]);
         left -= k as u32;
     }
     Walk { c, e }
@@ -73,7 +73,7 @@ fn put_batches(
     mut e: Encoder,
     n: u32,
 ) -> Walk
-    requires { ⌜ (settingAllowed s ≡ true) × Along e (walked (now file) v c n) × RoomAll (coder s) e (walked (now file) v c n) (length (now dst)) ⌝ }
+    requires { ⌜ (kindOf v .allowed ≡ true) × (settingAllowed s ≡ true) × Along e (walked (now file) v c n) × RoomAll (coder s) e (walked (now file) v c n) (length (now dst)) ⌝ }
     ensures { λ r. ⌜ (r ≡ along s (now (file .entry)) v c e n) × (now (dst .exit) ≡ putAllBy (coder s) (now (dst .entry)) e (walked (now (file .entry)) v c n)) ⌝ }
 {
     let mut batch: [u32; 512] = [0; 512];
@@ -81,7 +81,7 @@ fn put_batches(
     while 0 < left {
         let k = batch_of(left);
         c = positions(file, v, c, &mut batch[..k]);
-        e = emit_all(dst, s, e, &batch[..k]);
+        e = put_all(dst, s, e, &batch[..k]);
         left -= k as u32;
     }
     Walk { c, e }
@@ -97,7 +97,7 @@ pub fn put_ranks(
     e: Encoder,
     n: u32,
 ) -> Walk
-    requires { ⌜ (settingAllowed s ≡ true) × Along e (walked (now file) v c n) × RoomAll (coder s) e (walked (now file) v c n) (length (now dst)) ⌝ }
+    requires { ⌜ (kindOf v .allowed ≡ true) × (settingAllowed s ≡ true) × Along e (walked (now file) v c n) × RoomAll (coder s) e (walked (now file) v c n) (length (now dst)) ⌝ }
     ensures { λ r. ⌜ (r ≡ along s (now (file .entry)) v c e n) × (now (dst .exit) ≡ putAllBy (coder s) (now (dst .entry)) e (walked (now (file .entry)) v c n)) ⌝ }
 {
     if stores_runs(s.kind) {
@@ -114,7 +114,8 @@ pub fn measure_added(s: Setting, e: Encoder, x: Edit) -> Encoder
     ensures { λ r. ⌜ r ≡ takenAll s e (added x) ⌝ }
 {
     if x.put {
-        return advance(s, e, x.position);
+        let one = [x.position];
+        return take_all(s, e, &one);
     }
     e
 }
@@ -125,7 +126,8 @@ pub fn put_added(dst: &mut [u8], s: Setting, e: Encoder, x: Edit) -> Encoder
     ensures { λ r. ⌜ (r ≡ takenAll s e (added x)) × (now (dst .exit) ≡ putAllBy (coder s) (now (dst .entry)) e (added x)) ⌝ }
 {
     if x.put {
-        return emit(dst, s, e, x.position);
+        let own = [x.position];
+        return put_all(dst, s, e, &own);
     }
     e
 }

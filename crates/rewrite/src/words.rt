@@ -1,7 +1,6 @@
 // The stored words after an edit, copied in bulk.
 use super::Edit;
 use format::View;
-use header::places::words_at;
 use stores::put_u32;
 ghost use mathlib.Core.Path.{_≡_};
 ghost use mathlib.Core.List.{[], _∷_};
@@ -11,7 +10,7 @@ ghost use Rattle.format.specs.Tools.{pick};
 ghost use Rattle.format.specs.Bytes.{bytesOf};
 ghost use Rattle.format.specs.Accepted.{keptOf};
 ghost use Rattle.stores.specs.Put.{put};
-ghost use Rattle.header.specs.Search.{ViewOf};
+ghost use Rattle.parts.specs.Holds.{ViewOf};
 ghost use Rattle.rewrite.specs.Edit.{overlaid, EditOf};
 
 // n bytes of src from `from` on, at `at`.
@@ -43,7 +42,7 @@ pub fn put_words(dst: &mut [u8], place: usize, file: &[u8], v: View, x: Edit, wo
     requires { ⌜ ViewOf (now file) v × EditOf (now file) x × (place + 4 * length (overlaid x word (keptOf (now file))) ≤ length (now dst)) ⌝ }
     ensures { λ _. ⌜ now (dst .exit) ≡ put (now (dst .entry)) place (bytesOf 4 (overlaid x word (keptOf (now (file .entry))))) ⌝ }
 {
-    let words = words_at(v);
+    let words = v.place as usize;
     let front = 4 * x.before as usize;
     copy(dst, place, file, words, front);
     let at = put_word(dst, place + front, x.put, word);

@@ -1,7 +1,7 @@
 -- The check along runs, as the loop goes: it passes exactly for runs in strict order that end below cells and hold as many stored cells as there are words.
 -- Assumes nothing.
 use Prim.Native.Nat.{ℕ, zero, suc, _+_, _-_, _≤_, _<_}
-use mathlib.Core.Path.{_≡_, refl}
+use mathlib.Core.Path.{_≡_, refl, sym}
 use mathlib.Core.Bool.{Bool, true, false, not, _||_}
 use mathlib.Core.List.{List, [], _∷_}
 use native.Mathlib.Numerals.{add-one}
@@ -12,7 +12,7 @@ use Rattle.format.specs.Tools.{both}
 use Rattle.format.specs.Runs.{Run}
 use Rattle.laws.proofs.Tools.{both-true, both-make}
 use Rattle.laws.proofs.RunsBack.{leastEmpty, InOrder', lastEnd, lastEmpty}
-use Rattle.runs.proofs.Pairs.{pairAt, pairs}
+use Rattle.runs.proofs.Pairs.{unlike, pairAt, pairs, pairs-cons, pairs-none}
 
 -- the pair does not follow on: V is below the least, or no cell of the run is stored
 unfoldable pub wrong : ℕ → ℕ → Run → Bool
@@ -26,10 +26,7 @@ rightFrom cells words end v (x ∷ xs) = both (not (wrong end v x)) (rightFrom c
 -- ---- what it says
 
 either-false : (s t : Bool) → (s || t) ≡ false → (s ≡ false) × (t ≡ false)
-either-false true t h = (h, absurd (never h))
-  where
-    never : true ≡ false → ⊥
-    never e = let y : _≡_ {A = ℕ} 0 1 = cc in omega arith
+either-false true t h = (h, absurd (unlike (sym h)))
 either-false false t h = (refl, h)
 
 pub record Right (C N end v : ℕ) (rs : List Run) : Type 0 where
@@ -70,11 +67,11 @@ pub turn : (C N at left e v least l y : ℕ) (bad : Bool) (b : List ℕ) → 0 <
     → l ≡ pairAt at b .last → y ≡ pairAt at b .empty
     → both (not bad) (rightFrom C N e v (pairs left at b))
     ≡ both (not ((bad || ltb y least) || ltb (l + v) (e + y))) (rightFrom C N (l + 1) y (pairs (left - 1) (at + 8) b))
-unfolding pairs rightFrom wrong
+unfolding rightFrom wrong
 turn C N at zero e v least l y bad b h m p q = absurd (omega arith)
 turn C N at (suc left) e v least l y bad b h m p q =
     let k : suc left - 1 ≡ left = omega arith in
-    rw (k, m, p, q, add-one (pairAt at b .last))
+    rw (k, m, p, q, add-one (pairAt at b .last), pairs-cons left at b)
     (both-or bad (ltb (pairAt at b .empty) (leastEmpty e + v)) (ltb (pairAt at b .last + v) (e + pairAt at b .empty)) _)
 
 -- past a run the least V is one more than the V before
@@ -83,8 +80,7 @@ next-least l y = rw (add-one l) (omega arith)
 
 module _ (C N at left e v : ℕ) (b : List ℕ) (h : left ≤ 0) where
   none-left : pairs left at b ≡ []
-  unfolding pairs
-  none-left = let z : left ≡ 0 = omega arith in rw (z, pairs)
+  none-left = let z : left ≡ 0 = omega arith in rw z (pairs-none at b)
 
   pub end-long : C < e → rightFrom C N e v (pairs left at b) ≡ false
   unfolding rightFrom

@@ -1,10 +1,11 @@
--- A search by halves for an edge of a test, what a turn learns; and the pair before a run. Assumes nothing.
+-- A search by halves for an edge of a test, what a turn learns; and the stored cells before a run. Assumes nothing.
 use Prim.Native.Nat.{ℕ, zero, suc, _+_, _-_, _/_, _≤_, _<_}
 use mathlib.Core.Path.{_≡_, refl}
 use mathlib.Core.Bool.{Bool, true, false}
 use mathlib.Core.List.{List}
 use native.Mathlib.Omega.{arith}
-use Rattle.runs.specs.Edge.{Edge, lastAt, emptyAt, endBefore, emptyBefore}
+use borrow.Author.Tests.{leb-false}
+use Rattle.runs.specs.Edge.{Edge, lastAt, emptyAt, ranksBefore, reaches, holds}
 
 -- an edge among n indices lies between two of them
 pub record Between (test : ℕ → Bool) (n low high : ℕ) : Type 0 where
@@ -36,22 +37,24 @@ edge-found t n low high o h =
     let z : low ≡ high = omega arith in
     record { most = omega arith; fails = o .fails; passes = λ k. rw z (o .passes (omega arith)) }
 
--- ---- the pair before run j
+-- ---- the stored cells before run j
 
-pub first-end : (b : List ℕ) (j : ℕ) → j ≡ 0 → 0 ≡ endBefore b j
-unfolding endBefore
-first-end b j e = rw e
+pub first-ranks : (b : List ℕ) (s j : ℕ) → j ≡ 0 → 0 ≡ ranksBefore b s j
+unfolding ranksBefore
+first-ranks b s j e = rw e
 
-pub later-end : (b : List ℕ) (j l : ℕ) → (j ≡ 0 → ⊥) → l ≡ lastAt b (j - 1) → l + 1 ≡ endBefore b j
-unfolding endBefore
-later-end b zero l h e = absurd (h refl)
-later-end b (suc j) l h e = let z : suc j - 1 ≡ j = omega arith in let w : l ≡ lastAt b j = rw z at e in omega arith
+pub later-ranks : (b : List ℕ) (s j : ℕ) → (j ≡ 0 → ⊥) → suc (lastAt b s (j - 1)) - emptyAt b s (j - 1) ≡ ranksBefore b s j
+unfolding ranksBefore
+later-ranks b s zero h = absurd (h refl)
+later-ranks b s (suc j) h = let z : suc j - 1 ≡ j = omega arith in rw z
 
-pub first-empty : (b : List ℕ) (j : ℕ) → j ≡ 0 → 0 ≡ emptyBefore b j
-unfolding emptyBefore
-first-empty b j e = rw e
+-- they are below what the search looks for
+pub reaches-above : (b : List ℕ) (s p n j : ℕ) → Edge (reaches b s p) n j → ranksBefore b s j ≤ p
+unfolding ranksBefore
+reaches-above b s p n zero g = omega arith
+reaches-above b s p n (suc j) g = let h = leb-false p (lastAt b s j) (g .fails j refl) in omega arith
 
-pub later-empty : (b : List ℕ) (j y : ℕ) → (j ≡ 0 → ⊥) → y ≡ emptyAt b (j - 1) → y ≡ emptyBefore b j
-unfolding emptyBefore
-later-empty b zero y h e = absurd (h refl)
-later-empty b (suc j) y h e = let z : suc j - 1 ≡ j = omega arith in rw z at e
+pub holds-above : (b : List ℕ) (s r n j : ℕ) → Edge (holds b s r) n j → ranksBefore b s j ≤ r
+unfolding ranksBefore
+holds-above b s r n zero g = omega arith
+holds-above b s r n (suc j) g = let h = leb-false (r + emptyAt b s j) (lastAt b s j) (g .fails j refl) in omega arith

@@ -1,7 +1,9 @@
--- The laws of kind 1's check and searches.
+-- The laws of kind 1.
 pub mod Pairs
 pub mod Accepts
 pub mod Body
 pub mod Halves
-pub mod Walk
 pub mod Lookup
+pub mod Walk
+pub mod Adds
+pub mod Laws

@@ -1,209 +1,207 @@
--- What the searches of kind 1 answer on an accepted file: the definition's rank and position. Assumes nothing.
+-- Over parts that hold stored positions: where run j stands among them, and what the searches find. Assumes nothing.
 use Prim.Native.Nat.{ℕ, zero, suc, _+_, _-_, _*_, _≤_, _<_}
-use mathlib.Core.Path.{_≡_, refl, sym, ap, ap₂, _∙_}
-use mathlib.Core.Bool.{Bool}
-use mathlib.Core.List.{List}
+use mathlib.Core.Path.{_≡_, refl, sym, ap, _∙_}
+use mathlib.Core.Bool.{true, false}
+use mathlib.Core.List.{List, [], _∷_, _++_}
+use native.Mathlib.Nat.{add-zero}
 use native.Mathlib.Omega.{arith}
-use lib.ListN.{length}
-use lib.Dec.{leb}
-use borrow.Author.Tests.{leb-true, le-leb, lt-leb, le-ltb}
+use lib.ListN.{length, getD, length-append, List·getD-append}
+use lib.Seq.{getD-append-add}
+use lib.Dec.{ltb}
+use borrow.Author.Tests.{leb-true, leb-false, ltb-true, ltb-false, lt-ltb}
 use Rattle.format.specs.declared.View.{View}
-use Rattle.format.specs.Tools.{pick}
-use Rattle.format.specs.Bytes.{field}
-use Rattle.format.specs.Picture.{cells}
-use Rattle.format.specs.Stored.{stored}
-use Rattle.format.specs.Answers.{empty, given, refused}
-use Rattle.format.specs.Lookups.{rankIn, positionIn}
-use Rattle.format.specs.Runs.{Run, runs, runsKind, runParts, runRank}
-use Rattle.format.specs.Accepted.{settingOf, dimensionsOf, emptyOf, firstCount, positionsOf, wordsOf, checkNumber}
-use Rattle.format.specs.Opened.{viewOf}
-use Rattle.laws.proofs.Acceptance.{accepted, accepted-has-file}
-use Rattle.laws.proofs.Files.{positions-back}
-use Rattle.laws.proofs.Ranks.{InOrder, kind-1-rank, kind-1-position}
-use Rattle.laws.proofs.RunsBack.{lastEnd, lastEmpty, weaker, runs-ordered, runs-end, runs-length}
-use Rattle.header.specs.Search.{ViewOf}
-use Rattle.header.proofs.Frame.{framed}
-use Rattle.header.proofs.Body.{accepted-parts}
-use Rattle.wire.proofs.Laws.{whole-there}
-use Rattle.runs.specs.Edge.{lastAt, emptyAt, endBefore, emptyBefore, reaches, holds, Edge}
-use Rattle.runs.proofs.Pairs.{pairs, length-pairs, pair-index}
-use Rattle.runs.proofs.Body.{of-kind, inside, read-back}
-use Rattle.runs.proofs.Walk.{noRun, nth, endsAt, emptiesAt, Ordered, ordered-at, walk, walk-at, walk-past}
-use Rattle.runs.proofs.Walk.{reachesRun, holdsRun, reaches-mono, holds-mono, ruleRank, rulePosition, rank-walk, position-walk}
+use Rattle.format.specs.Tools.{range}
+use Rattle.format.specs.Runs.{Run, runs, spansFrom, spans, positionsFrom, flatRuns, runParts, runsKind}
+use Rattle.laws.proofs.Tools.{cases, length-range}
+use Rattle.laws.proofs.Positions.{runs-back}
+use Rattle.laws.proofs.Ranks.{InOrder, in-order}
+use Rattle.wire.specs.declared.Pair.{Pair}
+use Rattle.parts.specs.declared.Found.{Found}
+use Rattle.parts.specs.Holds.{Holds}
+use Rattle.parts.specs.Found.{FoundAmong}
+use Rattle.parts.proofs.Places.{found-here, found-gap}
+use Rattle.parts.proofs.Entries.{Entries, first-pair, rest-pairs}
+use Rattle.runs.specs.Edge.{lastAt, emptyAt, ranksBefore, reaches, holds, Edge}
+use Rattle.runs.proofs.Body.{held}
+use Rattle.runs.proofs.Halves.{holds-above}
 
--- ---- an accepted file by its view
+-- A run with the pair l and y, whose first rank is f, among positions ls, the first of which has the rank o: it has a stored cell, and its positions stand in ls.
+record InRun (f l y o : ℕ) (ls : List ℕ) : Type 0 where
+  low : o ≤ f
+  some : f + y ≤ l
+  most : l < o + length ls + y
+  at : (r : ℕ) → f ≤ r → r + y ≤ l → getD ls (r - o) 0 ≡ r + y
 
--- the runs that the pairs say
-abbrev pub runsOf : List ℕ → View → List Run
-runsOf b v = pairs (v .firsts) 52 b
+getD-range : (a n i : ℕ) → i < n → getD (range a n) i 0 ≡ a + i
+unfolding range
+getD-range a zero i h = absurd (omega arith)
+getD-range a (suc n) zero h = sym (add-zero a)
+getD-range a (suc n) (suc i) h = getD-range (suc a) n i (omega arith) ∙ omega arith
 
-pub record Filed (b : List ℕ) (v : View) : Type 0 where
-  pub long : 52 + 8 * v .firsts ≤ length b
-  pub order : InOrder 0 0 (runsOf b v)
-  pub cells : lastEnd 0 (runsOf b v) ≤ v .cells
-  pub words : lastEnd 0 (runsOf b v) ≡ lastEmpty 0 (runsOf b v) + v .words
-  pub size : length (wordsOf b) ≡ v .cells
-  pub count : length (stored (emptyOf b) (wordsOf b)) ≡ v .words
-  pub again : runs (stored (emptyOf b) (wordsOf b)) ≡ runsOf b v
-
-by-view : (b : List ℕ) → settingOf b .kind ≡ 1 → checkNumber b ≡ 0 → Filed b (viewOf b)
-unfolding viewOf runsKind runParts
-by-view b kind a =
-    let h = accepted b a .header in
-    let i = inside b kind h in
-    let y = accepted-parts b a in
-    let hf = accepted-has-file b a in
-    let o : viewOf b .cells ≡ cells (dimensionsOf b) = framed b h .cells in
-    let n : length (runs (positionsOf b)) ≡ firstCount b = rw (of-kind b kind) at (y .first-count) in
-    let q : runs (positionsOf b) ≡ pairs (firstCount b) 52 b
-    = read-back (firstCount b) (cells (dimensionsOf b)) (positionsOf b) b (i .most) (y .rising) n (rw (of-kind b kind) at (y .first)) in
-    let z : positionsOf b ≡ stored (emptyOf b) (wordsOf b) = positions-back _ _ _ _ b hf in
-    let w = runs-length 0 (cells (dimensionsOf b)) (positionsOf b) (y .rising) in
-    let u = y .size in
+-- the first run, after e cells of which v are empty
+first-run : (e v : ℕ) (x : Run) (ys : List ℕ) → v ≤ e → v ≤ x .empty → e + (x .empty - v) ≤ x .last
+    → InRun (e - v) (x .last) (x .empty) (e - v) (range (e + (x .empty - v)) (suc (x .last) - e - (x .empty - v)) ++ ys)
+first-run e v x ys g k o =
+    let xs : List ℕ = range (e + (x .empty - v)) (suc (x .last) - e - (x .empty - v)) in
+    let n : length xs ≡ suc (x .last) - e - (x .empty - v) = length-range _ _ in
     record {
-      long = i .long;
-      order = rw (← q) (weaker 0 0 (runs (positionsOf b)) (runs-ordered 0 (cells (dimensionsOf b)) (positionsOf b) (y .rising)));
-      cells = rw (← q, o) (runs-end 0 (cells (dimensionsOf b)) (positionsOf b) (y .rising));
-      words = rw (← q) (omega arith);
-      size = hf .size ∙ sym o;
-      count = rw (← z) (y .size);
-      again = rw (← z) q;
+      low = omega arith;
+      some = omega arith;
+      most = rw (length-append xs ys) (omega arith);
+      at = λ r h q.
+          List·getD-append xs ys 0 (r - (e - v)) (omega arith)
+          ∙ getD-range (e + (x .empty - v)) (suc (x .last) - e - (x .empty - v)) (r - (e - v)) (omega arith)
+          ∙ omega arith;
     }
 
-pub filed : (b : List ℕ) (v : View) → v .kind ≡ 1 → ViewOf b v → Filed b v
-unfolding viewOf
-filed b v k h =
-    let kind : settingOf b .kind ≡ 1 = sym (ap (λ (x : View). x .kind) (h .view)) ∙ k in
-    rw (h .view) (by-view b kind (h .accepted))
+-- a later run
+later-run : (f l y o m : ℕ) (xs ys : List ℕ) → o + length xs ≡ m → InRun f l y m ys → InRun f l y o (xs ++ ys)
+later-run f l y o m xs ys e i =
+    let a = i .low in
+    let z = i .most in
+    record {
+      low = omega arith;
+      some = i .some;
+      most = rw (length-append xs ys) (omega arith);
+      at = λ r h q. let k : r - o ≡ length xs + (r - m) = omega arith in rw k (getD-append-add xs ys (r - m) 0 ∙ i .at r h q);
+    }
 
--- ---- what is read is the run
+-- positions from the first run on
+split : (e v : ℕ) (x : Run) (xs : List Run) → e + (x .empty - v) ≤ x .last
+    → positionsFrom e (spansFrom e v (x ∷ xs))
+    ≡ range (e + (x .empty - v)) (suc (x .last) - e - (x .empty - v)) ++ positionsFrom (suc (x .last)) (spansFrom (suc (x .last)) (x .empty) xs)
+unfolding positionsFrom spansFrom
+split e v x xs h = let g : e + (suc (x .last) - e) ≡ suc (x .last) = omega arith in rw g
 
-module _ (b : List ℕ) (n : ℕ) (long : 52 + 8 * n ≤ length b) where
-  last-run : (j : ℕ) → j < n → lastAt b j ≡ nth (pairs n 52 b) j .last
-  unfolding lastAt
-  last-run j h = whole-there 4 (52 + 8 * j) b (omega arith) ∙ sym (ap (λ (x : Run). x .last) (pair-index n 52 j b noRun h))
+module _ (b : List ℕ) (s : ℕ) where
+  -- the first of the runs is read
+  told : (i : ℕ) (x : Run) (xs : List Run) → Entries b 4 s (2 * i) (flatRuns (x ∷ xs)) → (lastAt b s i ≡ x .last) × (emptyAt b s i ≡ x .empty)
+  unfolding flatRuns
+  told i x xs es = let t = first-pair b s i (x .last) (x .empty) (flatRuns xs) es in (ap (λ (p : Pair). p .first) t, ap (λ (p : Pair). p .second) t)
 
-  empty-run : (j : ℕ) → j < n → emptyAt b j ≡ nth (pairs n 52 b) j .empty
-  unfolding emptyAt
-  empty-run j h =
-      let e : 52 + 8 * j + 4 ≡ 56 + 8 * j = omega arith in
-      whole-there 4 (56 + 8 * j) b (omega arith)
-      ∙ sym (ap (λ (x : Run). x .empty) (pair-index n 52 j b noRun h) ∙ ap (λ (at : ℕ). field 4 at b) e)
+  next-ranks : (i : ℕ) (x : Run) (xs : List Run) → Entries b 4 s (2 * i) (flatRuns (x ∷ xs)) → ranksBefore b s (suc i) ≡ suc (x .last) - x .empty
+  unfolding ranksBefore
+  next-ranks i x xs es = let t = told i x xs es in rw (t .0, t .1)
 
-  end-run : (j : ℕ) → j < n → endBefore b j ≡ endsAt 0 (pairs n 52 b) j
-  unfolding endBefore endsAt
-  end-run zero h = refl
-  end-run (suc j) h = ap suc (last-run j (omega arith))
+  -- run k of rs, which is run i + k of the file
+  run-among : (rs : List Run) (i e v k : ℕ) → InOrder e v rs → v ≤ e → ranksBefore b s i ≡ e - v → Entries b 4 s (2 * i) (flatRuns rs) → k < length rs
+      → InRun (ranksBefore b s (i + k)) (lastAt b s (i + k)) (emptyAt b s (i + k)) (e - v) (positionsFrom e (spansFrom e v rs))
+  run-among [] i e v k o g q es h = absurd (omega arith)
+  run-among (x ∷ xs) i e v zero o g q es h =
+      let t = told i x xs es in
+      rw (add-zero i, q, t .0, t .1, split e v x xs (o .1)) (first-run e v x _ g (o .0) (o .1))
+  run-among (x ∷ xs) i e v (suc k) o g q es h =
+      let o0 = o .0 in
+      let o1 = o .1 in
+      let m : i + suc k ≡ suc i + k = omega arith in
+      let n = length-range (e + (x .empty - v)) (suc (x .last) - e - (x .empty - v)) in
+      rw (m, split e v x xs o1)
+      (later-run _ _ _ (e - v) (suc (x .last) - x .empty) (range (e + (x .empty - v)) (suc (x .last) - e - (x .empty - v))) _ (omega arith)
+      (run-among xs (suc i) (suc (x .last)) (x .empty) k (o .2) (omega arith) (next-ranks i x xs es)
+      (rest-pairs b s i (x .last) (x .empty) (flatRuns xs) (unfold flatRuns in es)) (omega arith)))
 
-  before-run : (j : ℕ) → j < n → emptyBefore b j ≡ emptiesAt 0 (pairs n 52 b) j
-  unfolding emptyBefore emptiesAt
-  before-run zero h = refl
-  before-run (suc j) h = empty-run j (omega arith)
+  -- all the stored cells
+  all-ranks : (rs : List Run) (i e v : ℕ) → InOrder e v rs → v ≤ e → ranksBefore b s i ≡ e - v → Entries b 4 s (2 * i) (flatRuns rs)
+      → ranksBefore b s (i + length rs) ≡ e - v + length (positionsFrom e (spansFrom e v rs))
+  all-ranks [] i e v o g q es = rw (add-zero i) (unfold positionsFrom spansFrom in omega arith)
+  all-ranks (x ∷ xs) i e v o g q es =
+      let o0 = o .0 in
+      let o1 = o .1 in
+      let m : i + suc (length xs) ≡ suc i + length xs = omega arith in
+      let n = length-range (e + (x .empty - v)) (suc (x .last) - e - (x .empty - v)) in
+      let ys : List ℕ = positionsFrom (suc (x .last)) (spansFrom (suc (x .last)) (x .empty) xs) in
+      let z = all-ranks xs (suc i) (suc (x .last)) (x .empty) (o .2) (omega arith) (next-ranks i x xs es)
+      (rest-pairs b s i (x .last) (x .empty) (flatRuns xs) (unfold flatRuns in es)) in
+      rw (m, split e v x xs o1, length-append (range (e + (x .empty - v)) (suc (x .last) - e - (x .empty - v))) ys) (omega arith)
 
-  edge-among : (f : ℕ → Bool) (t : Run → Bool) (j : ℕ) → ((k : ℕ) → k < n → f k ≡ t (nth (pairs n 52 b) k)) → Edge f n j
-      → Edge (λ k. t (nth (pairs n 52 b) k)) (length (pairs n 52 b)) j
-  edge-among f t j same g =
-      let e = length-pairs n 52 b in
+-- ---- over parts that hold ls
+
+module _ (b : List ℕ) (v : View) (ls : List ℕ) (h : Holds (runsKind (v .width) (v .step)) b v ls) where
+  back : positionsFrom 0 (spansFrom 0 0 (runs ls)) ≡ ls
+  unfolding spans
+  back = runs-back 0 (v .cells) ls (h .rising)
+
+  count : length (runs ls) ≡ v .firsts
+  unfolding runsKind runParts
+  count = h .first-count
+
+  none : ranksBefore b (v .start) 0 ≡ 0
+  unfolding ranksBefore
+  none = refl
+
+  in-run : (j : ℕ) → j < v .firsts → InRun (ranksBefore b (v .start) j) (lastAt b (v .start) j) (emptyAt b (v .start) j) 0 ls
+  in-run j k =
+      let c = count in
+      let z : 0 + j ≡ j = omega arith in
+      rw (z, back) at (run-among b (v .start) (runs ls) 0 0 0 j (in-order 0 (v .cells) ls (h .rising)) (omega arith) none (held b v ls h) (omega arith))
+
+  -- the position of a rank in run j
+  at-rank : (j r : ℕ) → j < v .firsts → ranksBefore b (v .start) j ≤ r → r + emptyAt b (v .start) j ≤ lastAt b (v .start) j
+      → getD ls r 0 ≡ r + emptyAt b (v .start) j
+  at-rank j r k f e = let z : r - 0 ≡ r = omega arith in rw z at (in-run j k .at r f e)
+
+  ranks : ranksBefore b (v .start) (v .firsts) ≡ length ls
+  ranks =
+      let c = count in
+      let z : 0 + length (runs ls) ≡ v .firsts = omega arith in
+      rw (z, back) at (all-ranks b (v .start) (runs ls) 0 0 0 (in-order 0 (v .cells) ls (h .rising)) (omega arith) none (held b v ls h))
+      ∙ omega arith
+
+  -- the last rank before run j stands at L_(j-1), below p
+  low : (p j : ℕ) → j ≤ v .firsts → Edge (reaches b (v .start) p) (v .firsts) j → 1 ≤ ranksBefore b (v .start) j
+      → getD ls (ranksBefore b (v .start) j - 1) 0 < p
+  unfolding ranksBefore
+  low p zero k g r = absurd (omega arith)
+  low p (suc j) k g r =
+      let l = lastAt b (v .start) j in
+      let y = emptyAt b (v .start) j in
+      let i = in-run j (omega arith) in
+      let f = leb-false p l (g .fails j refl) in
+      let o = i .some in
+      let a = at-rank j (suc l - y - 1) (omega arith) (omega arith) (omega arith) in
+      omega arith
+
+  module _ (p j : ℕ) (g : Edge (reaches b (v .start) p) (v .firsts) j) (f : Found) where
+    -- after the last run
+    pub found-end : v .firsts ≤ j → f .below ≡ v .words → f .here ≡ false → FoundAmong p ls f
+    found-end k q t =
+        let m = g .most in
+        let n = ranks in
+        let z = h .size in
+        let e : ranksBefore b (v .start) j ≡ v .words = ap (ranksBefore b (v .start)) (omega arith) ∙ n ∙ z in
+        found-gap (v .cells) p ls (h .rising) (v .words) (omega arith) (λ r. rw (← e) (low p j m g (omega arith))) (λ r. absurd (omega arith)) f q t
+
+    module _ (k : j < v .firsts) where
+      -- an empty cell of run j
+      pub found-empty : p < ranksBefore b (v .start) j + emptyAt b (v .start) j → f .below ≡ ranksBefore b (v .start) j → f .here ≡ false → FoundAmong p ls f
+      found-empty l q t =
+          let i = in-run j k in
+          let o = i .some in
+          let m = i .most in
+          let a = at-rank j (ranksBefore b (v .start) j) k (omega arith) o in
+          found-gap (v .cells) p ls (h .rising) (ranksBefore b (v .start) j) (omega arith) (low p j (omega arith) g) (λ r. omega arith) f q t
+
+      -- a stored one
+      pub found-stored : ranksBefore b (v .start) j + emptyAt b (v .start) j ≤ p → f .below ≡ p - emptyAt b (v .start) j
+          → f .here ≡ ltb (f .below) (v .words) → FoundAmong p ls f
+      found-stored l q t =
+          let i = in-run j k in
+          let e = leb-true p (lastAt b (v .start) j) (g .passes k) in
+          let m = i .most in
+          let n = h .size in
+          let a = at-rank j (p - emptyAt b (v .start) j) k (omega arith) (omega arith) in
+          found-here (v .cells) p ls (h .rising) (p - emptyAt b (v .start) j) (omega arith) (omega arith) f q (t ∙ lt-ltb (f .below) (v .words) (omega arith))
+
+  pub position : (r j : ℕ) → Edge (holds b (v .start) r) (v .firsts) j → r < v .words → r + emptyAt b (v .start) j ≡ getD ls r 0
+  position r j g k =
+      let a = holds-above b (v .start) r (v .firsts) j g in
       let m = g .most in
-      record {
-        most = omega arith;
-        fails = λ k q. sym (same k (omega arith)) ∙ g .fails k q;
-        passes = λ q. sym (same j (omega arith)) ∙ g .passes (omega arith);
-      }
-
-  edge-reaches : (p j : ℕ) → Edge (reaches b p) n j → Edge (λ k. reachesRun p (nth (pairs n 52 b) k)) (length (pairs n 52 b)) j
-  edge-reaches p j g = edge-among (reaches b p) (reachesRun p) j (λ k h. ap (leb p) (last-run k h)) g
-
-  edge-holds : (r j : ℕ) → Edge (holds b r) n j → Edge (λ k. holdsRun r (nth (pairs n 52 b) k)) (length (pairs n 52 b)) j
-  edge-holds r j g = edge-among (holds b r) (holdsRun r) j (λ k h. ap₂ (λ (y l : ℕ). leb (r + y) l) (empty-run k h) (last-run k h)) g
-
--- ---- the rank
-
--- kind 1's rule in a run: y is its V, and e and w are L + 1 and V before it
-pub record Ruled (b : List ℕ) (v : View) (p e w y : ℕ) : Type 0 where
-  pub none : p + w < e + y → empty ≡ rankIn (emptyOf b) (wordsOf b) p
-  pub low : e + y ≤ p + w → y ≤ p
-  pub words : e + y ≤ p + w → p - y < v .words
-  pub some : e + y ≤ p + w → given (p - y) ≡ rankIn (emptyOf b) (wordsOf b) p
-
-module _ (b : List ℕ) (v : View) (p : ℕ) (f : Filed b v) where
-  pub rank-beyond : v .cells ≤ p → refused 8 ≡ rankIn (emptyOf b) (wordsOf b) p
-  unfolding rankIn
-  rank-beyond h = let z = f .size in rw (le-ltb p (length (wordsOf b)) (omega arith))
-
-  module _ (h : p < v .cells) (j : ℕ) (g : Edge (reaches b p) (v .firsts) j) where
-    rank-along : rankIn (emptyOf b) (wordsOf b) p ≡ walk (reachesRun p) (ruleRank p) empty 0 0 (runsOf b v)
-    unfolding runRank
-    rank-along =
-        let z = f .size in
-        kind-1-rank (emptyOf b) p (wordsOf b) (omega arith) ∙ rw (f .again) (rank-walk p 0 0 (runsOf b v))
-
-    pub rank-none : v .firsts ≤ j → empty ≡ rankIn (emptyOf b) (wordsOf b) p
-    rank-none k =
-        let e = length-pairs (v .firsts) 52 b in
-        sym
-        (rank-along
-        ∙ walk-past (reachesRun p) (reaches-mono p) (ruleRank p) empty 0 0 (runsOf b v) j (f .order) (edge-reaches b (v .firsts) (f .long) p j g) (omega arith))
-
-    module _ (k : j < v .firsts) {e w y : ℕ} (qe : e ≡ endBefore b j) (qw : w ≡ emptyBefore b j) (qy : y ≡ emptyAt b j) where
-      in-run : Ordered e w (lastAt b j) y (lastEnd 0 (runsOf b v)) (lastEmpty 0 (runsOf b v))
-      in-run =
-          let n = length-pairs (v .firsts) 52 b in
-          let l = last-run b (v .firsts) (f .long) j k in
-          rw (qe, qw, qy, end-run b (v .firsts) (f .long) j k, before-run b (v .firsts) (f .long) j k, l, empty-run b (v .firsts) (f .long) j k)
-          (ordered-at 0 0 (runsOf b v) j (f .order) (omega arith) (omega arith))
-
-      rank-rule : rankIn (emptyOf b) (wordsOf b) p ≡ pick (leb (e + (y - w)) p) (given (p - y)) empty
-      rank-rule =
-          let n = length-pairs (v .firsts) 52 b in
-          rw (qe, qw, qy, end-run b (v .firsts) (f .long) j k, before-run b (v .firsts) (f .long) j k, empty-run b (v .firsts) (f .long) j k)
-          (rank-along
-          ∙ walk-at (reachesRun p) (reaches-mono p) (ruleRank p) empty 0 0 (runsOf b v) j (f .order) (edge-reaches b (v .firsts) (f .long) p j g) (omega arith))
-
-      pub ruled : Ruled b v p e w y
-      ruled =
-          let o = in-run in
-          let l = leb-true p (lastAt b j) (g .passes k) in
-          let z = f .words in
-          record {
-            none = λ t. sym (rank-rule ∙ rw (lt-leb (e + (y - w)) p (omega arith)));
-            low = λ t. omega arith;
-            words = λ t. omega arith;
-            some = λ t. sym (rank-rule ∙ rw (le-leb (e + (y - w)) p (omega arith)));
-          }
-
--- ---- the position
-
-module _ (b : List ℕ) (v : View) (r : ℕ) (f : Filed b v) where
-  pub position-beyond : v .words ≤ r → refused 8 ≡ positionIn (emptyOf b) (wordsOf b) r
-  unfolding positionIn
-  position-beyond h = let z = f .count in rw (le-ltb r (length (stored (emptyOf b) (wordsOf b))) (omega arith))
-
-  module _ (j : ℕ) (g : Edge (holds b r) (v .firsts) j) where
-    position-along : positionIn (emptyOf b) (wordsOf b) r ≡ walk (holdsRun r) (rulePosition r) (refused 8) 0 0 (runsOf b v)
-    position-along = kind-1-position (emptyOf b) r (wordsOf b) ∙ rw (f .again) (position-walk r 0 0 (runsOf b v))
-
-    pub position-none : v .firsts ≤ j → refused 8 ≡ positionIn (emptyOf b) (wordsOf b) r
-    position-none k =
-        let e = length-pairs (v .firsts) 52 b in
-        sym
-        (position-along
-        ∙ walk-past (holdsRun r) (holds-mono r) (rulePosition r) (refused 8) 0 0 (runsOf b v) j (f .order) (edge-holds b (v .firsts) (f .long) r j g) (omega arith))
-
-    module _ (k : j < v .firsts) {y : ℕ} (qy : y ≡ emptyAt b j) where
-      pub position-given : given (r + y) ≡ positionIn (emptyOf b) (wordsOf b) r
-      position-given =
-          let e = length-pairs (v .firsts) 52 b in
-          rw (qy, empty-run b (v .firsts) (f .long) j k)
-          (sym
-          (position-along
-          ∙ walk-at (holdsRun r) (holds-mono r) (rulePosition r) (refused 8) 0 0 (runsOf b v) j (f .order) (edge-holds b (v .firsts) (f .long) r j g) (omega arith)))
-
-      pub position-cells : r + y < v .cells
-      position-cells =
-          let n = length-pairs (v .firsts) 52 b in
-          let t = leb-true (r + emptyAt b j) (lastAt b j) (g .passes k) in
-          let o = ordered-at 0 0 (runsOf b v) j (f .order) (omega arith) (omega arith) .cells in
-          let l = last-run b (v .firsts) (f .long) j k in
-          let z = f .cells in
-          omega arith
+      let n = h .size in
+      cases (ltb j (v .firsts))
+      (λ t.
+      let u = ltb-true j (v .firsts) t in
+      sym (at-rank j r u a (leb-true (r + emptyAt b (v .start) j) (lastAt b (v .start) j) (g .passes u))))
+      (λ t.
+      let u = ltb-false j (v .firsts) t in
+      let e : ranksBefore b (v .start) j ≡ length ls = ap (ranksBefore b (v .start)) (omega arith) ∙ ranks in
+      absurd (omega arith))

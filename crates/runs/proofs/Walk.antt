@@ -1,171 +1,95 @@
--- Kind 1's two lookups along runs in order, found by an edge of a test. Over any list of runs. Assumes nothing.
-use Prim.Native.Nat.{ℕ, zero, suc, _+_, _-_, _≤_, _<_}
-use mathlib.Core.Path.{_≡_, refl, ap}
-use mathlib.Core.Bool.{Bool, false}
+-- The cursor's walk: each step keeps what stands ahead of it, so that it stands at the stored positions. Assumes nothing.
+use Prim.Native.Nat.{ℕ, suc, _+_, _-_, _*_, _^_, _≤_, _<_}
+use mathlib.Core.Path.{_≡_, refl, _∙_, subst, subst₂}
 use mathlib.Core.List.{List, [], _∷_}
-use native.Mathlib.Nat.{le-refl}
 use native.Mathlib.Omega.{arith}
-use lib.ListN.{length, getD}
-use lib.Dec.{leb, ltb}
-use borrow.Author.Tests.{leb-true, leb-false, lt-leb, lt-ltb, le-ltb}
-use Rattle.format.specs.Tools.{pick}
-use Rattle.format.specs.Answers.{Answer, empty, given, refused}
-use Rattle.format.specs.Runs.{Run, runRankFrom, runPosition}
+use lib.ListN.{length}
+use lib.Dec.{ltb}
+use borrow.Author.Tests.{ltb-true, ltb-false, lt-ltb}
+use Rattle.format.specs.declared.View.{View}
+use Rattle.format.specs.Runs.{Run, runs, spansFrom, spans, flatRuns, runsKind}
 use Rattle.laws.proofs.Tools.{cases}
-use Rattle.laws.proofs.Ranks.{InOrder}
-use Rattle.laws.proofs.RunsBack.{lastEnd, lastEmpty}
-use Rattle.runs.specs.Edge.{Edge}
+use Rattle.laws.proofs.Ranks.{InOrder, in-order}
+use Rattle.wire.specs.Wire.{pairAt}
+use Rattle.parts.specs.declared.Cursor.{Cursor}
+use Rattle.parts.specs.Cursor.{add32, alongRun, before, walkedAs}
+use Rattle.parts.specs.Holds.{Holds}
+use Rattle.parts.proofs.Steps.{add32-small, upper, walks}
+use Rattle.parts.proofs.Entries.{Entries, first-pair, rest-pairs}
+use Rattle.parts.proofs.RunWalk.{Fit, Along, along-run, none-left, enter-run, all-fit, all-along}
+use Rattle.runs.specs.Steps.{entered, next}
+use Rattle.runs.proofs.Body.{held}
 
-abbrev pub noRun : Run
-noRun = record { last = 0; empty = 0 }
+pub rank-next : (b : List ℕ) (v : View) (c : Cursor) → next b v c .rank ≡ add32 (c .rank) 1
+unfolding next alongRun entered
+rank-next b v c = cases (ltb (c .at) (c .last)) (λ t. rw t) (λ t. rw t)
 
--- run j of a list
-abbrev pub nth : List Run → ℕ → Run
-nth rs j = getD rs j noRun
+-- along a run
+pub next-along : (b : List ℕ) (v : View) (c : Cursor) → c .at < c .last → next b v c ≡ alongRun c
+unfolding next
+next-along b v c h = rw (lt-ltb (c .at) (c .last) h)
 
--- L + 1 and V before run j; e and v before the list
-unfoldable pub endsAt : ℕ → List Run → ℕ → ℕ
-endsAt e rs zero = e
-endsAt e rs (suc j) = suc (nth rs j .last)
+-- the runs rs stand ahead of the cursor, after e cells of which v are empty
+record Ahead (b : List ℕ) (w : View) (B : ℕ) (c : Cursor) (ls : List ℕ) : Type 0 where
+  e : ℕ
+  v : ℕ
+  rs : List Run
+  order : InOrder e v rs
+  fit : Fit B e (spansFrom e v rs)
+  along : Along B c e v (spansFrom e v rs) ls
+  entries : Entries b 4 (w .start) (2 * c .next) (flatRuns rs)
 
-unfoldable pub emptiesAt : ℕ → List Run → ℕ → ℕ
-emptiesAt v rs zero = v
-emptiesAt v rs (suc j) = nth rs j .empty
+module _ (b : List ℕ) (w : View) (B : ℕ) (small : B < 2 ^ 32) (c : Cursor) (p : ℕ) (ls : List ℕ) where
+  -- the next run
+  enters : (e v : ℕ) (rs : List Run) → c .last ≤ c .at → InOrder e v rs → Fit B e (spansFrom e v rs) → Along B c e v (spansFrom e v rs) (p ∷ ls)
+      → Entries b 4 (w .start) (2 * c .next) (flatRuns rs) → (entered b w c .at ≡ p) × Ahead b w B (entered b w c) ls
+  unfolding entered spansFrom flatRuns
+  enters e v [] h o f a es = absurd (none-left B small c e v p ls h a)
+  enters e v (x ∷ xs) h o f a es =
+      let o0 = o .0 in
+      let o1 = o .1 in
+      let f1 = f .1 in
+      let l = a .next-low in
+      let n : upper c + v ≡ e = let n = a .run in omega arith in
+      let t : pairAt (w .start + 8 * c .next) b ≡ record { first = x .last; second = x .empty }
+      = first-pair b (w .start) (c .next) (x .last) (x .empty) (flatRuns xs) es in
+      let m : add32 (c .next) 1 ≡ suc (c .next) = add32-small (c .next) 1 (omega arith) ∙ omega arith in
+      let q : add32 (upper c) (x .empty) ≡ e + (x .empty - v) = add32-small (upper c) (x .empty) (omega arith) ∙ omega arith in
+      let g : e + (suc (x .last) - e) ≡ suc (x .last) = omega arith in
+      let u : v + (x .empty - v) ≡ x .empty = omega arith in
+      let y = enter-run B small c e v _ _ p ls h f a (entered b w c) refl (rw t q) (rw t (omega arith)) m in (
+        y .0,
+        record {
+          e = suc (x .last);
+          v = x .empty;
+          rs = xs;
+          order = o .2;
+          fit = subst (λ (i : ℕ). Fit B i (spansFrom (suc (x .last)) (x .empty) xs)) g (f .2);
+          along = subst₂ (λ (i j : ℕ). Along B (entered b w c) i j (spansFrom (suc (x .last)) (x .empty) xs) ls) g u (y .1);
+          entries = rw m (rest-pairs b (w .start) (c .next) (x .last) (x .empty) (flatRuns xs) es);
+        },
+      )
 
-ends-shift : (e : ℕ) (x : Run) (xs : List Run) (j : ℕ) → endsAt (suc (x .last)) xs j ≡ endsAt e (x ∷ xs) (suc j)
-unfolding endsAt
-ends-shift e x xs zero = refl
-ends-shift e x xs (suc j) = refl
+  turn : Ahead b w B c (p ∷ ls) → (next b w c .at ≡ p) × Ahead b w B (next b w c) ls
+  unfolding next
+  turn a =
+      cases (ltb (c .at) (c .last))
+      (λ t.
+      let y = along-run B small c (a .e) (a .v) (spansFrom (a .e) (a .v) (a .rs)) p ls (ltb-true (c .at) (c .last) t) (a .along) in
+      rw t (y .0, record { e = a .e; v = a .v; rs = a .rs; order = a .order; fit = a .fit; along = y .1; entries = unfold alongRun in a .entries }))
+      (λ t. rw t (enters (a .e) (a .v) (a .rs) (ltb-false (c .at) (c .last) t) (a .order) (a .fit) (a .along) (a .entries)))
 
-empties-shift : (v : ℕ) (x : Run) (xs : List Run) (j : ℕ) → emptiesAt (x .empty) xs j ≡ emptiesAt v (x ∷ xs) (suc j)
-unfolding emptiesAt
-empties-shift v x xs zero = refl
-empties-shift v x xs (suc j) = refl
-
--- ---- what order says of run j
-
--- l and y are the pair of run j, e and v what comes before it, m and n what the list ends with
-pub record Ordered (e v l y m n : ℕ) : Type 0 where
-  pub rest : v ≤ e
-  pub grows : v ≤ y
-  pub stored : e + (y - v) ≤ l
-  pub cells : l < m
-  pub words : suc l + n ≤ m + y
-
-past : (e v : ℕ) (rs : List Run) → InOrder e v rs → (e ≤ lastEnd e rs) × (e + lastEmpty v rs ≤ lastEnd e rs + v)
-past e v [] o = (le-refl e, le-refl (e + v))
-past e v (x ∷ xs) o =
-    let o0 = o .0 in
-    let o1 = o .1 in
-    let i = past (suc (x .last)) (x .empty) xs (o .2) in
-    let i0 = i .0 in
-    let i1 = i .1 in
-    (omega arith, omega arith)
-
-pub ordered-at : (e v : ℕ) (rs : List Run) (j : ℕ) → InOrder e v rs → v ≤ e → j < length rs
-    → Ordered (endsAt e rs j) (emptiesAt v rs j) (nth rs j .last) (nth rs j .empty) (lastEnd e rs) (lastEmpty v rs)
-ordered-at e v [] j o g h = absurd (omega arith)
-ordered-at e v (x ∷ xs) zero o g h =
-    let i = past (suc (x .last)) (x .empty) xs (o .2) in
-    unfold endsAt emptiesAt in record { rest = g; grows = o .0; stored = o .1; cells = i .0; words = i .1 }
-ordered-at e v (x ∷ xs) (suc j) o g h =
-    let o0 = o .0 in
-    let o1 = o .1 in
-    rw (← ends-shift e x xs j, ← empties-shift v x xs j) (ordered-at (suc (x .last)) (x .empty) xs j (o .2) (omega arith) (omega arith))
-
--- ---- the walk to the first run that passes a test
-
-unfoldable pub walk : (Run → Bool) → (ℕ → ℕ → Run → Answer) → Answer → ℕ → ℕ → List Run → Answer
-walk t hit miss e v [] = miss
-walk t hit miss e v (x ∷ xs) =
-    let later = walk t hit miss (suc (x .last)) (x .empty) xs in
-    pick (t x) (hit e v x) later
-
--- x stands before y: it ends before, and has fewer stored cells up to there
-pub record Before (x y : Run) : Type 0 where
-  pub last : x .last < y .last
-  pub stored : x .last + y .empty < y .last + x .empty
-
-later-than : (e v : ℕ) (rs : List Run) (k : ℕ) → InOrder e v rs → k < length rs → (e ≤ nth rs k .last) × (e + nth rs k .empty ≤ nth rs k .last + v)
-later-than e v [] k o h = absurd (omega arith)
-later-than e v (x ∷ xs) zero o h = let o0 = o .0 in let o1 = o .1 in (omega arith, omega arith)
-later-than e v (x ∷ xs) (suc k) o h =
-    let o0 = o .0 in
-    let o1 = o .1 in
-    let i = later-than (suc (x .last)) (x .empty) xs k (o .2) (omega arith) in
-    let i0 = i .0 in
-    let i1 = i .1 in
-    (omega arith, omega arith)
-
--- a test that fails for each run before one for which it fails
-module _ (t : Run → Bool) (mono : (x y : Run) → Before x y → t y ≡ false → t x ≡ false) where
-  head-fails : (e v : ℕ) (x : Run) (xs : List Run) (j : ℕ) → InOrder e v (x ∷ xs) → j ≤ length xs → t (nth (x ∷ xs) j) ≡ false → t x ≡ false
-  head-fails e v x xs zero o h f = f
-  head-fails e v x xs (suc j) o h f =
-      let i = later-than (suc (x .last)) (x .empty) xs j (o .2) h in
-      let s = i .1 in
-      mono x (nth xs j) (record { last = i .0; stored = omega arith }) f
-
-  module _ (hit : ℕ → ℕ → Run → Answer) (miss : Answer) where
-    pub walk-at : (e v : ℕ) (rs : List Run) (j : ℕ) → InOrder e v rs → Edge (λ k. t (nth rs k)) (length rs) j → j < length rs
-        → walk t hit miss e v rs ≡ hit (endsAt e rs j) (emptiesAt v rs j) (nth rs j)
-    unfolding walk
-    walk-at e v [] j o g h = absurd (omega arith)
-    walk-at e v (x ∷ xs) zero o g h = rw (g .passes h) (unfold endsAt emptiesAt in refl)
-    walk-at e v (x ∷ xs) (suc j) o g h =
-        let f : t x ≡ false = head-fails e v x xs j o (omega arith) (g .fails j refl) in
-        let k : Edge (λ i. t (nth xs i)) (length xs) j
-        = record { most = omega arith; fails = λ i q. g .fails (suc i) (ap suc q); passes = λ q. g .passes (omega arith) } in
-        rw (f, ← ends-shift e x xs j, ← empties-shift v x xs j) (walk-at (suc (x .last)) (x .empty) xs j (o .2) k (omega arith))
-
-    pub walk-past : (e v : ℕ) (rs : List Run) (j : ℕ) → InOrder e v rs → Edge (λ k. t (nth rs k)) (length rs) j → length rs ≤ j
-        → walk t hit miss e v rs ≡ miss
-    unfolding walk
-    walk-past e v [] j o g h = refl
-    walk-past e v (x ∷ xs) zero o g h = absurd (omega arith)
-    walk-past e v (x ∷ xs) (suc j) o g h =
-        let m = g .most in
-        let f : t x ≡ false = head-fails e v x xs j o (omega arith) (g .fails j refl) in
-        let k : Edge (λ i. t (nth xs i)) (length xs) j
-        = record { most = omega arith; fails = λ i q. g .fails (suc i) (ap suc q); passes = λ q. g .passes (omega arith) } in
-        rw f (walk-past (suc (x .last)) (x .empty) xs j (o .2) k (omega arith))
-
--- ---- the two lookups are such walks
-
-abbrev pub reachesRun : ℕ → Run → Bool
-reachesRun p x = leb p (x .last)
-
-abbrev pub holdsRun : ℕ → Run → Bool
-holdsRun r x = leb (r + x .empty) (x .last)
-
-pub reaches-mono : (p : ℕ) (x y : Run) → Before x y → reachesRun p y ≡ false → reachesRun p x ≡ false
-reaches-mono p x y o f = let h = leb-false p (y .last) f in let k = o .last in lt-leb p (x .last) (omega arith)
-
-pub holds-mono : (r : ℕ) (x y : Run) → Before x y → holdsRun r y ≡ false → holdsRun r x ≡ false
-holds-mono r x y o f =
-    let h = leb-false (r + y .empty) (y .last) f in
-    let k = o .stored in
-    lt-leb (r + x .empty) (x .last) (omega arith)
-
--- kind 1's rule in one run
-abbrev pub ruleRank : ℕ → ℕ → ℕ → Run → Answer
-ruleRank p e v x = pick (leb (e + (x .empty - v)) p) (given (p - x .empty)) empty
-
-abbrev pub rulePosition : ℕ → ℕ → ℕ → Run → Answer
-rulePosition r e v x = given (r + x .empty)
-
-pub rank-walk : (p e v : ℕ) (rs : List Run) → runRankFrom e v p rs ≡ walk (reachesRun p) (ruleRank p) empty e v rs
-unfolding runRankFrom walk
-rank-walk p e v [] = refl
-rank-walk p e v (x ∷ xs) = rw (rank-walk p (suc (x .last)) (x .empty) xs)
-
-same-test : (r : ℕ) (x : Run) → ltb r (suc (x .last) - x .empty) ≡ leb (r + x .empty) (x .last)
-same-test r x =
-    cases (leb (r + x .empty) (x .last))
-    (λ e. let h = leb-true (r + x .empty) (x .last) e in rw (e, lt-ltb r (suc (x .last) - x .empty) (omega arith)))
-    (λ e. let h = leb-false (r + x .empty) (x .last) e in rw (e, le-ltb r (suc (x .last) - x .empty) (omega arith)))
-
-pub position-walk : (r e v : ℕ) (rs : List Run) → runPosition rs r ≡ walk (holdsRun r) (rulePosition r) (refused 8) e v rs
-unfolding runPosition walk
-position-walk r e v [] = refl
-position-walk r e v (x ∷ xs) = rw (position-walk r (suc (x .last)) (x .empty) xs, same-test r x)
+pub walk : (b : List ℕ) (v : View) (ls : List ℕ) → Holds (runsKind (v .width) (v .step)) b v ls → walkedAs (next b v) (next b v before) (length ls) ≡ ls
+unfolding spans
+walk b v ls h =
+    let m = h .counted .cells-most in
+    walks (next b v) (Ahead b v (v .cells)) (turn b v (v .cells) (omega arith)) ls before
+    (record {
+      e = 0;
+      v = 0;
+      rs = runs ls;
+      order = in-order 0 (v .cells) ls (h .rising);
+      fit = all-fit (v .cells) ls (h .rising);
+      along = all-along (v .cells) ls (h .rising);
+      entries = held b v ls h;
+    })

@@ -1,1 +1,3 @@
 pub mod Edge
+pub mod Steps
+pub mod Coding

@@ -2,16 +2,16 @@
 use format::View;
 use wire::get_u32;
 ghost use mathlib.Core.Path.{_≡_};
-ghost use Rattle.header.specs.Body.{partsRight};
-ghost use Rattle.header.specs.Search.{HeaderView};
+ghost use Rattle.format.specs.Runs.{runsKind};
+ghost use Rattle.parts.specs.Holds.{Counted, partsRight};
 
 // The parts are those of rising positions below cells, as many as the words.
 // `end` is the L before + 1, `empty` the V before, `least` the least V that the next run may have.
 pub fn parts_right(file: &[u8], v: View) -> bool
-    requires { ⌜ HeaderView 1 (now file) v ⌝ }
-    ensures { λ r. ⌜ r ≡ partsRight (now (file .entry)) ⌝ }
+    requires { ⌜ Counted (runsKind (v .width) (v .step)) (now file) v ⌝ }
+    ensures { λ r. ⌜ r ≡ partsRight (runsKind (v .width) (v .step)) (now (file .entry)) v ⌝ }
 {
-    let mut at: usize = 52;
+    let mut at = v.start as usize;
     let mut left = v.firsts;
     let mut end: u64 = 0;
     let mut empty: u64 = 0;

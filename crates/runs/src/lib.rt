@@ -1,3 +1,6 @@
-// Kind 1, runs (document 01, "The file"): the check of the parts, and the two searches.
+// Kind 1, runs (document 01, "The file"): the rule of its setting, the check of the parts, the searches, the walk, and the encoder.
 pub mod check;
+pub mod coding;
 pub mod search;
+pub mod setting;
+pub mod steps;

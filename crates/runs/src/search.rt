@@ -1,53 +1,49 @@
 // The searches of kind 1, by halves over the pairs. Any bytes and any view are safe.
 use format::Position;
-use format::PositionAnswer;
 use format::Rank;
-use format::RankAnswer;
 use format::View;
-use wire::load_u32;
+use parts::Found;
+use wire::Pair;
+use wire::load_pair;
 ghost use mathlib.Core.Path.{_≡_};
-ghost use Prim.Native.Nat.{_<_, _≤_, _^_};
-ghost use Rattle.format.specs.Answers.{rankSays, positionSays};
-ghost use Rattle.header.specs.Search.{KindRankSearched, KindPositionSearched};
-ghost use Rattle.runs.specs.Edge.{lastAt, emptyAt, endBefore, emptyBefore, reaches, holds, Edge};
+ghost use Prim.Native.Nat.{_+_, _*_, _<_};
+ghost use Rattle.format.specs.Runs.{runsKind};
+ghost use Rattle.wire.specs.Wire.{pairAt};
+ghost use Rattle.parts.specs.Found.{FoundIn, PositionIn};
+ghost use Rattle.runs.specs.Edge.{ranksBefore, reaches, holds, Edge};
 
-// L_j.
-fn last_at(file: &[u8], j: u32) -> u64
-    ensures { λ r. ⌜ (r ≡ lastAt (now (file .entry)) j) × (r < 2 ^ 32) ⌝ }
+// Run j: L_j and V_j.
+fn run(file: &[u8], start: u32, j: u32) -> Pair
+    ensures { λ r. ⌜ r ≡ pairAt (start + 8 * j) (now (file .entry)) ⌝ }
 {
-    load_u32(file, 52 + 8 * (j as usize)) as u64
+    load_pair(file, start as usize + 8 * j as usize)
 }
 
-// V_j.
-fn empty_at(file: &[u8], j: u32) -> u64
-    ensures { λ r. ⌜ (r ≡ emptyAt (now (file .entry)) j) × (r < 2 ^ 32) ⌝ }
+// The stored cells before run j: L_(j-1) + 1 - V_(j-1).
+fn ranks_before(file: &[u8], start: u32, j: u32) -> u64
+    ensures { λ r. ⌜ r ≡ ranksBefore (now (file .entry)) start j ⌝ }
 {
-    load_u32(file, 56 + 8 * (j as usize)) as u64
-}
-
-// L_(j-1) + 1.
-fn end_before(file: &[u8], j: u32) -> u64
-    ensures { λ r. ⌜ (r ≡ endBefore (now (file .entry)) j) × (r ≤ 2 ^ 32) ⌝ }
-{
-    if j == 0 { 0 } else { last_at(file, j - 1) + 1 }
-}
-
-// V_(j-1).
-fn empty_before(file: &[u8], j: u32) -> u64
-    ensures { λ r. ⌜ (r ≡ emptyBefore (now (file .entry)) j) × (r < 2 ^ 32) ⌝ }
-{
-    if j == 0 { 0 } else { empty_at(file, j - 1) }
+    if j == 0 {
+        return 0;
+    }
+    let before = run(file, start, j - 1);
+    let end = before.first as u64 + 1;
+    let empty = before.second as u64;
+    if end < empty {
+        return 0;
+    }
+    end - empty
 }
 
 // The first of n runs that ends at position p or later.
-fn run_at(file: &[u8], n: u32, p: u32) -> u32
-    ensures { λ r. ⌜ Edge (reaches (now (file .entry)) p) n r ⌝ }
+fn run_at(file: &[u8], start: u32, n: u32, p: u32) -> u32
+    ensures { λ r. ⌜ Edge (reaches (now (file .entry)) start p) n r ⌝ }
 {
     let mut low = 0;
     let mut high = n;
     while low < high {
         let mid = low + (high - low) / 2;
-        if p as u64 <= last_at(file, mid) {
+        if p <= run(file, start, mid).first {
             high = mid;
         } else {
             low = mid + 1;
@@ -57,14 +53,15 @@ fn run_at(file: &[u8], n: u32, p: u32) -> u32
 }
 
 // The first of n runs with rank r or a later one.
-fn run_with(file: &[u8], n: u32, r: u32) -> u32
-    ensures { λ j. ⌜ Edge (holds (now (file .entry)) r) n j ⌝ }
+fn run_with(file: &[u8], start: u32, n: u32, r: u32) -> u32
+    ensures { λ j. ⌜ Edge (holds (now (file .entry)) start r) n j ⌝ }
 {
     let mut low = 0;
     let mut high = n;
     while low < high {
         let mid = low + (high - low) / 2;
-        if r as u64 + empty_at(file, mid) <= last_at(file, mid) {
+        let x = run(file, start, mid);
+        if r as u64 + x.second as u64 <= x.first as u64 {
             high = mid;
         } else {
             low = mid + 1;
@@ -73,48 +70,40 @@ fn run_with(file: &[u8], n: u32, r: u32) -> u32
     low
 }
 
-// The rank at a position, or "empty".
-pub fn rank_at(file: &[u8], v: View, p: Position) -> RankAnswer
-    ensures { λ r. ⌜ KindRankSearched 1 (now (file .entry)) v (p .0) (rankSays r) ⌝ }
+// Where position p stands among the stored ones. In run j the cell is stored from the position on that its first rank has.
+pub fn find(file: &[u8], v: View, p: Position) -> Found
+    requires { ⌜ p .0 < v .cells ⌝ }
+    ensures { λ r. ⌜ FoundIn (runsKind (v .width) (v .step)) (now (file .entry)) v (p .0) r ⌝ }
 {
-    let at = p.0;
-    if v.cells <= at {
-        return RankAnswer::Refused(8);
-    }
-    let j = run_at(file, v.firsts, at);
+    let place = p.0;
+    let j = run_at(file, v.start, v.firsts, place);
     if v.firsts <= j {
-        return RankAnswer::Empty;
+        return Found {
+            below: v.words,
+            here: false,
+        };
     }
-    let place = at as u64;
-    let empty = empty_at(file, j);
-    if place + empty_before(file, j) < end_before(file, j) + empty {
-        return RankAnswer::Empty;
+    let first = ranks_before(file, v.start, j);
+    let empty = run(file, v.start, j).second;
+    if (place as u64) < first + empty as u64 {
+        return Found {
+            below: first as u32,
+            here: false,
+        };
     }
-    if place < empty {
-        return RankAnswer::Empty;
+    let rank = place - empty;
+    Found {
+        below: rank,
+        here: rank < v.words,
     }
-    let r = place - empty;
-    if v.words as u64 <= r {
-        return RankAnswer::Empty;
-    }
-    RankAnswer::Rank(Rank(r as u32))
 }
 
-// The position of a rank.
-pub fn position_of(file: &[u8], v: View, r: Rank) -> PositionAnswer
-    ensures { λ a. ⌜ KindPositionSearched 1 (now (file .entry)) v (r .0) (positionSays a) ⌝ }
+// The position of rank r; any number over unfit bytes.
+pub fn position_of(file: &[u8], v: View, r: Rank) -> u64
+    requires { ⌜ r .0 < v .words ⌝ }
+    ensures { λ q. ⌜ PositionIn (runsKind (v .width) (v .step)) (now (file .entry)) v (r .0) q ⌝ }
 {
     let rank = r.0;
-    if v.words <= rank {
-        return PositionAnswer::Refused(8);
-    }
-    let j = run_with(file, v.firsts, rank);
-    if v.firsts <= j {
-        return PositionAnswer::Refused(8);
-    }
-    let p = rank as u64 + empty_at(file, j);
-    if v.cells as u64 <= p {
-        return PositionAnswer::Refused(8);
-    }
-    PositionAnswer::Position(Position(p as u32))
+    let j = run_with(file, v.start, v.firsts, rank);
+    rank as u64 + run(file, v.start, j).second as u64
 }

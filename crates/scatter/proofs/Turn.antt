@@ -12,15 +12,10 @@ use Rattle.format.specs.Tools.{Below, first, others}
 use Rattle.format.specs.Bytes.{field}
 use Rattle.format.specs.Picture.{cells}
 use Rattle.format.specs.Accepted.{dimensionsOf, emptyOf, wordsCount, wordsAt, positionsOf, keptOf, wordsOf}
-use Rattle.format.specs.Opened.{viewOf}
 use Rattle.laws.proofs.Numbers.{numbers-at}
 use Rattle.laws.proofs.Stored.{Rising}
-use Rattle.laws.proofs.Check.{length-numbersOf}
-use Rattle.laws.proofs.Acceptance.{accepted}
-use Rattle.header.specs.View.{wordsPlace}
-use Rattle.header.specs.Search.{ViewOf}
-use Rattle.header.proofs.Frame.{Framed, framed}
-use Rattle.header.proofs.Body.{accepted-parts}
+use Rattle.parts.specs.Holds.{ViewOf}
+use Rattle.parts.proofs.Seen.{Seen, seen}
 use Rattle.scatter.specs.Scatter.{scattered}
 use Rattle.scatter.proofs.Scattered.{scatter-placed}
 use Rattle.scatter.proofs.Blank.{blank, blank-scattered, Cut, cut}
@@ -53,46 +48,30 @@ below-at B (x ∷ xs) (suc i) k h = below-at B xs i (omega arith) (h .1)
 
 -- ---- of the view v of an accepted file b
 module _ (b : List ℕ) (v : View) (o : ViewOf b v) where
-  frame : Framed b
-  frame = framed b (accepted b (o .accepted) .header)
+  known : Seen b v
+  known = seen b v o
 
-  pub words-seen : v .words ≡ wordsCount b
-  unfolding viewOf
-  words-seen = ap (λ (x : View). x .words) (o .view)
+  as-long : length (positionsOf b) ≡ v .words
+  as-long = known .holds .size
 
-  pub cells-seen : v .cells ≡ viewOf b .cells
-  cells-seen = ap (λ (x : View). x .cells) (o .view)
-
-  pub as-long : length (positionsOf b) ≡ wordsCount b
-  as-long = accepted-parts b (o .accepted) .size
-
-  pub size-seen : length b ≡ wordsPlace v + 4 * wordsCount b
-  size-seen = frame .size ∙ rw (o .view)
-
-  pub word-seen : (r : ℕ) → r < wordsCount b → field 4 (wordsPlace v + 4 * r) b ≡ getD (keptOf b) r 0
+  pub word-seen : (r : ℕ) → r < v .words → field 4 (v .place + 4 * r) b ≡ getD (keptOf b) r 0
   unfolding keptOf
-  word-seen r h =
-      let w : wordsPlace v ≡ wordsAt b = ap wordsPlace (o .view) ∙ sym (frame .words-at) in
-      rw w (sym (numbers-at 4 (wordsCount b) (wordsAt b) r b h))
-
-  kept-long : length (keptOf b) ≡ wordsCount b
-  unfolding keptOf
-  kept-long = length-numbersOf 4 (wordsCount b) (drop (wordsAt b) b)
+  word-seen r h = rw (known .header .place) (sym (numbers-at 4 (wordsCount b) (wordsAt b) r b (rw (known .words) at h)))
 
   -- the word of rank r + i, in a batch of n from rank r on
-  pub word-there : (r n i : ℕ) → r + n ≤ v .words → i < n → wordsPlace v + 4 * r + 4 * i + 4 ≤ length b
-  word-there r n i h k = omega (arith, words-seen, size-seen)
+  pub word-there : (r n i : ℕ) → r + n ≤ v .words → i < n → v .place + 4 * r + 4 * i + 4 ≤ length b
+  word-there r n i h k = omega (arith, known .header .long)
 
-  pub turned : (d at : List ℕ) (r i x : ℕ) → r + length at ≤ v .words → i < length at → x ≡ field 4 (wordsPlace v + 4 * r + 4 * i) b
+  pub turned : (d at : List ℕ) (r i x : ℕ) → r + length at ≤ v .words → i < length at → x ≡ field 4 (v .place + 4 * r + 4 * i) b
       → scattered (set d (getD at i 0) x) (drop (i + 1) at) (drop (r + (i + 1)) (keptOf b)) ≡ scattered d (drop i at) (drop (r + i) (keptOf b))
   turned d at r i x h k e =
-      let n : r + i < wordsCount b = omega (arith, words-seen) in
-      let p : wordsPlace v + 4 * r + 4 * i ≡ wordsPlace v + 4 * (r + i) = omega arith in
+      let n : r + i < v .words = omega arith in
+      let p : v .place + 4 * r + 4 * i ≡ v .place + 4 * (r + i) = omega arith in
       let q : r + (i + 1) ≡ r + i + 1 = omega arith in
-      rw (e, p, q, word-seen (r + i) n) (sym (scatter-turn d at (keptOf b) i (r + i) k (omega (arith, kept-long))))
+      rw (e, p, q, word-seen (r + i) n) (sym (scatter-turn d at (keptOf b) i (r + i) k (omega (arith, known .kept-size))))
 
   -- a batch of n from rank r on
-  batch-turned : (d : List ℕ) (r n : ℕ) → r + n ≤ wordsCount b
+  batch-turned : (d : List ℕ) (r n : ℕ) → r + n ≤ v .words
       → scattered (scattered d (take n (drop r (positionsOf b))) (drop r (keptOf b))) (drop (r + n) (positionsOf b)) (drop (r + n) (keptOf b))
       ≡ scattered d (drop r (positionsOf b)) (drop r (keptOf b))
   batch-turned d r n h =
@@ -103,10 +82,10 @@ module _ (b : List ℕ) (v : View) (o : ViewOf b v) where
 
   -- at the end
   pub past : (r : ℕ) → v .words ≤ r → length (positionsOf b) ≤ r
-  past r h = omega (arith, words-seen, as-long)
+  past r h = omega (arith, as-long)
 
   -- the same where positions rise from f on: the last of the batch, in a buffer that begins with it
-  pub batch-cut : (f r n : ℕ) (buffer : List ℕ) → 0 < n → r + n ≤ wordsCount b → take n buffer ≡ take n (drop r (positionsOf b))
+  pub batch-cut : (f r n : ℕ) (buffer : List ℕ) → 0 < n → r + n ≤ v .words → take n buffer ≡ take n (drop r (positionsOf b))
       → Rising f (v .cells) (drop r (positionsOf b))
       → Cut f (v .cells) (getD buffer (n - 1) 0) (take n (drop r (positionsOf b))) (drop (r + n) (positionsOf b))
   batch-cut f r n buffer some h front rises =
@@ -119,7 +98,7 @@ module _ (b : List ℕ) (v : View) (o : ViewOf b v) where
       (cut f (v .cells) (n - 1) (take n ls) (drop (r + n) (positionsOf b)) (omega arith) (subst (Rising f (v .cells)) s rises))
 
   -- a destination d that is filled up to f becomes e, filled up to m, and then g by the words of the batch
-  pub expand-turned : (d e g : List ℕ) (f m r n : ℕ) → r + n ≤ wordsCount b → v .cells ≤ length e → m ≤ v .cells
+  pub expand-turned : (d e g : List ℕ) (f m r n : ℕ) → r + n ≤ v .words → v .cells ≤ length e → m ≤ v .cells
       → Below m (take n (drop r (positionsOf b))) → blank (v .empty) (v .cells) m e ≡ blank (v .empty) (v .cells) f d
       → g ≡ scattered e (take n (drop r (positionsOf b))) (drop r (keptOf b))
       → scattered (blank (v .empty) (v .cells) m g) (drop (r + n) (positionsOf b)) (drop (r + n) (keptOf b))
@@ -132,16 +111,10 @@ module _ (b : List ℕ) (v : View) (o : ViewOf b v) where
       ∙ ap (λ (l : List ℕ). scattered l xs vs) same)
       ∙ batch-turned (blank (v .empty) (v .cells) f d) r n h
 
-  pub few : v .words ≤ 16777216
-  few = omega (arith, words-seen, frame .words-most, frame .cells-most)
-
-  pub begin-rising : Rising 0 (v .cells) (positionsOf b)
-  begin-rising = rw (cells-seen, frame .cells) (accepted-parts b (o .accepted) .rising)
-
   -- all scattered over empty cells
   pub all-scattered : (d : List ℕ) → scattered (blank (v .empty) (v .cells) 0 d) (positionsOf b) (keptOf b) ≡ wordsOf b ++ drop (v .cells) d
-  unfolding blank wordsOf viewOf
+  unfolding blank wordsOf
   all-scattered d =
-      let c : v .cells ≡ cells (dimensionsOf b) = cells-seen ∙ frame .cells in
-      let m : v .empty ≡ emptyOf b = ap (λ (x : View). x .empty) (o .view) in
-      rw (m, c, sub-zero) (scatter-placed (emptyOf b) (cells (dimensionsOf b)) (drop (cells (dimensionsOf b)) d) (positionsOf b) (keptOf b) (accepted-parts b (o .accepted) .rising))
+      let c : v .cells ≡ cells (dimensionsOf b) = known .header .cells in
+      rw (known .empty, c, sub-zero)
+      (scatter-placed (emptyOf b) (cells (dimensionsOf b)) (drop (cells (dimensionsOf b)) d) (positionsOf b) (keptOf b) (rw c at (known .holds .rising)))

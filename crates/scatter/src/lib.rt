@@ -1,9 +1,8 @@
 // A file's words into a destination, batch by batch: the cells up to a batch's last position become empty, then each stored word comes to its position.
-use cursor::batch::batch_of;
-use cursor::batch::positions;
-use cursor::start;
 use format::View;
-use header::places::words_at;
+use kinds::steps::positions;
+use kinds::steps::start;
+use parts::walk::batch_of;
 use wire::get_u32;
 ghost use mathlib.Core.Path.{_≡_};
 ghost use mathlib.Core.List.{_++_};
@@ -11,7 +10,7 @@ ghost use Prim.Native.Nat.{_+_, _-_, _*_, _≤_, _<_};
 ghost use lib.ListN.{length, take, drop, replicate};
 ghost use Rattle.format.specs.Tools.{Below};
 ghost use Rattle.format.specs.Accepted.{keptOf, wordsOf};
-ghost use Rattle.header.specs.Search.{ViewOf};
+ghost use Rattle.parts.specs.Holds.{ViewOf};
 ghost use Rattle.scatter.specs.Scatter.{scattered};
 
 // The first n elements become x.
@@ -39,7 +38,7 @@ fn scatter_batch(file: &[u8], v: View, rank: u32, at: &[u32], dst: &mut [u32])
     requires { ⌜ ViewOf (now file) v × (rank + length (now at) ≤ v .words) × Below (length (now dst)) (now at) ⌝ }
     ensures { λ _. ⌜ now (dst .exit) ≡ scattered (now (dst .entry)) (now (at .entry)) (drop rank (keptOf (now (file .entry)))) ⌝ }
 {
-    let words = words_at(v) + 4 * rank as usize;
+    let words = v.place as usize + 4 * rank as usize;
     let mut i: usize = 0;
     while i < at.len() {
         let to = at[i] as usize;

@@ -1,4 +1,4 @@
--- The word of a cell by its rank, and the searches of one kind as those of all. Assumes nothing.
+-- The word of a cell by its rank. Assumes nothing.
 use Prim.Native.Nat.{ℕ, zero, suc, _+_, _*_, _≤_, _<_}
 use mathlib.Core.Path.{_≡_, refl, sym, ap, _∙_}
 use mathlib.Core.Logic.{_⊎_, ⊎-elim}
@@ -25,11 +25,10 @@ use Rattle.laws.proofs.Tools.{cases}
 use Rattle.laws.proofs.Numbers.{numbers-at}
 use Rattle.laws.proofs.Stored.{length-stored}
 use Rattle.laws.proofs.Files.{kept-back, words-count-back}
-use Rattle.laws.proofs.Limits.{small-setting}
-use Rattle.laws.proofs.Acceptance.{accepted, header-right, accepted-has-file}
-use Rattle.header.specs.View.{wordsPlace}
-use Rattle.header.specs.Search.{ViewOf, CellSearched, RankSearched}
-use Rattle.header.proofs.Frame.{framed}
+use Rattle.laws.proofs.Acceptance.{accepted-has-file}
+use Rattle.parts.specs.Holds.{ViewOf}
+use Rattle.parts.proofs.Seen.{seen}
+use Rattle.search.specs.Searched.{CellSearched, RankSearched}
 
 -- the word at the rank of a stored cell is the cell's
 kept-at : (E p : ℕ) (ws : List ℕ) → p < length ws → eqb (getD ws p 0) E ≡ false → getD (kept E ws) (length (kept E (take p ws))) 0 ≡ getD ws p 0
@@ -41,26 +40,20 @@ kept-at E (suc p) (x ∷ ws) h e =
     (λ t. rw t (kept-at E p ws (omega arith) e))
     (λ t. rw t (kept-at E p ws (omega arith) e))
 
--- an accepted file has one of the five kinds
-pub kind-known : (b : List ℕ) (v : View) → ViewOf b v → (1 ≤ v .kind) × (v .kind ≤ 5)
-unfolding viewOf
-kind-known b v o =
-    let s = small-setting (settingOf b) (header-right b (accepted b (o .accepted) .header) .setting) in
-    let k : v .kind ≡ settingOf b .kind = ap (λ (x : View). x .kind) (o .view) in
-    rw k (s .kind-least, s .kind)
-
 -- what a cell is, by the answer of the rank search
 abbrev pub cellBy : List ℕ → View → Answer → Answer
 cellBy b v (refused n) = refused n
 cellBy b v empty = given (v .empty)
-cellBy b v (given r) = given (whole 4 (wordsPlace v + 4 * r) b)
+cellBy b v (given r) = given (whole 4 (v .place + 4 * r) b)
 
-word-at : (b : List ℕ) (v : View) → ViewOf b v → (r : ℕ) → r < wordsCount b → whole 4 (wordsPlace v + 4 * r) b ≡ getD (keptOf b) r 0
+word-at : (b : List ℕ) (v : View) → ViewOf b v → (r : ℕ) → r < wordsCount b → whole 4 (v .place + 4 * r) b ≡ getD (keptOf b) r 0
 unfolding keptOf
 word-at b v o r h =
-    let f = framed b (accepted b (o .accepted) .header) in
-    let w : wordsPlace v ≡ wordsAt b = ap wordsPlace (o .view) ∙ sym (f .words-at) in
-    rw (w, whole-there 4 (wordsAt b + 4 * r) b (omega (arith, f .size, f .words-at))) (sym (numbers-at 4 (wordsCount b) (wordsAt b) r b h))
+    let n = seen b v o in
+    let l = n .header .long in
+    let w = n .words in
+    let p = n .header .place in
+    rw (whole-there 4 (v .place + 4 * r) b (omega arith), p) (sym (numbers-at 4 (wordsCount b) (wordsAt b) r b h))
 
 ranks-below : (E p : ℕ) (ws : List ℕ) → p < length ws → eqb (getD ws p 0) E ≡ false → length (kept E (take p ws)) < length (kept E ws)
 unfolding kept
@@ -103,12 +96,3 @@ pub cell-empty : (b : List ℕ) (v : View) (p : ℕ) (a : RankAnswer) → OneOf 
 cell-empty b v p (ra.Rank r) h k s = absurd (⊎-elim (λ z. omega arith) (λ z. omega arith) h)
 cell-empty b v p ra.Empty h k s = cell-searched b v p empty s
 cell-empty b v p (ra.Refused n) h k s = absurd (⊎-elim (λ z. omega arith) (λ z. omega arith) k)
-
-pub no-kind : (k : ℕ) → (1 ≤ k) × (k ≤ 5) → (k ≡ 1 → ⊥) → (k ≡ 2 → ⊥) → (k ≡ 3 → ⊥) → (k ≡ 4 → ⊥) → (k ≡ 5 → ⊥) → ⊥
-no-kind zero h a b c d e = omega arith
-no-kind (suc zero) h a b c d e = a refl
-no-kind (suc (suc zero)) h a b c d e = b refl
-no-kind (suc (suc (suc zero))) h a b c d e = c refl
-no-kind (suc (suc (suc (suc zero)))) h a b c d e = d refl
-no-kind (suc (suc (suc (suc (suc zero))))) h a b c d e = e refl
-no-kind (suc (suc (suc (suc (suc (suc k)))))) h a b c d e = omega arith

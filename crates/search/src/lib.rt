@@ -1,59 +1,64 @@
-// The lookups over a view of a file, by the search of its kind. `rank_in`, `position_in` and `cell_in` are safe on any bytes and any view.
+// The lookups over a view of a file: here a place that a search found becomes an answer. `rank_in`, `position_in` and `cell_in` are safe on any bytes and
+// any view.
 use format::CellAnswer;
 use format::Position;
 use format::PositionAnswer;
 use format::Rank;
 use format::RankAnswer;
 use format::View;
-use header::places::words_at;
+use format::signals::BEYOND;
+use kinds::search::find;
+use kinds::search::position_of;
+use parts::Found;
 use wire::load_u32;
 ghost use mathlib.Core.Path.{_≡_};
-ghost use Prim.Native.Nat.{_+_, _*_, _<_};
+ghost use Prim.Native.Nat.{_<_};
 ghost use lib.ListN.{getD};
 ghost use Rattle.format.specs.Answers.{cellSays, rankSays, positionSays};
 ghost use Rattle.format.specs.Accepted.{positionsOf};
-ghost use Rattle.header.specs.Search.{ViewOf, CellSearched, RankSearched, PositionSearched};
+ghost use Rattle.parts.specs.Holds.{ViewOf};
+ghost use Rattle.search.specs.Searched.{rankFrom, CellSearched, RankSearched, PositionSearched};
+
+// A place as an answer: a rank, or "empty".
+pub fn rank_answer(found: Found) -> RankAnswer
+    ensures { λ r. ⌜ rankSays r ≡ rankFrom found ⌝ }
+{
+    if found.here {
+        return RankAnswer::Rank(Rank(found.below));
+    }
+    RankAnswer::Empty
+}
 
 // The rank at a position, or empty.
 pub fn rank_in(file: &[u8], v: View, p: Position) -> RankAnswer
     ensures { λ r. ⌜ RankSearched (now (file .entry)) v (p .0) (rankSays r) ⌝ }
 {
-    let kind = v.kind;
-    match kind {
-        1 => runs::search::rank_at(file, v, p),
-        2 => positions::search::rank_at(file, v, p),
-        3 => base_offset::search::rank_at(file, v, p),
-        4 => jumps::search::rank_at(file, v, p),
-        5 => paged_runs::search::rank_at(file, v, p),
-        _ => RankAnswer::Refused(8),
+    if v.cells <= p.0 {
+        return RankAnswer::Refused(BEYOND);
     }
+    rank_answer(find(file, v, p))
 }
 
 // The position of a rank.
 pub fn position_in(file: &[u8], v: View, r: Rank) -> PositionAnswer
     ensures { λ a. ⌜ PositionSearched (now (file .entry)) v (r .0) (positionSays a) ⌝ }
 {
-    let kind = v.kind;
-    match kind {
-        1 => runs::search::position_of(file, v, r),
-        2 => positions::search::position_of(file, v, r),
-        3 => base_offset::search::position_of(file, v, r),
-        4 => jumps::search::position_of(file, v, r),
-        5 => paged_runs::search::position_of(file, v, r),
-        _ => PositionAnswer::Refused(8),
+    if v.words <= r.0 {
+        return PositionAnswer::Refused(BEYOND);
     }
+    let p = position_of(file, v, r);
+    if v.cells as u64 <= p {
+        return PositionAnswer::Refused(BEYOND);
+    }
+    PositionAnswer::Position(Position(p as u32))
 }
 
 // The position of a rank of an accepted file.
 pub fn stored_position(file: &[u8], v: View, r: Rank) -> Position
     requires { ⌜ ViewOf (now file) v × (r .0 < v .words) ⌝ }
-    ensures { λ p. ⌜ (p .0 ≡ getD (positionsOf (now (file .entry))) (r .0) 0) × (p .0 < 16777216) ⌝ }
+    ensures { λ p. ⌜ (p .0 ≡ getD (positionsOf (now (file .entry))) (r .0) 0) × (p .0 < v .cells) ⌝ }
 {
-    let answer = position_in(file, v, r);
-    let PositionAnswer::Position(p) = answer else {
-        return Position(0);
-    };
-    p
+    Position(position_of(file, v, r) as u32)
 }
 
 // The word at a position.
@@ -67,6 +72,6 @@ pub fn cell_in(file: &[u8], v: View, p: Position) -> CellAnswer
         };
         return CellAnswer::Refused(number);
     };
-    let at = words_at(v) + 4 * rank.0 as usize;
+    let at = v.place as usize + 4 * rank.0 as usize;
     CellAnswer::Word(load_u32(file, at))
 }

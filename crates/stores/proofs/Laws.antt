@@ -1,7 +1,7 @@
 -- Laws of `put`. Assumes nothing.
 use Prim.Native.Nat.{ℕ, zero, suc, _+_, _/_, _%_, _-_, _≤_, _<_}
-use mathlib.Core.Path.{_≡_, refl, ap, _∙_}
-use mathlib.Core.List.{List, [], _∷_, _++_}
+use mathlib.Core.Path.{_≡_, refl, sym, ap, _∙_}
+use mathlib.Core.List.{List, [], _∷_, _++_, append-assoc}
 use native.Mathlib.Nat.{suc-add, add-suc, add-zero, zero-add}
 use native.Mathlib.Numerals.{add-one}
 use native.Mathlib.Omega.{arith}
@@ -9,7 +9,7 @@ use lib.ListN.{length, getD, set, take, drop, length-set, length-append, drop-of
 use lib.Seq.{set-comm, drop-cons, set-out, sets, sets-eq}
 use Rattle.format.specs.Bytes.{bytes, bytesOf}
 use Rattle.laws.proofs.Bytes.{length-bytes}
-use Rattle.stores.specs.Put.{put}
+use Rattle.stores.specs.Put.{put, pair}
 
 -- ---- put
 
@@ -114,3 +114,17 @@ put3-step d f x xs s y ys v z zs h k =
       put-comm (put b (f + length x) xs) (s + length y) ys v z k′,
       put-comm b (f + length x) xs v z (omega arith),
     ))
+
+-- ---- pairs, and entries in a row
+
+pub length-pair : (a v : ℕ) → length (pair a v) ≡ 8
+unfolding pair
+length-pair a v = simp (length-append, length-bytes)
+
+pub pair-cons : (a v : ℕ) (ns : List ℕ) → bytesOf 4 (a ∷ v ∷ ns) ≡ pair a v ++ bytesOf 4 ns
+unfolding pair bytesOf
+pair-cons a v ns = sym (append-assoc (bytes 4 a) (bytes 4 v) (bytesOf 4 ns))
+
+pub put-pair : (d : List ℕ) (at a v : ℕ) → put (put d at (bytes 4 a)) (at + 4) (bytes 4 v) ≡ put d at (pair a v)
+unfolding pair
+put-pair d at a v = sym (put-append d at (bytes 4 a) (bytes 4 v) ∙ rw (length-bytes 4 a))

@@ -9,7 +9,7 @@ use lib.Seq.{take-nil}
 use lib.Dec.{leb}
 use borrow.Author.Tests.{le-leb, lt-leb}
 use Rattle.format.specs.Bytes.{number, field}
-use Rattle.wire.specs.Wire.{whole, entrySize}
+use Rattle.wire.specs.Wire.{whole, entrySize, fieldPair, pairAt}
 
 -- ---- a field by its bytes
 
@@ -69,3 +69,29 @@ size-none (suc (suc (suc n))) h k = refl
 
 pub entry-none : (w at : ℕ) (b : List ℕ) → (w ≡ 1 → ⊥) → (w ≡ 2 → ⊥) → 0 ≡ whole (entrySize w) at b
 entry-none w at b h k = rw (← size-none w h k) (sym (whole-none at b))
+
+pub entry-field-none : (w at : ℕ) (b : List ℕ) → (w ≡ 1 → ⊥) → (w ≡ 2 → ⊥) → 0 ≡ field (entrySize w) at b
+entry-field-none w at b h k = rw (← size-none w h k) (sym (field-zero at b))
+
+-- the widths 1 and 2
+pub entry-of : (w : ℕ) → 1 ≤ w → w ≤ 2 → entrySize w ≡ w
+entry-of zero h k = absurd (omega arith)
+entry-of (suc zero) h k = refl
+entry-of (suc (suc zero)) h k = refl
+entry-of (suc (suc (suc n))) h k = absurd (omega arith)
+
+pub other-width : (w : ℕ) → 1 ≤ w → w ≤ 2 → (w ≡ 1 → ⊥) → w ≡ 2
+other-width zero h k n = absurd (omega arith)
+other-width (suc zero) h k n = absurd (n refl)
+other-width (suc (suc zero)) h k n = refl
+other-width (suc (suc (suc w))) h k n = absurd (omega arith)
+
+-- ---- pairs
+
+pub pair-there : (at : ℕ) (b : List ℕ) → at + 8 ≤ length b → pairAt at b ≡ fieldPair at b
+unfolding pairAt
+pair-there at b h = rw (le-leb (at + 8) (length b) h)
+
+pub pair-past : (at : ℕ) (b : List ℕ) → length b < at + 8 → pairAt at b ≡ record { first = 0; second = 0 }
+unfolding pairAt
+pair-past at b h = rw (lt-leb (at + 8) (length b) h)

@@ -1,9 +1,11 @@
 // Numbers in bytes, lowest byte first. `get` asks that the bytes are there; `load` gives 0 where they are not all there.
+pub mod numbers;
+
 ghost use mathlib.Core.Path.{_≡_};
 ghost use Prim.Native.Nat.{_+_, _*_, _≤_, _<_, _^_};
 ghost use lib.ListN.{length};
 ghost use Rattle.format.specs.Bytes.{field};
-ghost use Rattle.wire.specs.Wire.{whole, entrySize};
+ghost use Rattle.wire.specs.Wire.{whole, entrySize, fieldPair, pairAt};
 
 // A byte as a wider number.
 pub fn wide(x: u8) -> u32
@@ -87,4 +89,52 @@ pub fn load_entry(s: &[u8], at: usize, width: u32) -> u32
         2 => load_u16(s, at),
         _ => 0,
     }
+}
+
+// An entry of the widths 1 and 2 that is there; 0 for any other width.
+pub fn get_entry(s: &[u8], at: usize, width: u32) -> u32
+    requires { ⌜ at + entrySize width ≤ length (now s) ⌝ }
+    ensures { λ r. ⌜ (r ≡ field (entrySize width) at (now (s .entry))) × (r < 65536) ⌝ }
+{
+    match width {
+        1 => get_u8(s, at),
+        2 => get_u16(s, at),
+        _ => 0,
+    }
+}
+
+// Two numbers of four bytes, one after the other.
+pub struct Pair {
+    pub first: u32,
+    pub second: u32,
+}
+
+// The pair at an index.
+pub fn get_pair(s: &[u8], at: usize) -> Pair
+    requires { ⌜ at + 8 ≤ length (now s) ⌝ }
+    ensures { λ r. ⌜ (r ≡ fieldPair at (now (s .entry))) × (r .first < 2 ^ 32) × (r .second < 2 ^ 32) ⌝ }
+{
+    Pair {
+        first: get_u32(s, at),
+        second: get_u32(s, at + 4),
+    }
+}
+
+// The pair at an index, by one test; zeros where its bytes are not all there.
+pub fn load_pair(s: &[u8], at: usize) -> Pair
+    ensures { λ r. ⌜ r ≡ pairAt at (now (s .entry)) ⌝ }
+{
+    if s.len() < 8 {
+        return Pair {
+            first: 0,
+            second: 0,
+        };
+    }
+    if s.len() - 8 < at {
+        return Pair {
+            first: 0,
+            second: 0,
+        };
+    }
+    get_pair(s, at)
 }

@@ -79,33 +79,15 @@ ordered t c = in-order (file t c) (c .args .v) (extent t c) _ (low t c) _ (high 
 reach : (t : ℕ) (c : put-from-lts.In-loop (put-from-calls t) (put-from-at t) put-from.Post put-from-Inv-loop put-from-μ-loop) → c .before .loop .a ≤ high t (c .before .before .before .before .before)
 reach t c = omega (arith, c .loop-test .taken)
 
-before-last : (i : ℕ) → i < 4 → (i ≡ 3 → ⊥) → i + 1 < 4
-before-last i h k = let m : i ≤ 3 = omega arith in let n : i < 3 = lt-of-le-ne m k in omega arith
+before-last : (i : ℕ) → i < 4 → (i + 1 ≡ 4 → ⊥) → i + 1 < 4
+before-last i h k = let m : i + 1 ≤ 4 = omega arith in lt-of-le-ne m k
 
 -- no extent is left after the last
-none : (t : ℕ) (c : Start t) → c .args .i ≡ 3 → drop (c .args .i + 1) (c .args .t3) ≡ []
+none : (t : ℕ) (c : Start t) → c .args .i + 1 ≡ 4 → drop (c .args .i + 1) (c .args .t3) ≡ []
 none t c e = let f = four t c in drop-of-length-le (c .args .t3) {i = c .args .i + 1} (omega arith)
-
-put-from-mul-before : (t : ℕ) → put-from-lts.Need-mul-before (put-from-calls t) (put-from-at t) put-from.Post put-from-Inv-loop put-from-μ-loop
-put-from-mul-before t c = search needs
-
-put-from-array-read-before : (t : ℕ) → put-from-lts.Need-array-read-before (put-from-calls t) (put-from-at t) put-from.Post put-from-Inv-loop put-from-μ-loop
-put-from-array-read-before t c = search needs
 
 put-from-mul-before-2 : (t : ℕ) → put-from-lts.Need-mul-before-2 (put-from-calls t) (put-from-at t) put-from.Post put-from-Inv-loop put-from-μ-loop
 put-from-mul-before-2 t c = let h = small t (c .before .before) (low t (c .before .before)) (ordered t (c .before .before)) in record { fits = omega arith }
-
-put-from-mul-a : (t : ℕ) → put-from-lts.Need-mul-a (put-from-calls t) (put-from-at t) put-from.Post put-from-Inv-loop put-from-μ-loop
-put-from-mul-a t c = search needs
-
-put-from-array-read-a : (t : ℕ) → put-from-lts.Need-array-read-a (put-from-calls t) (put-from-at t) put-from.Post put-from-Inv-loop put-from-μ-loop
-put-from-array-read-a t c = search needs
-
-put-from-mul-last : (t : ℕ) → put-from-lts.Need-mul-last (put-from-calls t) (put-from-at t) put-from.Post put-from-Inv-loop put-from-μ-loop
-put-from-mul-last t c = search needs
-
-put-from-array-read-last : (t : ℕ) → put-from-lts.Need-array-read-last (put-from-calls t) (put-from-at t) put-from.Post put-from-Inv-loop put-from-μ-loop
-put-from-array-read-last t c = search needs
 
 put-from-add-put-row : (t : ℕ) → put-from-lts.Need-add-put-row (put-from-calls t) (put-from-at t) put-from.Post put-from-Inv-loop put-from-μ-loop
 put-from-add-put-row t c = let h = small t (c .before .before .before) (low t (c .before .before .before)) (ordered t (c .before .before .before)) in record { fits = omega arith }
@@ -121,9 +103,6 @@ put-from-put-row-requires t c κs =
     let s = c .before .before .before .before in
     row-goes (file t s) (s .args .v) (extent t s) (low t s) _ (high t s) _ (s .args .p) (s .args .s) _ (rw (none t s (c .before .if1 .taken)) at (goes t s))
 
-put-from-same-length : (t : ℕ) → put-from-lts.Need-same-length (put-from-calls t) (put-from-at t) put-from.Post put-from-Inv-loop put-from-μ-loop
-put-from-same-length t c = search needs
-
 put-from-returns : (t : ℕ) → put-from-lts.Need-returns (put-from-calls t) (put-from-at t) put-from.Post put-from-Inv-loop put-from-μ-loop
 put-from-returns t c =
     let s = c .before .before .before .before .before .before .before in
@@ -137,9 +116,6 @@ put-from-loop-holds : (t : ℕ) → put-from-lts.Need-loop-holds (put-from-calls
 put-from-loop-holds t c =
     let s = c .before .before .before in
     box-start (file t s) (s .args .v) (extent t s) _ _ _ (s .args .p) (high t s) (low t s) (s .args .s) (s .args .dst .now) (goes t s)
-
-put-from-add-put-from : (t : ℕ) → put-from-lts.Need-add-put-from (put-from-calls t) (put-from-at t) put-from.Post put-from-Inv-loop put-from-μ-loop
-put-from-add-put-from t c = search needs
 
 put-from-add-put-from-2 : (t : ℕ) → put-from-lts.Need-add-put-from-2 (put-from-calls t) (put-from-at t) put-from.Post put-from-Inv-loop put-from-μ-loop
 put-from-add-put-from-2 t c = let h = small t (c .before .before .before .before .before) (c .before .loop .a) (reach t c) in record { fits = omega arith }
@@ -156,18 +132,12 @@ put-from-put-from-requires t c κs =
 put-from-add-a : (t : ℕ) → put-from-lts.Need-add-a (put-from-calls t) (put-from-at t) put-from.Post put-from-Inv-loop put-from-μ-loop
 put-from-add-a t c = let h = small t (c .before .before .before .before .before .before .before .before .before) (c .before .before .before .before .before .loop .a) (reach t (c .before .before .before .before)) in record { fits = omega arith }
 
-put-from-loop-less : (t : ℕ) → put-from-lts.Need-loop-less (put-from-calls t) (put-from-at t) put-from.Post put-from-Inv-loop put-from-μ-loop
-put-from-loop-less t c = search needs
-
 put-from-loop-again : (t : ℕ) → put-from-lts.Need-loop-again (put-from-calls t) (put-from-at t) put-from.Post put-from-Inv-loop put-from-μ-loop
 put-from-loop-again t c =
     let s = c .before .before .before .before .before .before .before .before .before in
     let l = c .before .before .before .before .before .loop in
     box-turn (file t s) (s .args .v) (extent t s) _ _ _ (s .args .p) (high t s) (low t s) (s .args .s) (s .args .dst .now) (goes t s) (l .s) (l .dst) (l .a) (l .inv) (reach t (c .before .before .before .before)) _ _
     (c .before .before .put-from .ensures)
-
-put-from-same-length-2 : (t : ℕ) → put-from-lts.Need-same-length-2 (put-from-calls t) (put-from-at t) put-from.Post put-from-Inv-loop put-from-μ-loop
-put-from-same-length-2 t c = search needs
 
 put-from-returns-2 : (t : ℕ) → put-from-lts.Need-returns-2 (put-from-calls t) (put-from-at t) put-from.Post put-from-Inv-loop put-from-μ-loop
 put-from-returns-2 t c =
@@ -184,25 +154,26 @@ pub +put-from-spec : {M : Type 1} → statement M
     put-from.Post
     put-from-Inv-loop
     put-from-μ-loop
-    (put-from-mul-before t)
-    (put-from-array-read-before t)
+    (λ c. search needs)
+    (λ c. search needs)
     (put-from-mul-before-2 t)
-    (put-from-mul-a t)
-    (put-from-array-read-a t)
-    (put-from-mul-last t)
-    (put-from-array-read-last t)
+    (λ c. search needs)
+    (λ c. search needs)
+    (λ c. search needs)
+    (λ c. search needs)
+    (λ c. search needs)
     (put-from-add-put-row t)
     (put-from-sub-put-row t)
     (put-from-add-put-row-2 t)
     (put-from-put-row-requires t)
-    (put-from-same-length t)
+    (λ c. search needs)
     (put-from-returns t)
     (put-from-loop-holds t)
-    (put-from-add-put-from t)
+    (λ c. search needs)
     (put-from-add-put-from-2 t)
     (put-from-put-from-requires t)
     (put-from-add-a t)
-    (put-from-loop-less t)
+    (λ c. search needs)
     (put-from-loop-again t)
-    (put-from-same-length-2 t)
+    (λ c. search needs)
     (put-from-returns-2 t)

@@ -2,6 +2,7 @@
 use mathlib.Core.Path.{_≡_}
 use native.Mathlib.Omega.{arith}
 use lib.ListN.{length}
+use Rattle.parts.proofs.Seen.{seen}
 use Rattle.box_rows.proofs.Whole.{box-placed, box-goes, box-done}
 use borrow.Author.Needs.{needs}
 use Rattle.box_rows.proofs.put_box.Statement.{statement}
@@ -15,16 +16,13 @@ long-rows-requires c κs =
     box-placed (s .args .file .now) (s .args .v) (s .args .d) (s .args .low) (s .args .high) (s .pre .0) (s .pre .1) low high (s .pre .2)
 
 start-requires : tie.Need-start-requires
-start-requires c κs = search needs
+start-requires c κs = let s = c .before .before .before .before .before .before .before in seen (s .args .file .now) (s .args .v) (s .pre .0) .header .counted .allowed
 
 put-from-requires : tie.Need-put-from-requires
 put-from-requires c κs =
     let s = c .before .before .before .before .before .before .before .before .before in
     let r = c .before .before .before .before .before .long-rows in
     (omega arith, box-goes (s .args .file .now) (s .args .v) (s .args .d) (s .args .low) (s .args .high) (s .pre .0) (s .pre .1) (r .result) (r .ensures) (c .before .start .result) _ (c .before .start .ensures) (s .pre .3))
-
-same-length : tie.Need-same-length
-same-length c = search needs
 
 returns : tie.Need-returns
 returns c =
@@ -34,4 +32,4 @@ returns c =
     (c .before .before .put-from .ensures)
 
 pub put-box-spec : {M : Type 1} → statement M
-put-box-spec = tie.close (tie.spec long-rows-requires start-requires put-from-requires same-length returns)
+put-box-spec = tie.close (tie.spec long-rows-requires start-requires put-from-requires (λ c. search needs) returns)

@@ -1,9 +1,11 @@
 -- Each turn puts a stored cell's word, or E up to the next one, and the cells that are left give the row. Assumes nothing.
 use Prim.Native.Nat.{_+_, _-_, _*_, _^_, _≤_, _<_}
 use mathlib.Core.Path.{refl, _∙_}
+use mir.Val.{Fits}
+use mir.Syntax.{w32}
 use native.Mathlib.Omega.{arith}
 use lib.ListN.{length, replicate}
-use Rattle.box_rows.proofs.Resumed.{cells-few}
+use Rattle.parts.proofs.Seen.{seen}
 use Rattle.box_rows.proofs.Rows.{word-stored, stands-past, words-empty, RowLeft, row-start, row-inside, row-turn, row-word, row-end}
 use borrow.Author.Needs.{needs}
 use Rattle.box_rows.proofs.put_row.Statement.{statement}
@@ -15,6 +17,10 @@ Inv-loop file v from n dst₀ words c₀ p₀ k₀ end dst c p k = RowLeft file 
 abbrev μ-loop : tie.MeasureT-loop
 μ-loop file v from n dst₀ words c₀ p₀ k₀ end dst c p k = k₀ + n - k
 
+-- where the words stand
+place : (c : tie.Start Inv-loop μ-loop) → Fits w32 (c .args .v .place)
+place c = search needs
+
 -- m cells more lie in the picture, and their words in the destination
 inside : (c : tie.In-loop Inv-loop μ-loop) (m : Prim.Native.Nat.ℕ) → c .before .loop .k + m ≤ c .before .before .before .before .before .before .args .s .words + c .before .before .before .before .before .before .args .n
     → c .before .loop .p + m ≤ c .before .before .before .before .before .before .args .v .cells
@@ -24,7 +30,7 @@ inside c m h =
     row-inside (s .args .file .now) (s .args .v) (s .args .from) (s .args .n) (s .args .s .words) (s .args .dst .now) (l .dst) (l .c) (l .p) (l .k) (l .inv) m (s .args .v .cells) h (s .pre .inside)
 
 few : (c : tie.In-loop Inv-loop μ-loop) → c .before .before .before .before .before .before .args .v .cells ≤ 16777216
-few c = let s = c .before .before .before .before .before .before in cells-few (s .args .file .now) (s .args .v) (s .pre .view)
+few c = let s = c .before .before .before .before .before .before in seen (s .args .file .now) (s .args .v) (s .pre .view) .header .counted .cells-most
 
 cell : (c : tie.In-loop Inv-loop μ-loop) → c .before .loop .p < c .before .before .before .before .before .before .args .v .cells
 cell c = let h = inside c 1 (omega (arith, c .loop-test .taken)) in omega arith
@@ -39,9 +45,6 @@ offset c = let h = there c in search needs
 more : (c : tie.After-empty-ahead Inv-loop μ-loop) → c .before .before .before .before .before .loop .k + c .empty-ahead .result ≤ c .before .before .before .before .before .before .before .before .before .before .args .s .words + c .before .before .before .before .before .before .before .before .before .before .args .n
 more c = let e = c .empty-ahead .ensures .0 in let k = c .before .before .before .before .loop-test .taken in omega arith
 
-words-at-requires : tie.Need-words-at-requires Inv-loop μ-loop
-words-at-requires c κs = search needs
-
 add-end : tie.Need-add-end Inv-loop μ-loop
 add-end c = let h = c .before .before .before .before .pre .fits in search needs
 
@@ -52,9 +55,6 @@ loop-holds c =
 
 rank-from-requires : tie.Need-rank-from-requires Inv-loop μ-loop
 rank-from-requires c κs = (c .before .before .before .before .before .before .pre .view, cell c, c .before .loop .inv .ready)
-
-enum-known-answer : tie.Need-enum-known-answer Inv-loop μ-loop
-enum-known-answer c = search needs
 
 sub-empty-ahead : tie.Need-sub-empty-ahead Inv-loop μ-loop
 sub-empty-ahead c = let k = c .before .before .before .loop-test .taken in omega arith
@@ -112,17 +112,8 @@ loop-again c =
     (r .result .cursor) (a .result) (replicate (a .result) (s .args .v .empty)) _ h
     (words-empty (s .args .file .now) (s .args .v) (s .pre .view) (r .result .cursor) (l .p) (a .result) y i (a .ensures .2)) (c .before .before .fill-from .ensures) y
 
-cast-load-u32 : tie.Need-cast-load-u32 Inv-loop μ-loop
-cast-load-u32 c = search needs
-
-mul-load-u32 : tie.Need-mul-load-u32 Inv-loop μ-loop
-mul-load-u32 c = search needs
-
 add-load-u32 : tie.Need-add-load-u32 Inv-loop μ-loop
-add-load-u32 c = search needs
-
-load-u32-requires : tie.Need-load-u32-requires Inv-loop μ-loop
-load-u32-requires c κs = search needs
+add-load-u32 c = let at = place (c .before .before .before .before .before .before .before .before .before .before .before .before) in search needs
 
 mul-dst : tie.Need-mul-dst Inv-loop μ-loop
 mul-dst c = record { fits = offset (c .before .before .before .before .before .before .before) }
@@ -149,7 +140,7 @@ loop-again-2 c =
     let r = c .before .before .before .before .before .before .rank-from in
     let x = word-stored (s .args .file .now) (s .args .v) (s .pre .view) (l .p) (cell (c .before .before .before .before .before .before .before)) (r .result .answer) _ (c .before .before .before .answer .given .1) (r .ensures .0) in
     row-word (s .args .file .now) (s .args .v) (s .args .from) (s .args .n) (s .args .s .words) (s .args .dst .now) (l .dst) (l .c) (l .p) (l .k) (l .inv)
-    (r .result .cursor) (c .load-u32 .result) (c .before .before .before .before .before .before .before .loop-test .taken) (c .load-u32 .ensures .0 ∙ rw (c .before .before .before .before .before .before .before .before .before .before .words-at .ensures .0) x) (r .ensures .1 .ready)
+    (r .result .cursor) (c .load-u32 .result) (c .before .before .before .before .before .before .before .loop-test .taken) (c .load-u32 .ensures .0 ∙ x) (r .ensures .1 .ready)
 
 same-length : tie.Need-same-length Inv-loop μ-loop
 same-length c = c .before .loop .inv .size
@@ -166,11 +157,11 @@ put-row-spec =
     (tie.spec
     Inv-loop
     μ-loop
-    words-at-requires
+    (λ c. search needs)
     add-end
     loop-holds
     rank-from-requires
-    enum-known-answer
+    (λ c. search needs)
     sub-empty-ahead
     empty-ahead-requires
     fill-from-requires
@@ -179,10 +170,10 @@ put-row-spec =
     add-p
     loop-less
     loop-again
-    cast-load-u32
-    mul-load-u32
+    (λ c. search needs)
+    (λ c. search needs)
     add-load-u32
-    load-u32-requires
+    (λ c κs. search needs)
     mul-dst
     slice-write-dst
     add-k-2

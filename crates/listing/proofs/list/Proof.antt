@@ -1,5 +1,5 @@
 -- `list` meets its contract. Assumes nothing.
-use Rattle.archive.proofs.Answers.{seen, whole-header}
+use Rattle.format.specs.Accepted.{Checked}
 use Rattle.listing.proofs.Listed.{text-long, text-refused, text-file, same-text}
 use borrow.Author.Needs.{needs}
 use Rattle.listing.proofs.list.Statement.{statement}
@@ -11,28 +11,27 @@ returns c =
     let t = text-long (a .input .now) (c .before .before .before .before .before .if1 .taken) in
     same-text _ _ (a .out .now) _ _ t (c .before .before .offer .ensures)
 
+-- the number is that of the check
+checked-as : (c : tie.After-check) → Checked (c .before .before .before .before .args .input .now) (c .check .result .number)
+checked-as c = record { number = c .check .ensures .number }
+
 returns-2 : tie.Need-returns-2
 returns-2 c =
-    let a = c .before .before .before .before .before .before .before .before .before .args in
+    let a = c .before .before .before .before .before .before .before .before .before .before .args in
     let t
-    = text-refused (a .input .now) (c .before .before .before .before .before .before .if1 .left) _ (c .before .before .before .before .before .check .ensures)
+    = text-refused (a .input .now) (c .before .before .before .before .before .before .before .if1 .left) _ (checked-as (c .before .before .before .before .before .before))
     (c .before .before .before .before .if2 .taken) in
     same-text _ _ (a .out .now) _ _ t (c .before .before .offer-refused .ensures)
 
-read-view-requires : tie.Need-read-view-requires
-read-view-requires c κs = whole-header (c .before .before .before .before .before .args .input .now) _ (c .before .check .ensures) (c .if2 .left)
-
 offer-file-requires : tie.Need-offer-file-requires
-offer-file-requires c κs =
-    let a = c .before .before .before .before .before .before .before .args in
-    (seen (a .input .now) _ _ (c .before .before .before .check .ensures) (c .before .before .if2 .left) (c .before .read-view .ensures), c .before .before .before .before .if1 .left)
+offer-file-requires c κs = (c .before .before .before .check .ensures .view (c .before .if2 .left), c .before .before .before .before .if1 .left)
 
 returns-3 : tie.Need-returns-3
 returns-3 c =
     let a = c .before .before .before .before .before .before .before .before .before .before .args in
     let t
-    = text-file (a .input .now) (c .before .before .before .before .before .before .before .if1 .left) _ (c .before .before .before .before .before .before .check .ensures)
-    (c .before .before .before .before .before .if2 .left) in
+    = text-file (a .input .now) (c .before .before .before .before .before .before .before .if1 .left) _ (checked-as (c .before .before .before .before .before .before))
+    (c .before .before .before .before .if2 .left) in
     same-text _ _ (a .out .now) _ _ t (c .before .before .offer-file .ensures)
 
 pub list-spec : {M : Type 1} → statement M
@@ -47,7 +46,6 @@ list-spec =
     (λ c κs. search needs)
     (λ c. search needs)
     returns-2
-    read-view-requires
     offer-file-requires
     (λ c. search needs)
     returns-3)

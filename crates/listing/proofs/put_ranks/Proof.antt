@@ -4,11 +4,10 @@ use mathlib.Core.Path.{_≡_, refl, _∙_}
 use native.Mathlib.Omega.{arith}
 use lib.ListN.{length, drop}
 use Rattle.format.specs.Bytes.{field}
-use Rattle.format.specs.Accepted.{wordsCount, positionsOf, keptOf}
+use Rattle.format.specs.Accepted.{positionsOf, keptOf}
 use Rattle.format.specs.Lister.{rankLines}
-use Rattle.header.specs.View.{wordsPlace}
-use Rattle.cursor.specs.Cursor.{walked}
-use Rattle.cursor.proofs.Walks.{walked-start}
+use Rattle.parts.proofs.Seen.{seen}
+use Rattle.kinds.proofs.Walks.{Ahead, walk-start}
 use Rattle.listing.proofs.Placing.{text-size}
 use Rattle.listing.proofs.Lines.{Left, word-inside, lines-end, step, lines-turn, line-room}
 use borrow.Author.Needs.{needs}
@@ -17,11 +16,14 @@ use Rattle.listing.proofs.put_ranks.Tie as tie
 
 abbrev Inv-loop : tie.InvT-loop
 Inv-loop file v out₀ at words c₀ to₀ rank₀ out c to rank =
-    (rank ≤ v .words) × (length out ≡ length out₀) × (walked file v c (wordsCount file - rank) ≡ drop rank (positionsOf file))
+    (rank ≤ v .words) × (length out ≡ length out₀) × Ahead file v c rank
     × Left (rankLines 0 (positionsOf file) (keptOf file)) out₀ at (rankLines rank (drop rank (positionsOf file)) (drop rank (keptOf file))) to out
 
 abbrev μ-loop : tie.MeasureT-loop
 μ-loop file v out₀ at words c₀ to₀ rank₀ out c to rank = v .words - rank
+
+start-requires : tie.Need-start-requires Inv-loop μ-loop
+start-requires c κs = let s = c .before .before .before in seen (s .args .file .now) (s .args .v) (s .pre .0) .holds .counted .allowed
 
 loop-holds : tie.Need-loop-holds Inv-loop μ-loop
 loop-holds c =
@@ -29,24 +31,29 @@ loop-holds c =
     let o = s .pre .0 in (
       omega arith,
       refl,
-      rw (c .start .ensures, o .view) (walked-start (s .args .file .now) (o .accepted)),
+      rw (c .start .ensures) (walk-start (s .args .file .now) (s .args .v) o),
       record { place = refl; bytes = refl },
     )
 
 get-u32-requires : tie.Need-get-u32-requires Inv-loop μ-loop
 get-u32-requires c κs =
     let s = c .before .before .before .before .before .before .before in
-    rw (c .before .before .before .before .words-at .ensures .0) (word-inside (s .args .file .now) (s .args .v) (s .pre .0) (c .before .before .loop .rank) (c .if1 .taken))
+    word-inside (s .args .file .now) (s .args .v) (s .pre .0) (c .before .before .loop .rank) (c .if1 .taken)
 
 put-line-requires : tie.Need-put-line-requires Inv-loop μ-loop
 put-line-requires c κs =
     let s = c .before .before .before .before .before .before .before .before .before in
     let a = s .args in
     let l = c .before .before .before .before .loop in
-    let w : c .before .get-u32 .result ≡ field 4 (wordsPlace (a .v) + 4 * l .rank) (a .file .now)
-    = c .before .get-u32 .ensures .0 ∙ rw (c .before .before .before .before .before .before .words-at .ensures .0) in
+    let w : c .before .get-u32 .result ≡ field 4 (a .v .place + 4 * l .rank) (a .file .now)
+    = c .before .get-u32 .ensures .0 in
     line-room (a .file .now) (a .v) (s .pre .0) (l .rank) (l .c) _ (c .before .before .if1 .taken) (l .inv .2) w (a .out .now) (a .at) (l .out) (l .to)
     (s .pre .1) (l .inv .1) (l .inv .3)
+
+next-requires : tie.Need-next-requires Inv-loop μ-loop
+next-requires c κs =
+    let s = c .before .before .before .before .before .before .before .before .before .before .before .before in
+    seen (s .args .file .now) (s .args .v) (s .pre .0) .holds .counted .allowed
 
 add-rank : tie.Need-add-rank Inv-loop μ-loop
 add-rank c = let h = c .before .before .before .before .before .before .if1 .taken in search needs
@@ -59,8 +66,8 @@ loop-again c =
     let l = c .before .before .before .before .before .before .before .before .loop in
     let h = c .before .before .before .before .before .before .if1 .taken in
     let t = c .before .before .before .put-line .ensures in
-    let w : c .before .before .before .before .before .get-u32 .result ≡ field 4 (wordsPlace (a .v) + 4 * l .rank) (a .file .now)
-    = c .before .before .before .before .before .get-u32 .ensures .0 ∙ rw (c .before .before .before .before .before .before .before .before .before .before .words-at .ensures .0) in (
+    let w : c .before .before .before .before .before .get-u32 .result ≡ field 4 (a .v .place + 4 * l .rank) (a .file .now)
+    = c .before .before .before .before .before .get-u32 .ensures .0 in (
       omega arith,
       text-size _ (l .out) _ (l .to) _ t ∙ l .inv .1,
       rw (c .next .ensures) (step (a .file .now) (a .v) o (l .rank) (l .c) _ h (l .inv .2) w .rest),
@@ -79,15 +86,15 @@ put-ranks-spec =
     (tie.spec
     Inv-loop
     μ-loop
-    (λ c κs. search needs)
-    (λ c κs. search needs)
+    (λ c. search needs)
+    start-requires
     loop-holds
     (λ c. search needs)
     (λ c. search needs)
     (λ c. search needs)
     get-u32-requires
     put-line-requires
-    (λ c κs. search needs)
+    next-requires
     add-rank
     (λ c. search needs)
     loop-again

@@ -3,25 +3,16 @@ use Rattle.opened.proofs.Openings.{cell-beyond, cell-through}
 use borrow.Author.Needs.{needs}
 use Rattle.opened.proofs.cell_within.Statement.{statement}
 use Rattle.opened.proofs.cell_within.Tie as tie
-use Rattle.opened.proofs.cell_within.Reads as reads
-use Rattle.opened.proofs.cell_within.Lts as lts
-use Rattle.search.proofs.cell_in.Reads as cell-in-reads
 
--- src/lib.rt:68:9
 returns : tie.Need-returns
 returns c =
     let a = c .before .before .before .args in
     cell-beyond (a .file .now) (a .v) (a .p .0) (c .if1 .taken)
 
--- src/lib.rt:70:5
-cell-in-requires : tie.Need-cell-in-requires
-cell-in-requires c κs = search needs
-
--- src/lib.rt:64:1
 returns-2 : tie.Need-returns-2
 returns-2 c =
     let a = c .before .before .before .before .args in
     cell-through (a .file .now) (a .v) (a .p .0) (cellSays (c .cell-in .result)) (c .before .if1 .left) (c .cell-in .ensures)
 
 pub cell-within-spec : {M : Type 1} → statement M
-cell-within-spec = tie.close (tie.spec returns cell-in-requires returns-2)
+cell-within-spec = tie.close (tie.spec returns (λ c κs. search needs) returns-2)

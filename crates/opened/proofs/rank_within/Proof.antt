@@ -3,25 +3,16 @@ use Rattle.opened.proofs.Openings.{rank-beyond, rank-through}
 use borrow.Author.Needs.{needs}
 use Rattle.opened.proofs.rank_within.Statement.{statement}
 use Rattle.opened.proofs.rank_within.Tie as tie
-use Rattle.opened.proofs.rank_within.Reads as reads
-use Rattle.opened.proofs.rank_within.Lts as lts
-use Rattle.search.proofs.rank_in.Reads as rank-in-reads
 
--- src/lib.rt:78:9
 returns : tie.Need-returns
 returns c =
     let a = c .before .before .before .args in
     rank-beyond (a .file .now) (a .v) (a .p .0) (c .if1 .taken)
 
--- src/lib.rt:80:5
-rank-in-requires : tie.Need-rank-in-requires
-rank-in-requires c κs = search needs
-
--- src/lib.rt:74:1
 returns-2 : tie.Need-returns-2
 returns-2 c =
     let a = c .before .before .before .before .args in
     rank-through (a .file .now) (a .v) (a .p .0) (rankSays (c .rank-in .result)) (c .before .if1 .left) (c .rank-in .ensures)
 
 pub rank-within-spec : {M : Type 1} → statement M
-rank-within-spec = tie.close (tie.spec returns rank-in-requires returns-2)
+rank-within-spec = tie.close (tie.spec returns (λ c κs. search needs) returns-2)

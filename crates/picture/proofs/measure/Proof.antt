@@ -1,13 +1,18 @@
 -- `measure` meets its contract: the encoder that goes on with the cells that are left ends as from the first cell on. Assumes nothing.
 use Prim.Native.Nat.{_-_, _≤_}
-use mathlib.Core.Path.{_≡_, refl, sym, ap, _∙_}
+use mathlib.Core.Path.{_≡_, refl, sym, ap, subst, _∙_}
 use native.Mathlib.Omega.{arith}
+use mathlib.Core.Bool.{true}
 use lib.ListN.{length}
 use Rattle.format.specs.Stored.{stored}
-use Rattle.encode.specs.Encoder.{begun, ended, takenAll}
-use Rattle.encode.specs.Batch.{Along}
-use Rattle.encode.proofs.Turn.{all-end}
-use Rattle.picture.proofs.Chunks.{left, next-cut, along-begun, left-all, left-none, length-chunk, along-chunk, along-left, all-left}
+use Rattle.parts.specs.declared.Encoder.{Encoder}
+use Rattle.parts.specs.Encoder.{begun}
+use Rattle.parts.specs.Batch.{Along}
+use Rattle.kinds.specs.Coding.{takenAll}
+use Rattle.layout.specs.Laid.{measuredBy, Bounded, Measures}
+use Rattle.layout.proofs.Measuring.{measures, bounded}
+use Rattle.layout.proofs.WholeFile.{rising}
+use Rattle.picture.proofs.Chunks.{left, next-cut, along-begun, left-all, all-done, length-chunk, along-chunk, along-left, all-left}
 use borrow.Author.Needs.{needs}
 use Rattle.picture.proofs.measure.Statement.{statement}
 use Rattle.picture.proofs.measure.Tie as tie
@@ -20,38 +25,11 @@ Inv-loop words empty s batch₀ e₀ at₀ batch e at =
 abbrev μ-loop : tie.MeasureT-loop
 μ-loop words empty s batch₀ e₀ at₀ batch e at = length words - at
 
-begin-requires : tie.Need-begin-requires Inv-loop μ-loop
-begin-requires c κs = search needs
-
 loop-holds : tie.Need-loop-holds Inv-loop μ-loop
 loop-holds c =
     let a = c .before .before .args in
     let l = c .before .before .pre .1 in
     (omega arith, refl, rw (c .begin .ensures) (along-begun 0 0 (a .empty) (a .words .now) (omega arith) (omega arith) l), rw (c .begin .ensures, left-all (a .empty) (a .words .now)))
-
-add-lesser : tie.Need-add-lesser Inv-loop μ-loop
-add-lesser c = search needs
-
-lesser-requires : tie.Need-lesser-requires Inv-loop μ-loop
-lesser-requires c κs = search needs
-
-mul-chunk : tie.Need-mul-chunk Inv-loop μ-loop
-mul-chunk c = search needs
-
-sub-chunk : tie.Need-sub-chunk Inv-loop μ-loop
-sub-chunk c = search needs
-
-part-chunk-start : tie.Need-part-chunk-start Inv-loop μ-loop
-part-chunk-start c = search needs
-
-part-chunk-end : tie.Need-part-chunk-end Inv-loop μ-loop
-part-chunk-end c = search needs
-
-cast-measure-chunk : tie.Need-cast-measure-chunk Inv-loop μ-loop
-cast-measure-chunk c = search needs
-
-slice-aggregate-measure-chunk : tie.Need-slice-aggregate-measure-chunk Inv-loop μ-loop
-slice-aggregate-measure-chunk c = search needs
 
 measure-chunk-requires : tie.Need-measure-chunk-requires Inv-loop μ-loop
 measure-chunk-requires c κs =
@@ -62,9 +40,6 @@ measure-chunk-requires c κs =
     let n = length-chunk (a .empty) (a .words .now) _ _ z in
     let h = z .start in
     (p .0, omega arith, omega arith, along-chunk _ _ _ _ z (l .e) (l .inv .2))
-
-loop-less : tie.Need-loop-less Inv-loop μ-loop
-loop-less c = search needs
 
 loop-again : tie.Need-loop-again Inv-loop μ-loop
 loop-again c =
@@ -78,15 +53,21 @@ loop-again c =
       rw (c .before .measure-chunk .ensures) (all-left (a .empty) (a .words .now) _ _ z (a .s) (l .e) ∙ l .inv .3),
     )
 
-finished-requires : tie.Need-finished-requires Inv-loop μ-loop
-finished-requires c κs = c .before .loop .inv .2 .sound
+measured-requires : tie.Need-measured-requires Inv-loop μ-loop
+measured-requires c κs =
+    let a = c .before .before .before .before .args in
+    let p = c .before .before .before .before .pre in
+    let l = c .before .loop in
+    let w = all-done (a .empty) (a .words .now) (l .at) (a .s) (l .e) (c .loop-test .left) ∙ l .inv .3 in
+    (p .0, subst (λ (x : Encoder). x .fits ≡ true → Bounded (a .s) x) (sym w) (bounded (a .s) (p .0) _ _ (p .1) (rising (a .empty) (a .words .now))))
 
 returns : tie.Need-returns Inv-loop μ-loop
 returns c =
     let a = c .before .before .before .before .before .args in
+    let p = c .before .before .before .before .before .pre in
     let l = c .before .before .loop in
-    let none = left-none (a .empty) (a .words .now) (l .at) (c .before .loop-test .left) in
-    c .finished .ensures ∙ ap (ended (a .s)) (sym (ap (takenAll (a .s) (l .e)) none ∙ all-end (a .s) (l .e)) ∙ l .inv .3)
+    let w = all-done (a .empty) (a .words .now) (l .at) (a .s) (l .e) (c .before .loop-test .left) ∙ l .inv .3 in
+    rw (c .measured .ensures ∙ ap (measuredBy (a .s)) w) (measures (a .s) (p .0) _ _ (p .1) (rising (a .empty) (a .words .now)))
 
 pub measure-spec : {M : Type 1} → statement M
 measure-spec =
@@ -94,18 +75,18 @@ measure-spec =
     (tie.spec
     Inv-loop
     μ-loop
-    begin-requires
+    (λ c κs. search needs)
     loop-holds
-    add-lesser
-    lesser-requires
-    mul-chunk
-    sub-chunk
-    part-chunk-start
-    part-chunk-end
-    cast-measure-chunk
-    slice-aggregate-measure-chunk
+    (λ c. search needs)
+    (λ c κs. search needs)
+    (λ c. search needs)
+    (λ c. search needs)
+    (λ c. search needs)
+    (λ c. search needs)
+    (λ c. search needs)
+    (λ c. search needs)
     measure-chunk-requires
-    loop-less
+    (λ c. search needs)
     loop-again
-    finished-requires
+    measured-requires
     returns)

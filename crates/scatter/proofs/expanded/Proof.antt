@@ -4,37 +4,33 @@ use mathlib.Core.List.{_++_}
 use native.Mathlib.Omega.{arith}
 use lib.ListN.{length, getD, take, drop}
 use lib.Seq.{length-take-le}
-use Rattle.format.specs.Accepted.{wordsCount, positionsOf, keptOf}
+use Rattle.format.specs.Accepted.{positionsOf, keptOf}
 use Rattle.laws.proofs.Stored.{Rising}
 use Rattle.laws.proofs.Bounds.{below-widen}
-use Rattle.cursor.specs.Cursor.{walked}
-use Rattle.cursor.proofs.Walks.{walked-start}
-use Rattle.cursor.proofs.Batches.{Taken, taken}
+use Rattle.parts.proofs.Seen.{seen}
+use Rattle.kinds.proofs.Walks.{Ahead, walk-start, Taken, taken}
 use Rattle.scatter.specs.Scatter.{scattered}
 use Rattle.scatter.proofs.Scattered.{length-scattered}
 use Rattle.scatter.proofs.Blank.{blank, length-filled, blank-filled, Cut}
-use Rattle.scatter.proofs.Turn.{scatter-end, words-seen, past, expand-turned, few, batch-cut, begin-rising, all-scattered}
+use Rattle.scatter.proofs.Turn.{scatter-end, past, expand-turned, batch-cut, all-scattered}
 use borrow.Author.Needs.{needs}
 use Rattle.scatter.proofs.expanded.Statement.{statement}
 use Rattle.scatter.proofs.expanded.Tie as tie
 
 abbrev Inv-loop : tie.InvT-loop
 Inv-loop file v dst₀ c₀ batch₀ rank₀ filled₀ dst c batch rank filled =
-    (rank ≤ wordsCount file) × (length dst ≡ length dst₀) × (length batch ≡ 512)
-    × (walked file v c (wordsCount file - rank) ≡ drop rank (positionsOf file))
+    (rank ≤ v .words) × (length dst ≡ length dst₀) × (length batch ≡ 512)
+    × Ahead file v c rank
     × (filled ≤ v .cells) × Rising filled (v .cells) (drop rank (positionsOf file))
     × (scattered (blank (v .empty) (v .cells) filled dst) (drop rank (positionsOf file)) (drop rank (keptOf file))
     ≡ scattered (blank (v .empty) (v .cells) 0 dst₀) (positionsOf file) (keptOf file))
 
 abbrev μ-loop : tie.MeasureT-loop
-μ-loop file v dst₀ c₀ batch₀ rank₀ filled₀ dst c batch rank filled = wordsCount file - rank
+μ-loop file v dst₀ c₀ batch₀ rank₀ filled₀ dst c batch rank filled = v .words - rank
 
 -- the batch lies in the ranks
 fits : (c : tie.After-batch-of Inv-loop μ-loop) → c .before .before .before .before .loop .rank + c .batch-of .result ≤ c .before .before .before .before .before .before .before .before .args .v .words
 fits c = let h = c .batch-of .ensures .0 in let k = c .before .before .if1 .taken in omega arith
-
-fits-file : (c : tie.After-batch-of Inv-loop μ-loop) → c .before .before .before .before .loop .rank + c .batch-of .result ≤ wordsCount (c .before .before .before .before .before .before .before .before .args .file .now)
-fits-file c = let s = c .before .before .before .before .before .before .before .before in rw (← words-seen (s .args .file .now) (s .args .v) (s .pre .0)) (fits c)
 
 some : (c : tie.After-batch-of Inv-loop μ-loop) → 0 < c .batch-of .result
 some c = let k = c .before .before .if1 .taken in c .batch-of .ensures .2 (omega arith)
@@ -47,7 +43,7 @@ next c =
     let s = c .before .before .before .before .before .before .before .before .before .before in
     let l = c .before .before .before .before .before .before .loop in
     let n = c .before .before .batch-of .ensures .1 in
-    taken (s .args .file .now) (s .args .v) (l .c) _ (l .rank) _ (l .batch) _ (rw (l .inv .2) n) (fits-file (c .before .before)) (l .inv .3)
+    taken (s .args .file .now) (s .args .v) (l .c) _ (l .rank) _ (l .batch) _ (rw (l .inv .2) n) (fits (c .before .before)) (l .inv .3)
     (c .positions .ensures .0) (c .positions .ensures .1)
 
 -- the batch's last position
@@ -61,11 +57,11 @@ up-to : (c : tie.After-positions Inv-loop μ-loop)
 up-to c =
     let s = c .before .before .before .before .before .before .before .before .before .before in
     let l = c .before .before .before .before .before .before .loop in
-    batch-cut (s .args .file .now) (s .args .v) (s .pre .0) (l .filled) (l .rank) (c .before .before .batch-of .result) _ (some (c .before .before)) (fits-file (c .before .before))
+    batch-cut (s .args .file .now) (s .args .v) (s .pre .0) (l .filled) (l .rank) (c .before .before .batch-of .result) _ (some (c .before .before)) (fits (c .before .before))
     (next c .front) (l .inv .5)
 
 start-requires : tie.Need-start-requires Inv-loop μ-loop
-start-requires c κs = search needs
+start-requires c κs = let s = c .before .before in seen (s .args .file .now) (s .args .v) (s .pre .0) .header .counted .allowed
 
 loop-holds : tie.Need-loop-holds Inv-loop μ-loop
 loop-holds c =
@@ -74,17 +70,11 @@ loop-holds c =
       omega arith,
       refl,
       refl,
-      rw (c .start .ensures, o .view) (walked-start (s .args .file .now) (o .accepted)),
+      rw (c .start .ensures) (walk-start (s .args .file .now) (s .args .v) o),
       omega arith,
-      begin-rising (s .args .file .now) (s .args .v) o,
+      seen (s .args .file .now) (s .args .v) o .holds .rising,
       refl,
     )
-
-sub-batch-of : tie.Need-sub-batch-of Inv-loop μ-loop
-sub-batch-of c = search needs
-
-batch-of-requires : tie.Need-batch-of-requires Inv-loop μ-loop
-batch-of-requires c κs = search needs
 
 array-borrow-prefix-batch : tie.Need-array-borrow-prefix-batch Inv-loop μ-loop
 array-borrow-prefix-batch c = rw (c .before .before .before .before .loop .inv .2) (c .batch-of .ensures .1)
@@ -93,7 +83,7 @@ slice-aggregate-positions : tie.Need-slice-aggregate-positions Inv-loop μ-loop
 slice-aggregate-positions c = let l = c .before .before .before .before .before .loop in sym (length-take-le _ (l .batch) (rw (l .inv .2) (c .before .batch-of .ensures .1)))
 
 positions-requires : tie.Need-positions-requires Inv-loop μ-loop
-positions-requires c κs = search needs
+positions-requires c κs = let s = c .before .before .before .before .before .before .before .before .before in seen (s .args .file .now) (s .args .v) (s .pre .0) .header .counted .allowed
 
 sub-end : tie.Need-sub-end Inv-loop μ-loop
 sub-end c = let h = some (c .before .before .before) in omega arith
@@ -164,20 +154,17 @@ scatter-batch-requires c κs =
           (omega arith) (u .below)),
     )
 
-cast-rank : tie.Need-cast-rank Inv-loop μ-loop
-cast-rank c = search needs
-
 add-rank : tie.Need-add-rank Inv-loop μ-loop
 add-rank c =
     let s = c .before .before .before .before .before .before .before .before .before .before .before .before .before .before .before .before .before .before .before .before in
     let h = fits (c .before .before .before .before .before .before .before .before .before .before .before .before) in
-    let k = few (s .args .file .now) (s .args .v) (s .pre .0) in
-    omega arith
+    let w = seen (s .args .file .now) (s .args .v) (s .pre .0) .header .counted in
+    omega (arith, w .words-most, w .cells-most)
 
 loop-less : tie.Need-loop-less Inv-loop μ-loop
 loop-less c =
     let p = c .before .before .before .before .before .before .before .before .before .before .before .before in
-    let h = fits-file p in
+    let h = fits p in
     let z = some p in
     omega arith
 
@@ -195,24 +182,18 @@ loop-again c =
     let z = same-size f in
     let low : last p + 1 ≤ s .args .v .cells = omega arith in
     let e = rw (t .front) at (c .before .before .scatter-batch .ensures) in (
-      fits-file (c .before .before .before .before .before .before .before .before .before .before .before .before),
+      fits (c .before .before .before .before .before .before .before .before .before .before .before .before),
       ap length e ∙ length-scattered (f .fill-range .last .0) (take n (drop (l .rank) (positionsOf (s .args .file .now)))) (drop (l .rank) (keptOf (s .args .file .now))) ∙ z,
       t .size ∙ l .inv .2,
       t .rest,
       low,
       u .rest,
-      expand-turned (s .args .file .now) (s .args .v) (s .pre .0) (l .dst) (f .fill-range .last .0) _ (l .filled) (last p + 1) (l .rank) n (fits-file (c .before .before .before .before .before .before .before .before .before .before .before .before))
+      expand-turned (s .args .file .now) (s .args .v) (s .pre .0) (l .dst) (f .fill-range .last .0) _ (l .filled) (last p + 1) (l .rank) n (fits (c .before .before .before .before .before .before .before .before .before .before .before .before))
           (omega arith) low (u .below) (blanked f) e ∙ l .inv .6,
     )
 
-cast-fill-range : tie.Need-cast-fill-range Inv-loop μ-loop
-cast-fill-range c = search needs
-
 fill-range-requires-2 : tie.Need-fill-range-requires-2 Inv-loop μ-loop
 fill-range-requires-2 c κs = let l = c .before .before .before .before .loop in let e = l .inv .1 in let k = c .before .before .before .before .before .before .before .before .pre .1 in (l .inv .4, omega arith)
-
-same-length : tie.Need-same-length Inv-loop μ-loop
-same-length c = search needs
 
 returns : tie.Need-returns Inv-loop μ-loop
 unfolding blank
@@ -233,8 +214,8 @@ expanded-spec =
     μ-loop
     start-requires
     loop-holds
-    sub-batch-of
-    batch-of-requires
+    (λ c. search needs)
+    (λ c κs. search needs)
     array-borrow-prefix-batch
     slice-aggregate-positions
     positions-requires
@@ -247,11 +228,11 @@ expanded-spec =
     array-share-prefix-batch
     slice-aggregate-scatter-batch
     scatter-batch-requires
-    cast-rank
+    (λ c. search needs)
     add-rank
     loop-less
     loop-again
-    cast-fill-range
+    (λ c. search needs)
     fill-range-requires-2
-    same-length
+    (λ c. search needs)
     returns)

@@ -14,27 +14,6 @@ Inv-loop dst₀ n x i₀ dst i = (i ≤ n) × (length dst ≡ length dst₀) × 
 abbrev μ-loop : tie.MeasureT-loop
 μ-loop dst₀ n x i₀ dst i = n - i
 
--- src/lib.rt:13:5
-loop-holds : tie.Need-loop-holds Inv-loop μ-loop
-loop-holds c = search needs
-
--- src/lib.rt:14:9
-mul-dst : tie.Need-mul-dst Inv-loop μ-loop
-mul-dst c = search needs
-
--- src/lib.rt:14:9
-slice-write-dst : tie.Need-slice-write-dst Inv-loop μ-loop
-slice-write-dst c = search needs
-
--- src/lib.rt:15:9
-add-i : tie.Need-add-i Inv-loop μ-loop
-add-i c = search needs
-
--- src/lib.rt:13:5
-loop-less : tie.Need-loop-less Inv-loop μ-loop
-loop-less c = search needs
-
--- src/lib.rt:13:5
 loop-again : tie.Need-loop-again Inv-loop μ-loop
 loop-again c =
     let a = c .before .before .args in
@@ -44,11 +23,6 @@ loop-again c =
       ap (λ (d : List ℕ). set d (l .i) (a .x)) (l .inv .2) ∙ fill-turn (a .dst .now) (l .i) (a .x) (omega arith),
     )
 
--- src/lib.rt:8:1
-same-length : tie.Need-same-length Inv-loop μ-loop
-same-length c = search needs
-
--- src/lib.rt:8:1
 returns : tie.Need-returns Inv-loop μ-loop
 returns c =
     let l = c .before .loop in
@@ -61,11 +35,11 @@ fill-spec =
     (tie.spec
     Inv-loop
     μ-loop
-    loop-holds
-    mul-dst
-    slice-write-dst
-    add-i
-    loop-less
+    (λ c. search needs)
+    (λ c. search needs)
+    (λ c. search needs)
+    (λ c. search needs)
+    (λ c. search needs)
     loop-again
-    same-length
+    (λ c. search needs)
     returns)

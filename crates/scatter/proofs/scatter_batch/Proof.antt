@@ -18,39 +18,17 @@ Inv-loop file rank at dst₀ words i₀ dst i =
 abbrev μ-loop : tie.MeasureT-loop
 μ-loop file rank at dst₀ words i₀ dst i = length at - i
 
-words-at-requires : tie.Need-words-at-requires Inv-loop μ-loop
-words-at-requires c κs = search needs
-
-mul-words : tie.Need-mul-words Inv-loop μ-loop
-mul-words c = search needs
-
-add-words : tie.Need-add-words Inv-loop μ-loop
-add-words c = search needs
-
 loop-holds : tie.Need-loop-holds Inv-loop μ-loop
 loop-holds c = (omega arith, refl, rw add-zero)
 
-mul-to : tie.Need-mul-to Inv-loop μ-loop
-mul-to c = search needs
-
-shared-slice-read-to : tie.Need-shared-slice-read-to Inv-loop μ-loop
-shared-slice-read-to c = search needs
-
 cast-to : tie.Need-cast-to Inv-loop μ-loop
 cast-to c = let f = c .shared-slice-known3 .given (c .before .before .loop .i) in search needs
-
-mul-get-u32 : tie.Need-mul-get-u32 Inv-loop μ-loop
-mul-get-u32 c = search needs
-
-add-get-u32 : tie.Need-add-get-u32 Inv-loop μ-loop
-add-get-u32 c = search needs
 
 get-u32-requires : tie.Need-get-u32-requires Inv-loop μ-loop
 get-u32-requires c κs =
     let s = c .before .before .before .before .before .before .before in
     let l = c .before .before .loop in
-    let e = c .before .before .before .words-at .ensures .0 in
-    rw e (word-there (s .args .file .now) (s .args .v) (s .pre .0) (s .args .rank) (length (s .args .at .now)) (l .i) (s .pre .1) (c .before .loop-test .taken))
+    word-there (s .args .file .now) (s .args .v) (s .pre .0) (s .args .rank) (length (s .args .at .now)) (l .i) (s .pre .1) (c .before .loop-test .taken)
 
 -- the position lies in the destination
 inside : (c : tie.After-get-u32 Inv-loop μ-loop) → getD (c .before .before .before .before .before .before .before .before .args .at .now) (c .before .before .before .loop .i) 0 < length (c .before .before .before .loop .dst)
@@ -65,21 +43,14 @@ mul-dst c = let h = inside c in search needs
 slice-write-dst : tie.Need-slice-write-dst Inv-loop μ-loop
 slice-write-dst c = inside c
 
-add-i : tie.Need-add-i Inv-loop μ-loop
-add-i c = search needs
-
-loop-less : tie.Need-loop-less Inv-loop μ-loop
-loop-less c = search needs
-
 loop-again : tie.Need-loop-again Inv-loop μ-loop
 loop-again c =
     let s = c .before .before .before .before .before .before .before .before in
     let l = c .before .before .before .loop in
-    let h = c .before .before .loop-test .taken in
-    let x = rw (c .before .before .before .before .words-at .ensures .0) at (c .get-u32 .ensures .0) in (
+    let h = c .before .before .loop-test .taken in (
       omega arith,
       length-set (l .dst) _ (c .get-u32 .result) ∙ l .inv .1,
-      turned (s .args .file .now) (s .args .v) (s .pre .0) (l .dst) (s .args .at .now) (s .args .rank) (l .i) (c .get-u32 .result) (s .pre .1) h x ∙ l .inv .2,
+      turned (s .args .file .now) (s .args .v) (s .pre .0) (l .dst) (s .args .at .now) (s .args .rank) (l .i) (c .get-u32 .result) (s .pre .1) h (c .get-u32 .ensures .0) ∙ l .inv .2,
     )
 
 same-length : tie.Need-same-length Inv-loop μ-loop
@@ -96,20 +67,20 @@ scatter-batch-spec =
     (tie.spec
     Inv-loop
     μ-loop
-    words-at-requires
-    mul-words
-    add-words
+    (λ c. search needs)
+    (λ c. search needs)
+    (λ c. search needs)
     loop-holds
-    mul-to
-    shared-slice-read-to
+    (λ c. search needs)
+    (λ c. search needs)
     cast-to
-    mul-get-u32
-    add-get-u32
+    (λ c. search needs)
+    (λ c. search needs)
     get-u32-requires
     mul-dst
     slice-write-dst
-    add-i
-    loop-less
+    (λ c. search needs)
+    (λ c. search needs)
     loop-again
     same-length
     returns)

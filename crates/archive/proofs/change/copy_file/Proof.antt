@@ -3,19 +3,15 @@ use borrow.Author.Needs.{needs}
 use Rattle.archive.proofs.change.copy_file.Statement.{statement}
 use Rattle.archive.proofs.change.copy_file.Tie as tie
 
--- src/change.rt:26:9
 returns : tie.Need-returns
 returns c = copy-small (c .before .before .before .args .file .now) (c .before .before .before .args .dst .now) (c .if1 .taken)
 
--- src/change.rt:28:5
 copy-requires : tie.Need-copy-requires
 copy-requires c κs = search needs
 
--- src/change.rt:22:1
 same-length : tie.Need-same-length
 same-length c = search needs
 
--- src/change.rt:22:1
 returns-2 : tie.Need-returns-2
 returns-2 c = copy-done (c .before .before .before .before .before .before .before .args .file .now) (c .before .before .before .before .before .before .before .args .dst .now) _ (c .before .before .before .before .if1 .left) (c .before .before .copy .ensures)
 

@@ -2,15 +2,12 @@ use Rattle.archive.proofs.Writing.{other-kind, other-width, step-tells}
 use Rattle.archive.proofs.change.own_setting.Statement.{statement}
 use Rattle.archive.proofs.change.own_setting.Tie as tie
 
--- src/change.rt:19:9
 returns : tie.Need-returns
 returns c = other-kind (c .before .before .before .args .s) (c .before .before .before .args .v) (c .if1 .taken)
 
--- src/change.rt:22:9
 returns-2 : tie.Need-returns-2
 returns-2 c = other-width (c .before .before .before .before .before .before .args .s) (c .before .before .before .before .before .before .args .v) (c .before .before .before .if1 .left) (c .if2 .taken)
 
--- src/change.rt:15:1
 returns-3 : tie.Need-returns-3
 returns-3 c = step-tells (c .before .before .before .before .before .before .before .before .args .s) (c .before .before .before .before .before .before .before .before .args .v) (c .before .before .before .before .before .if1 .left) (c .before .before .if2 .left)
 

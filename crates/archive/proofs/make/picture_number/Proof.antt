@@ -1,38 +1,23 @@
+-- `picture_number` meets its contract. Assumes nothing.
 use mathlib.Core.Path.{sym, _∙_}
 use Rattle.archive.proofs.Making.{setting-refused, extent-refused, words-refused, none-refused}
 use borrow.Author.Needs.{needs}
 use Rattle.archive.proofs.make.picture_number.Statement.{statement}
 use Rattle.archive.proofs.make.picture_number.Tie as tie
 
--- src/make.rt:25:9
-setting-number-requires : tie.Need-setting-number-requires
-setting-number-requires c κs = search needs
-
--- src/make.rt:27:9
 returns : tie.Need-returns
 returns c = setting-refused (c .before .before .args .s) (c .before .before .args .d) (c .before .before .args .words) _ (c .before .setting-number .ensures) (c .if1 .taken)
 
--- src/make.rt:29:9
-cell-count-requires : tie.Need-cell-count-requires
-cell-count-requires c κs = search needs
-
--- src/make.rt:31:9
 returns-2 : tie.Need-returns-2
 returns-2 c =
     let g = c .before .before .before .before .args in
     extent-refused (g .s) (g .d) (g .words) (sym (c .before .before .before .setting-number .ensures) ∙ c .before .before .if1 .left) (sym (c .before .cell-count .ensures .0) ∙ c .if2 .taken)
 
--- src/make.rt:33:17
-cast-if3 : tie.Need-cast-if3
-cast-if3 c = search needs
-
--- src/make.rt:34:9
 returns-3 : tie.Need-returns-3
 returns-3 c =
     let g = c .before .before .before .before .before .args in
     words-refused (g .s) (g .d) (g .words) (sym (c .before .before .before .before .setting-number .ensures) ∙ c .before .before .before .if1 .left) _ (c .before .before .cell-count .ensures .0) (c .before .if2 .left) (c .if3 .taken)
 
--- src/make.rt:22:1
 returns-4 : tie.Need-returns-4
 returns-4 c =
     let g = c .before .before .before .before .before .args in
@@ -42,10 +27,10 @@ pub picture-number-spec : {M : Type 1} → statement M
 picture-number-spec =
     tie.close
     (tie.spec
-    setting-number-requires
+    (λ c κs. search needs)
     returns
-    cell-count-requires
+    (λ c κs. search needs)
     returns-2
-    cast-if3
+    (λ c. search needs)
     returns-3
     returns-4)

@@ -1,39 +1,28 @@
 use mathlib.Core.Path.{sym, _∙_}
-use Rattle.archive.proofs.Recoding.{recode-known, recode-number, recode-goes, recode-refused}
+use Rattle.archive.proofs.Recoding.{recode-fitting, recode-number, recode-goes, recode-refused}
 use borrow.Author.Needs.{needs}
 use Rattle.archive.proofs.recode.recoded.Statement.{statement}
 use Rattle.archive.proofs.recode.recoded.Tie as tie
 
--- src/recode.rt:45:9
-sized-requires : tie.Need-sized-requires
-sized-requires c κs = search needs
-
--- src/recode.rt:46:9
 out-number-requires : tie.Need-out-number-requires
 out-number-requires c κs =
     let g = c .before .before .before .args in
     let w = c .before .before .before .pre in
-    recode-known (g .file .now) (g .v) (w .0) (g .x) (g .word) (w .1) (g .s) (w .2) _ (c .sized .ensures)
+    recode-fitting (g .file .now) (g .v) (w .0) (g .x) (g .word) (w .1) (g .s) (w .2) _ (c .sized .ensures)
 
--- src/recode.rt:48:9
 returns : tie.Need-returns
 returns c =
     let g = c .before .before .before .before .before .args in
     let w = c .before .before .before .before .before .pre in
-    recode-refused (g .file .now) (g .x) (g .word) (g .s) (g .dst .now) _ (recode-number (g .file .now) (g .v) (w .0) (g .x) (g .word) (w .1) (g .s) (w .2) _ (c .before .before .sized .ensures) _ _ (c .before .out-number .ensures)) (c .if1 .taken)
+    recode-refused (g .file .now) (g .x) (g .word) (g .s) (g .dst .now) _
+    (recode-number (g .file .now) (g .v) (w .0) (g .x) (g .word) (w .1) (g .s) (w .2) _ (c .before .before .sized .ensures) _ _ (c .before .out-number .ensures)) (c .if1 .taken)
 
--- src/recode.rt:50:5
 put-recoded-requires : tie.Need-put-recoded-requires
 put-recoded-requires c κs =
     let g = c .before .before .before .before .before .before .args in
     let w = c .before .before .before .before .before .before .pre in
     (w .0, w .1, recode-goes (g .file .now) (g .v) (w .0) (g .x) (g .word) (w .1) (g .s) (w .2) _ (c .before .before .before .sized .ensures) _ (sym (c .before .before .out-number .ensures) ∙ c .before .if1 .left))
 
--- src/recode.rt:41:1
-same-length : tie.Need-same-length
-same-length c = search needs
-
--- src/recode.rt:41:1
 returns-2 : tie.Need-returns-2
 returns-2 c =
     let g = c .before .before .before .before .before .before .before .before .before .args in
@@ -47,9 +36,9 @@ pub recoded-spec : {M : Type 1} → statement M
 recoded-spec =
     tie.close
     (tie.spec
-    sized-requires
+    (λ c κs. search needs)
     out-number-requires
     returns
     put-recoded-requires
-    same-length
+    (λ c. search needs)
     returns-2)

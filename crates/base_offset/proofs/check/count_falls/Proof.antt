@@ -3,27 +3,18 @@ use borrow.Author.Needs.{needs}
 use Rattle.base_offset.proofs.check.count_falls.Statement.{statement}
 use Rattle.base_offset.proofs.check.count_falls.Tie as tie
 
--- src/check.rt:79:14
 falls-u8-requires : tie.Need-falls-u8-requires
 falls-u8-requires c κs = rw (c .match .keys1) at (c .before .before .pre)
 
--- src/check.rt:80:14
 falls-u16-requires : tie.Need-falls-u16-requires
 falls-u16-requires c κs = rw (c .match .keys2) at (c .before .before .pre)
 
--- src/check.rt:81:14
-sub-result : tie.Need-sub-result
-sub-result c = search needs
-
--- src/check.rt:74:1
 returns : tie.Need-returns
 returns c = rw (c .before .match .keys1) (c .falls-u8 .ensures)
 
--- src/check.rt:74:1
 returns-2 : tie.Need-returns-2
 returns-2 c = rw (c .before .match .keys2) (c .falls-u16 .ensures)
 
--- src/check.rt:74:1
 returns-3 : tie.Need-returns-3
 returns-3 c =
     let a = c .before .before .args in
@@ -32,4 +23,4 @@ returns-3 c =
 pub count-falls-spec : {M : Type 1} → statement M
 count-falls-spec =
     tie.close
-    (tie.spec falls-u8-requires falls-u16-requires sub-result returns returns-2 returns-3)
+    (tie.spec falls-u8-requires falls-u16-requires (λ c. search needs) returns returns-2 returns-3)

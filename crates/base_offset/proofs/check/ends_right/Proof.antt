@@ -3,7 +3,7 @@ use mathlib.Core.Path.{sym, _∙_}
 use native.Mathlib.Omega.{arith}
 use lib.ListN.{length}
 use Rattle.wire.specs.Wire.{entrySize}
-use Rattle.base_offset.proofs.Places.{entries-fit}
+use Rattle.base_offset.proofs.Rule.{entries-fit}
 use Rattle.base_offset.proofs.OneGroup.{room, ends-past, ends-first, ends-last}
 use borrow.Author.Needs.{needs}
 use Rattle.base_offset.proofs.check.ends_right.Statement.{statement}
@@ -24,15 +24,6 @@ returns-2 c =
     let a = c .before .before .before .before .args in
     ends-first (entrySize (a .width)) (a .n) (a .at) (a .base) (a .next) (a .file .now) (c .before .before .before .before .pre .0)
     (λ q. c .if2 .taken (c .before .get-entry .ensures .0 ∙ q))
-
-entry-size-requires : tie.Need-entry-size-requires
-entry-size-requires c κs = search needs
-
-sub-last : tie.Need-sub-last
-sub-last c = search needs
-
-cast-last : tie.Need-cast-last
-cast-last c = search needs
 
 mul-last : tie.Need-mul-last
 mul-last c =
@@ -55,9 +46,6 @@ get-entry-requires-2 c κs =
     let r = room (entrySize (a .width)) (a .n) (a .at) (length (a .file .now)) (p .0) (p .1) .1 in
     rw (c .entry-size .ensures .0) (omega arith)
 
-sub-result : tie.Need-sub-result
-sub-result c = search needs
-
 returns-3 : tie.Need-returns-3
 returns-3 c =
     let a = c .before .before .before .before .before .before .args in
@@ -72,11 +60,11 @@ ends-right-spec =
     returns
     get-entry-requires
     returns-2
-    entry-size-requires
-    sub-last
-    cast-last
+    (λ c κs. search needs)
+    (λ c. search needs)
+    (λ c. search needs)
     mul-last
     add-last
     get-entry-requires-2
-    sub-result
+    (λ c. search needs)
     returns-3)

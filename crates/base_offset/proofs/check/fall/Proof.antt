@@ -3,11 +3,9 @@ use Rattle.base_offset.proofs.Falls.{fall-no, fall-yes}
 use Rattle.base_offset.proofs.check.fall.Statement.{statement}
 use Rattle.base_offset.proofs.check.fall.Tie as tie
 
--- src/check.rt:31:1
 returns : tie.Need-returns
 returns c = (fall-no _ _ (c .if1 .taken), omega arith)
 
--- src/check.rt:31:1
 returns-2 : tie.Need-returns-2
 returns-2 c = (fall-yes _ _ (c .if1 .left), omega arith)
 

@@ -18,50 +18,12 @@ Inv-loop file at n place₀ left₀ count₀ place left count =
 abbrev μ-loop : tie.MeasureT-loop
 μ-loop file at n place₀ left₀ count₀ place left count = left
 
--- src/check.rt:43:20
-sub-left : tie.Need-sub-left Inv-loop μ-loop
-sub-left c = search needs
-
--- src/check.rt:45:5
 loop-holds : tie.Need-loop-holds Inv-loop μ-loop
 loop-holds c =
     let a = c .before .args in
     let p = c .before .pre in
     (omega arith, omega arith, falls-start 1 (a .n) (a .at) (a .file .now) (p .0))
 
--- src/check.rt:46:13
-get-u8-requires : tie.Need-get-u8-requires Inv-loop μ-loop
-get-u8-requires c κs = search needs
-
--- src/check.rt:47:30
-add-get-u8 : tie.Need-add-get-u8 Inv-loop μ-loop
-add-get-u8 c = search needs
-
--- src/check.rt:47:13
-get-u8-requires-2 : tie.Need-get-u8-requires-2 Inv-loop μ-loop
-get-u8-requires-2 c κs = search needs
-
--- src/check.rt:48:18
-fall-requires : tie.Need-fall-requires Inv-loop μ-loop
-fall-requires c κs = search needs
-
--- src/check.rt:48:9
-add-count : tie.Need-add-count Inv-loop μ-loop
-add-count c = search needs
-
--- src/check.rt:49:9
-add-place : tie.Need-add-place Inv-loop μ-loop
-add-place c = search needs
-
--- src/check.rt:50:9
-sub-left-2 : tie.Need-sub-left-2 Inv-loop μ-loop
-sub-left-2 c = search needs
-
--- src/check.rt:45:5
-loop-less : tie.Need-loop-less Inv-loop μ-loop
-loop-less c = search needs
-
--- src/check.rt:45:5
 loop-again : tie.Need-loop-again Inv-loop μ-loop
 loop-again c =
     let a = c .before .before .before .before .before .before .args in
@@ -74,7 +36,6 @@ loop-again c =
           (falls-turn 1 (l .left) (l .place) (l .count) (a .file .now) t ∙ l .inv .2),
     )
 
--- src/check.rt:38:1
 returns : tie.Need-returns Inv-loop μ-loop
 returns c =
     let a = c .before .before .before .args in
@@ -87,15 +48,15 @@ falls-u8-spec =
     (tie.spec
     Inv-loop
     μ-loop
-    sub-left
+    (λ c. search needs)
     loop-holds
-    get-u8-requires
-    add-get-u8
-    get-u8-requires-2
-    fall-requires
-    add-count
-    add-place
-    sub-left-2
-    loop-less
+    (λ c κs. search needs)
+    (λ c. search needs)
+    (λ c κs. search needs)
+    (λ c κs. search needs)
+    (λ c. search needs)
+    (λ c. search needs)
+    (λ c. search needs)
+    (λ c. search needs)
     loop-again
     returns)

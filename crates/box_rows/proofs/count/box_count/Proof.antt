@@ -65,24 +65,6 @@ next c =
 loop-holds : tie.Need-loop-holds Inv-loop μ-loop
 loop-holds c = (omega arith, rw one-mul (le-refl _), refl)
 
-mul-e : tie.Need-mul-e Inv-loop μ-loop
-mul-e c = search needs
-
-array-read-e : tie.Need-array-read-e Inv-loop μ-loop
-array-read-e c = search needs
-
-mul-l : tie.Need-mul-l Inv-loop μ-loop
-mul-l c = search needs
-
-array-read-l : tie.Need-array-read-l Inv-loop μ-loop
-array-read-l c = search needs
-
-mul-h : tie.Need-mul-h Inv-loop μ-loop
-mul-h c = search needs
-
-array-read-h : tie.Need-array-read-h Inv-loop μ-loop
-array-read-h c = search needs
-
 returns : tie.Need-returns Inv-loop μ-loop
 returns c =
     let s = c .before .before .before .before in
@@ -105,12 +87,6 @@ add-count c =
 
 mul-count : tie.Need-mul-count Inv-loop μ-loop
 mul-count c = let h = next c in record { fits = omega arith }
-
-add-i : tie.Need-add-i Inv-loop μ-loop
-add-i c = search needs
-
-loop-less : tie.Need-loop-less Inv-loop μ-loop
-loop-less c = search needs
 
 loop-again : tie.Need-loop-again Inv-loop μ-loop
 loop-again c =
@@ -140,17 +116,17 @@ box-count-spec =
     Inv-loop
     μ-loop
     loop-holds
-    mul-e
-    array-read-e
-    mul-l
-    array-read-l
-    mul-h
-    array-read-h
+    (λ c. search needs)
+    (λ c. search needs)
+    (λ c. search needs)
+    (λ c. search needs)
+    (λ c. search needs)
+    (λ c. search needs)
     returns
     returns-2
     add-count
     mul-count
-    add-i
-    loop-less
+    (λ c. search needs)
+    (λ c. search needs)
     loop-again
     returns-3)

@@ -16,17 +16,8 @@ abbrev μ-loop : tie.MeasureT-loop
 loop-holds : tie.Need-loop-holds Inv-loop μ-loop
 loop-holds c = (same-start (c .args .r) (search needs, search needs, search needs) (c .pre), omega arith)
 
-array-read-if1 : tie.Need-array-read-if1 Inv-loop μ-loop
-array-read-if1 c = search needs
-
 returns : tie.Need-returns Inv-loop μ-loop
 returns c = c .before .before .before .before .before .loop .inv .0
-
-array-read-if2 : tie.Need-array-read-if2 Inv-loop μ-loop
-array-read-if2 c = search needs
-
-array-read-if2-2 : tie.Need-array-read-if2-2 Inv-loop μ-loop
-array-read-if2-2 c = search needs
 
 sub-if2 : tie.Need-sub-if2 Inv-loop μ-loop
 sub-if2 c =
@@ -46,12 +37,6 @@ merged-requires c κs =
     let w = c .if2 .left in
     (same-placed (s .args .r) (l .r) (s .pre) (l .inv .0), z, omega arith)
 
-add-n : tie.Need-add-n Inv-loop μ-loop
-add-n c = search needs
-
-loop-less : tie.Need-loop-less Inv-loop μ-loop
-loop-less c = search needs
-
 loop-again : tie.Need-loop-again Inv-loop μ-loop
 loop-again c =
     let s = c .before .before .before .before .before .before .before .before in
@@ -69,14 +54,14 @@ long-rows-spec =
     Inv-loop
     μ-loop
     loop-holds
-    array-read-if1
+    (λ c. search needs)
     returns
-    array-read-if2
-    array-read-if2-2
+    (λ c. search needs)
+    (λ c. search needs)
     sub-if2
     returns-2
     merged-requires
-    add-n
-    loop-less
+    (λ c. search needs)
+    (λ c. search needs)
     loop-again
     returns-3)

@@ -9,32 +9,11 @@ use Rattle.box_rows.proofs.region.merged.Tie as tie
 four : (c : tie.Start) → Four (c .args .r)
 four c = (search needs, search needs, search needs)
 
-array-read-row : tie.Need-array-read-row
-array-read-row c = search needs
-
-array-read-t8 : tie.Need-array-read-t8
-array-read-t8 c = search needs
-
-array-read-t13 : tie.Need-array-read-t13
-array-read-t13 c = search needs
-
-array-read-t16 : tie.Need-array-read-t16
-array-read-t16 c = search needs
-
 mul-t17 : tie.Need-mul-t17
 mul-t17 c =
     let s = c .before .before .before in
     let k = row-few (s .args .r) (four s) (s .pre .0) in
     record { fits = omega arith }
-
-array-read-t21 : tie.Need-array-read-t21
-array-read-t21 c = search needs
-
-array-read-t24 : tie.Need-array-read-t24
-array-read-t24 c = search needs
-
-array-read-t27 : tie.Need-array-read-t27
-array-read-t27 c = search needs
 
 mul-t28 : tie.Need-mul-t28
 mul-t28 c =
@@ -44,24 +23,12 @@ mul-t28 c =
     let h = row-high (s .args .r) (four s) (s .pre .0) in
     record { fits = omega arith }
 
-array-read-t32 : tie.Need-array-read-t32
-array-read-t32 c = search needs
-
-array-read-t35 : tie.Need-array-read-t35
-array-read-t35 c = search needs
-
-array-read-t38 : tie.Need-array-read-t38
-array-read-t38 c = search needs
-
 mul-t39 : tie.Need-mul-t39
 mul-t39 c =
     let s = c .before .before .before in
     let k = row-few (s .args .r) (four s) (s .pre .0) in
     let h = row-high (s .args .r) (four s) (s .pre .0) in
     record { fits = omega arith }
-
-array-read-t42 : tie.Need-array-read-t42
-array-read-t42 c = search needs
 
 add-t43 : tie.Need-add-t43
 add-t43 c =
@@ -79,19 +46,19 @@ pub merged-spec : {M : Type 1} → statement M
 merged-spec =
     tie.close
     (tie.spec
-    array-read-row
-    array-read-t8
-    array-read-t13
-    array-read-t16
+    (λ c. search needs)
+    (λ c. search needs)
+    (λ c. search needs)
+    (λ c. search needs)
     mul-t17
-    array-read-t21
-    array-read-t24
-    array-read-t27
+    (λ c. search needs)
+    (λ c. search needs)
+    (λ c. search needs)
     mul-t28
-    array-read-t32
-    array-read-t35
-    array-read-t38
+    (λ c. search needs)
+    (λ c. search needs)
+    (λ c. search needs)
     mul-t39
-    array-read-t42
+    (λ c. search needs)
     add-t43
     returns)

@@ -3,14 +3,8 @@ use borrow.Author.Needs.{needs}
 use Rattle.box_rows.proofs.resume.empty_ahead.Statement.{statement}
 use Rattle.box_rows.proofs.resume.empty_ahead.Tie as tie
 
-returns : tie.Need-returns
-returns c = search needs
-
 sub-ahead : tie.Need-sub-ahead
 sub-ahead c = let h = c .before .before .before .before .pre (c .before .if1 .left) in omega arith
-
-cast-ahead : tie.Need-cast-ahead
-cast-ahead c = search needs
 
 returns-2 : tie.Need-returns-2
 returns-2 c =
@@ -23,4 +17,4 @@ returns-3 c =
     (omega arith, λ n. omega arith, λ n. omega arith)
 
 pub empty-ahead-spec : {M : Type 1} → statement M
-empty-ahead-spec = tie.close (tie.spec returns sub-ahead cast-ahead returns-2 returns-3)
+empty-ahead-spec = tie.close (tie.spec (λ c. search needs) sub-ahead (λ c. search needs) returns-2 returns-3)

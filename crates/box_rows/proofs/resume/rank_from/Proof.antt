@@ -6,9 +6,6 @@ use borrow.Author.Needs.{needs}
 use Rattle.box_rows.proofs.resume.rank_from.Statement.{statement}
 use Rattle.box_rows.proofs.resume.rank_from.Tie as tie
 
-seek-requires : tie.Need-seek-requires
-seek-requires c κs = search needs
-
 returns : tie.Need-returns
 returns c =
     let s = c .before .before .before .before .before .before .before .before in
@@ -30,4 +27,4 @@ returns-3 c =
     (sought-none (s .args .file .now) (s .args .v) (s .pre .0) (r .result) _ (r .ensures .ready) (s .pre .1) (c .if1 .left), r .ensures)
 
 pub rank-from-spec : {M : Type 1} → statement M
-rank-from-spec = tie.close (tie.spec seek-requires returns returns-2 returns-3)
+rank-from-spec = tie.close (tie.spec (λ c κs. search needs) returns returns-2 returns-3)

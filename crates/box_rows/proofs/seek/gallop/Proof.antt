@@ -14,18 +14,6 @@ Inv-loop file v from p low₀ step₀ low step = (low < v .words) × (1 ≤ step
 abbrev μ-loop : tie.MeasureT-loop
 μ-loop file v from p low₀ step₀ low step = v .words - low
 
-loop-holds : tie.Need-loop-holds Inv-loop μ-loop
-loop-holds c = search needs
-
-sub-if1 : tie.Need-sub-if1 Inv-loop μ-loop
-sub-if1 c = search needs
-
-add-next : tie.Need-add-next Inv-loop μ-loop
-add-next c = search needs
-
-stored-position-requires : tie.Need-stored-position-requires Inv-loop μ-loop
-stored-position-requires c κs = search needs
-
 returns : tie.Need-returns Inv-loop μ-loop
 returns c =
     let l = c .before .before .before .before .before .before .loop in
@@ -45,9 +33,6 @@ mul-step c =
     let taken = c .before .before .before .before .if1 .taken in
     record { fits = omega arith }
 
-loop-less : tie.Need-loop-less Inv-loop μ-loop
-loop-less c = search needs
-
 loop-again : tie.Need-loop-again Inv-loop μ-loop
 loop-again c =
     let taken = c .before .before .before .before .if1 .taken in
@@ -65,12 +50,12 @@ gallop-spec =
     (tie.spec
     Inv-loop
     μ-loop
-    loop-holds
-    sub-if1
-    add-next
-    stored-position-requires
+    (λ c. search needs)
+    (λ c. search needs)
+    (λ c. search needs)
+    (λ c κs. search needs)
     returns
     mul-step
-    loop-less
+    (λ c. search needs)
     loop-again
     returns-2)

@@ -1,13 +1,10 @@
 use mathlib.Core.Path.{_≡_, sym, _∙_}
 use Rattle.format.specs.Signals.{BEYOND}
 use Rattle.format.specs.Accepted.{checkNumber}
-use Rattle.handed.proofs.Range.{first-refused}
+use Rattle.checked.proofs.Number.{first-refused}
 use borrow.Author.Needs.{needs}
 use Rattle.exports.proofs.boxes.corner_number.Statement.{statement}
 use Rattle.exports.proofs.boxes.corner_number.Tie as tie
-
-check-requires : tie.Need-check-requires
-check-requires c κs = search needs
 
 returns : tie.Need-returns
 returns c = first-refused (c .before .check .result) _ BEYOND (c .before .check .ensures .number) (c .if1 .taken)
@@ -18,4 +15,9 @@ returns-2 c =
     rw z
 
 pub corner-number-spec : {M : Type 1} → statement M
-corner-number-spec = tie.close (tie.spec check-requires returns returns-2)
+corner-number-spec =
+    tie.close
+    (tie.spec
+    (λ c κs. search needs)
+    returns
+    returns-2)

@@ -8,29 +8,17 @@ use borrow.Author.Needs.{needs}
 use Rattle.exports.proofs.coordinates.ra_coordinates_position.Statement.{statement}
 use Rattle.exports.proofs.coordinates.ra_coordinates_position.Tie as tie
 
-code-and-value-requires : tie.Need-code-and-value-requires
-code-and-value-requires c κs = search needs
-
 returns : tie.Need-returns
 returns c =
     let a = c .before .before .before .before .args in
     let d = dimensions (a .dims) (a .extents .now) in
     record { answer = refused EXTENT; right = position-extent d (a .at .now) (no-count d (c .before .if1 .taken)); code = c .code-and-value .ensures }
 
-four-requires : tie.Need-four-requires
-four-requires c κs = search needs
-
-cell-count-requires : tie.Need-cell-count-requires
-cell-count-requires c κs = search needs
-
 -- the count of the extents as they were lent
 cells-counted : (c : tie.After-cell-count) → c .cell-count .result ≡ countOf (dimensions (c .before .before .before .before .before .args .dims) (c .before .before .before .before .before .args .extents .now))
 cells-counted c =
     let a = c .before .before .before .before .before .args in
     same-extents (a .dims) _ (a .extents .now) (c .before .four .ensures) countOf (c .cell-count .ensures .0)
-
-code-and-value-requires-2 : tie.Need-code-and-value-requires-2
-code-and-value-requires-2 c κs = search needs
 
 returns-2 : tie.Need-returns-2
 returns-2 c =
@@ -41,9 +29,6 @@ returns-2 c =
       code = c .code-and-value2 .ensures;
     }
 
-code-and-value-requires-3 : tie.Need-code-and-value-requires-3
-code-and-value-requires-3 c κs = search needs
-
 returns-3 : tie.Need-returns-3
 returns-3 c =
     let a = c .before .before .before .before .before .before .before .before .args in
@@ -52,15 +37,6 @@ returns-3 c =
       right = position-not-four (dimensions (a .dims) (a .extents .now)) (a .at .now) (λ z. c .before .before .if2 .left (cells-counted (c .before .before .before) ∙ z)) (c .before .if3 .taken);
       code = c .code-and-value3 .ensures;
     }
-
-four-requires-2 : tie.Need-four-requires-2
-four-requires-2 c κs = search needs
-
-position-at-requires : tie.Need-position-at-requires
-position-at-requires c κs = search needs
-
-position-code-requires : tie.Need-position-code-requires
-position-code-requires c κs = search needs
 
 returns-4 : tie.Need-returns-4
 returns-4 c =
@@ -79,15 +55,15 @@ pub ra-coordinates-position-spec : {M : Type 1} → statement M
 ra-coordinates-position-spec =
     tie.close
     (tie.spec
-    code-and-value-requires
+    (λ c κs. search needs)
     returns
-    four-requires
-    cell-count-requires
-    code-and-value-requires-2
+    (λ c κs. search needs)
+    (λ c κs. search needs)
+    (λ c κs. search needs)
     returns-2
-    code-and-value-requires-3
+    (λ c κs. search needs)
     returns-3
-    four-requires-2
-    position-at-requires
-    position-code-requires
+    (λ c κs. search needs)
+    (λ c κs. search needs)
+    (λ c κs. search needs)
     returns-4)

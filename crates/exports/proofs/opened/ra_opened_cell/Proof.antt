@@ -7,11 +7,6 @@ use borrow.Author.Needs.{needs}
 use Rattle.exports.proofs.opened.ra_opened_cell.Statement.{statement}
 use Rattle.exports.proofs.opened.ra_opened_cell.Tie as tie
 
--- src/opened.rt:22:9
-code-and-value-requires : tie.Need-code-and-value-requires
-code-and-value-requires c κs = search needs
-
--- src/opened.rt:22:9
 returns : tie.Need-returns
 returns c =
     let g = c .before .before .before .args in
@@ -22,19 +17,6 @@ returns c =
       code = c .code-and-value .ensures;
     }
 
--- src/opened.rt:24:29
-read-view-requires : tie.Need-read-view-requires
-read-view-requires c κs = search needs
-
--- src/opened.rt:24:15
-cell-in-requires : tie.Need-cell-in-requires
-cell-in-requires c κs = search needs
-
--- src/opened.rt:24:5
-cell-code-requires : tie.Need-cell-code-requires
-cell-code-requires c κs = search needs
-
--- src/opened.rt:17:1
 returns-2 : tie.Need-returns-2
 returns-2 c =
     let g = c .before .before .before .before .before .args in
@@ -51,9 +33,9 @@ pub ra-opened-cell-spec : {M : Type 1} → statement M
 ra-opened-cell-spec =
     tie.close
     (tie.spec
-    code-and-value-requires
+    (λ c κs. search needs)
     returns
-    read-view-requires
-    cell-in-requires
-    cell-code-requires
+    (λ c κs. search needs)
+    (λ c κs. search needs)
+    (λ c κs. search needs)
     returns-2)

@@ -7,11 +7,6 @@ use borrow.Author.Needs.{needs}
 use Rattle.exports.proofs.opened.ra_opened_position.Statement.{statement}
 use Rattle.exports.proofs.opened.ra_opened_position.Tie as tie
 
--- src/opened.rt:44:9
-code-and-value-requires : tie.Need-code-and-value-requires
-code-and-value-requires c κs = search needs
-
--- src/opened.rt:44:9
 returns : tie.Need-returns
 returns c =
     let g = c .before .before .before .args in
@@ -22,19 +17,6 @@ returns c =
       code = c .code-and-value .ensures;
     }
 
--- src/opened.rt:46:37
-read-view-requires : tie.Need-read-view-requires
-read-view-requires c κs = search needs
-
--- src/opened.rt:46:19
-position-in-requires : tie.Need-position-in-requires
-position-in-requires c κs = search needs
-
--- src/opened.rt:46:5
-position-code-requires : tie.Need-position-code-requires
-position-code-requires c κs = search needs
-
--- src/opened.rt:39:1
 returns-2 : tie.Need-returns-2
 returns-2 c =
     let g = c .before .before .before .before .before .args in
@@ -51,9 +33,9 @@ pub ra-opened-position-spec : {M : Type 1} → statement M
 ra-opened-position-spec =
     tie.close
     (tie.spec
-    code-and-value-requires
+    (λ c κs. search needs)
     returns
-    read-view-requires
-    position-in-requires
-    position-code-requires
+    (λ c κs. search needs)
+    (λ c κs. search needs)
+    (λ c κs. search needs)
     returns-2)

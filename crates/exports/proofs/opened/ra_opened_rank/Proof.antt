@@ -8,11 +8,6 @@ use borrow.Author.Needs.{needs}
 use Rattle.exports.proofs.opened.ra_opened_rank.Statement.{statement}
 use Rattle.exports.proofs.opened.ra_opened_rank.Tie as tie
 
--- src/opened.rt:33:9
-code-and-value-requires : tie.Need-code-and-value-requires
-code-and-value-requires c κs = search needs
-
--- src/opened.rt:33:9
 returns : tie.Need-returns
 returns c =
     let g = c .before .before .before .args in
@@ -23,19 +18,6 @@ returns c =
       code = c .code-and-value .ensures;
     }
 
--- src/opened.rt:35:29
-read-view-requires : tie.Need-read-view-requires
-read-view-requires c κs = search needs
-
--- src/opened.rt:35:15
-rank-in-requires : tie.Need-rank-in-requires
-rank-in-requires c κs = search needs
-
--- src/opened.rt:35:5
-rank-code-requires : tie.Need-rank-code-requires
-rank-code-requires c κs = search needs
-
--- src/opened.rt:28:1
 returns-2 : tie.Need-returns-2
 returns-2 c =
     let g = c .before .before .before .before .before .args in
@@ -52,9 +34,9 @@ pub ra-opened-rank-spec : {M : Type 1} → statement M
 ra-opened-rank-spec =
     tie.close
     (tie.spec
-    code-and-value-requires
+    (λ c κs. search needs)
     returns
-    read-view-requires
-    rank-in-requires
-    rank-code-requires
+    (λ c κs. search needs)
+    (λ c κs. search needs)
+    (λ c κs. search needs)
     returns-2)

@@ -4,11 +4,6 @@ use borrow.Author.Needs.{needs}
 use Rattle.exports.proofs.writing.ra_make.Statement.{statement}
 use Rattle.exports.proofs.writing.ra_make.Tie as tie
 
--- src/writing.rt:29:13
-setting-number-requires : tie.Need-setting-number-requires
-setting-number-requires c κs = search needs
-
--- src/writing.rt:31:13
 returns : tie.Need-returns
 returns c =
     let g = c .before .before .before .before .before .before .args in
@@ -16,7 +11,6 @@ returns c =
     let d = dimensions (g .dims) (g .extents .now) in
     four-setting s d (g .empty) (g .words .now) (g .dst .now) (c .before .before .if1 .taken) _ (c .before .setting-number .ensures) (c .if2 .taken)
 
--- src/writing.rt:33:9
 returns-2 : tie.Need-returns-2
 returns-2 c =
     let g = c .before .before .before .before .before .before .args in
@@ -24,19 +18,6 @@ returns-2 c =
     let d = dimensions (g .dims) (g .extents .now) in
     four-extent s d (g .empty) (g .words .now) (g .dst .now) (c .before .before .if1 .taken) _ (c .before .setting-number .ensures) (c .if2 .left)
 
--- src/writing.rt:37:18
-four-requires : tie.Need-four-requires
-four-requires c κs = search needs
-
--- src/writing.rt:39:5
-make-requires : tie.Need-make-requires
-make-requires c κs = search needs
-
--- src/writing.rt:14:1
-same-length : tie.Need-same-length
-same-length c = search needs
-
--- src/writing.rt:14:1
 returns-3 : tie.Need-returns-3
 returns-3 c =
     let g = c .before .before .before .before .before .before .before .before .before .args in
@@ -47,10 +28,10 @@ pub ra-make-spec : {M : Type 1} → statement M
 ra-make-spec =
     tie.close
     (tie.spec
-    setting-number-requires
+    (λ c κs. search needs)
     returns
     returns-2
-    four-requires
-    make-requires
-    same-length
+    (λ c κs. search needs)
+    (λ c κs. search needs)
+    (λ c. search needs)
     returns-3)

@@ -3,7 +3,7 @@ use Prim.Native.Nat.{_+_, _*_, _≤_}
 use mathlib.Core.Path.{_≡_}
 use native.Mathlib.Omega.{arith}
 use lib.ListN.{length}
-use Rattle.jumps.proofs.Entries.{other-width}
+use Rattle.wire.proofs.Laws.{other-width}
 use Rattle.jumps.proofs.check.difference.Statement.{statement}
 use Rattle.jumps.proofs.check.difference.Tie as tie
 

@@ -3,41 +3,40 @@ use mathlib.Core.Path.{_≡_, sym, _∙_}
 use mathlib.Core.Bool.{Bool, true, false}
 use borrow.Author.Tests.{not-true, not-false}
 use Rattle.format.specs.Tools.{both}
-use Rattle.header.specs.Body.{partsRight}
-use Rattle.header.proofs.Body.{below-elements}
+use Rattle.format.specs.Jumps.{jumpsKind}
+use Rattle.wire.proofs.Laws.{other-width}
+use Rattle.parts.specs.Holds.{partsRight}
 use Rattle.jumps.specs.Pass.{passesFrom}
-use Rattle.jumps.proofs.Entries.{right, other-width}
+use Rattle.jumps.proofs.Held.{laid}
+use Rattle.laws.proofs.Bounds.{below-elements}
 use Rattle.jumps.proofs.Parts.{parts-split}
 use borrow.Author.Needs.{needs}
 use Rattle.jumps.proofs.check.parts_right.Statement.{statement}
 use Rattle.jumps.proofs.check.parts_right.Tie as tie
 
 split : (c : tie.After-starts-right)
-    → let a = c .before .before .before .args in
-    (t : Bool) → c .starts-right .result ≡ t → partsRight (a .file .now) ≡ both t (passesFrom (a .v) (a .file .now) 0 0 0)
+    → let a = c .before .before .args in
+    (t : Bool) → c .starts-right .result ≡ t → partsRight (jumpsKind (a .v .width) (a .v .step)) (a .file .now) (a .v) ≡ both t (passesFrom (a .v) (a .file .now) 0 0 0)
 split c t e =
-    let a = c .before .before .before in
-    let s = below-elements 256 (a .args .file .now) (λ i. c .before .before .shared-slice-known .given i .fits) in
+    let a = c .before .before in
+    let s = below-elements 256 (a .args .file .now) (λ i. c .before .shared-slice-known .given i .fits) in
     parts-split (a .args .file .now) (a .args .v) s (a .pre) t (sym e ∙ c .starts-right .ensures)
 
-second-at-requires : tie.Need-second-at-requires
-second-at-requires c κs = search needs
-
 starts-right-requires : tie.Need-starts-right-requires
-starts-right-requires c κs = search needs
+starts-right-requires c κs = laid _ _ (c .before .pre)
 
 returns : tie.Need-returns
 returns c = sym (split (c .before) false (not-true _ (c .if1 .taken)))
 
 pass-requires : tie.Need-pass-requires
-pass-requires c κs = search needs
+pass-requires c κs = let z = laid _ _ (c .before .before .before .before .before .pre) in search needs
 
 returns-2 : tie.Need-returns-2
 returns-2 c = let s = c .before .before .before in c .pass .ensures ∙ sym (split (s .before) true (not-false _ (s .if1 .left)))
 
 pass-requires-2 : tie.Need-pass-requires-2
 pass-requires-2 c κs =
-    let z = right _ _ (c .before .before .before .before .before .before .pre) in
+    let z = laid _ _ (c .before .before .before .before .before .pre) in
     let e = other-width _ (z .narrow) (z .wide) (c .if2 .left) in
     search needs
 
@@ -48,7 +47,6 @@ pub parts-right-spec : {M : Type 1} → statement M
 parts-right-spec =
     tie.close
     (tie.spec
-    second-at-requires
     starts-right-requires
     returns
     pass-requires

@@ -6,65 +6,43 @@ use native.Mathlib.Omega.{arith}
 use lib.Arith.{lt-of-le-ne}
 use lib.ListN.{length}
 use Rattle.format.specs.Bytes.{field}
-use Rattle.header.specs.View.{secondPlace}
-use Rattle.jumps.specs.Pass.{passesFrom}
-use Rattle.jumps.proofs.Entries.{Right, right, reach-most}
-use Rattle.jumps.proofs.Turns.{entry-of, entry-room, over, over-jump, turn-difference, turn-none, turn-near, turn-jump}
+use Rattle.jumps.specs.Pass.{Laid, passesFrom}
+use Rattle.jumps.proofs.Turns.{reach-most}
+use Rattle.jumps.proofs.Turns.{entry-room, over, over-jump, turn-difference, turn-none, turn-near, turn-jump}
 use borrow.Author.Needs.{needs}
 use Rattle.jumps.proofs.check.pass.Statement.{statement}
 use Rattle.jumps.proofs.check.pass.Tie as tie
 
 -- i ranks and `taken` jumps are passed, and what is left tells the whole
 abbrev Inv-loop : tie.InvT-loop
-Inv-loop file v second width reach n firsts least₀ taken₀ i₀ least taken i =
+Inv-loop file v width reach n firsts start second least₀ taken₀ i₀ least taken i =
     (i ≤ n) × (taken ≤ firsts) × (least ≤ 4295032832 + 65536 * i) × (passesFrom v file least taken i ≡ passesFrom v file 0 0 0)
 
 abbrev μ-loop : tie.MeasureT-loop
-μ-loop file v second width reach n firsts least₀ taken₀ i₀ least taken i = n - i
+μ-loop file v width reach n firsts start second least₀ taken₀ i₀ least taken i = n - i
 
 -- where a turn comes from
 abbrev start : tie.In-loop Inv-loop μ-loop → tie.Start Inv-loop μ-loop
-start c = c .before .before .before .before .before
+start c = c .before .before .before .before .before .before .before
 
 -- the header's counts and places, and what a difference reaches
-frame : (c : tie.In-loop Inv-loop μ-loop) → Right (start c .args .file .now) (start c .args .v)
-frame c = right _ _ (start c .pre .0)
+frame : (c : tie.In-loop Inv-loop μ-loop) → Laid (start c .args .file .now) (start c .args .v)
+frame c = start c .pre .0
 
 reach-of : (c : tie.Start Inv-loop μ-loop) → c .args .reach ≡ 256 ^ c .args .v .width
-reach-of c = c .pre .3 ∙ ap (λ (w : ℕ). 256 ^ w) (c .pre .2)
+reach-of c = c .pre .2 ∙ ap (λ (w : ℕ). 256 ^ w) (c .pre .1)
 
 reaches : (c : tie.Start Inv-loop μ-loop) → c .args .reach ≤ 65536
-reaches c = reach-most (reach-of c) (right _ _ (c .pre .0) .wide)
+reaches c = reach-most (reach-of c) (c .pre .0 .wide)
 
 -- the difference read is the entry of rank i
 entry : (c : tie.After-difference Inv-loop μ-loop)
     → let v = start (c .before) .args .v in
-    c .difference .result ≡ field (v .width) (secondPlace v + v .width * c .before .before .loop .i) (start (c .before) .args .file .now)
-entry c = let p = start (c .before) .pre in entry-of _ _ _ (p .2) (p .1) (c .difference .ensures .0)
-
-cast-n : tie.Need-cast-n Inv-loop μ-loop
-cast-n c = search needs
-
-cast-firsts : tie.Need-cast-firsts Inv-loop μ-loop
-cast-firsts c = search needs
-
-loop-holds : tie.Need-loop-holds Inv-loop μ-loop
-loop-holds c = search needs
+    c .difference .result ≡ field (v .width) (v .second + v .width * c .before .before .loop .i) (start (c .before) .args .file .now)
+entry c = rw (start (c .before) .pre .1) at (c .difference .ensures .0)
 
 difference-requires : tie.Need-difference-requires Inv-loop μ-loop
-difference-requires c κs = let p = start c .pre in entry-room _ _ (c .before .loop .i) (frame c) (p .2) (p .1) (c .loop-test .taken)
-
-add-i : tie.Need-add-i Inv-loop μ-loop
-add-i c = search needs
-
-cast-least : tie.Need-cast-least Inv-loop μ-loop
-cast-least c = search needs
-
-add-least : tie.Need-add-least Inv-loop μ-loop
-add-least c = search needs
-
-loop-less : tie.Need-loop-less Inv-loop μ-loop
-loop-less c = search needs
+difference-requires c κs = entry-room _ _ (c .before .loop .i) (frame c) (start c .pre .1) (c .loop-test .taken)
 
 loop-again : tie.Need-loop-again Inv-loop μ-loop
 loop-again c =
@@ -86,7 +64,7 @@ returns c =
 more : (c : tie.Else2 Inv-loop μ-loop) → c .before .before .before .before .loop .taken < start (c .before .before .before) .args .v .firsts
 more c = lt-of-le-ne (c .before .before .before .before .loop .inv .1) (c .if2 .left)
 
-inside : (c : tie.Else2 Inv-loop μ-loop) → 52 + 4 * c .before .before .before .before .loop .taken + 4 ≤ length (start (c .before .before .before) .args .file .now)
+inside : (c : tie.Else2 Inv-loop μ-loop) → start (c .before .before .before) .args .v .start + 4 * c .before .before .before .before .loop .taken + 4 ≤ length (start (c .before .before .before) .args .file .now)
 inside c = let m = more c in let z = frame (c .before .before .before) in omega arith
 
 mul-get-u32 : tie.Need-mul-get-u32 Inv-loop μ-loop
@@ -98,9 +76,6 @@ add-get-u32 c = let h = inside c in omega arith
 get-u32-requires : tie.Need-get-u32-requires Inv-loop μ-loop
 get-u32-requires c κs = inside c
 
-cast-jump : tie.Need-cast-jump Inv-loop μ-loop
-cast-jump c = search needs
-
 returns-2 : tie.Need-returns-2 Inv-loop μ-loop
 returns-2 c =
     let t = c .before .before .before .before .before in
@@ -111,14 +86,8 @@ returns-2 c =
     let z = c .before .before .before .if1 .left in
     sym (turn-near (a .v) (a .file .now) (l .least) (l .taken) (l .i) (t .loop-test .taken) q z k (c .before .get-u32 .ensures .0) (c .if3 .taken)) ∙ l .inv .3
 
-add-taken : tie.Need-add-taken Inv-loop μ-loop
-add-taken c = search needs
-
 add-least-2 : tie.Need-add-least-2 Inv-loop μ-loop
 add-least-2 c = let m = reaches (start (c .before .before .before .before .before)) in let r = c .before .get-u32 .ensures .1 in omega arith
-
-loop-less-2 : tie.Need-loop-less-2 Inv-loop μ-loop
-loop-less-2 c = search needs
 
 loop-again-2 : tie.Need-loop-again-2 Inv-loop μ-loop
 loop-again-2 c =
@@ -136,19 +105,16 @@ loop-again-2 c =
 
 returns-3 : tie.Need-returns-3 Inv-loop μ-loop
 returns-3 c =
-    let a = c .before .before .before .before .before .before .args in
+    let a = c .before .before .before .before .before .before .before .before .args in
     let l = c .before .before .loop in
     sym (over-jump (a .v) (a .file .now) (l .least) (l .taken) (l .i) (c .before .loop-test .left) (lt-of-le-ne (l .inv .1) (c .if4 .taken))) ∙ l .inv .3
 
-cast-result : tie.Need-cast-result Inv-loop μ-loop
-cast-result c = search needs
-
 add-result : tie.Need-add-result Inv-loop μ-loop
-add-result c = let m = reaches (c .before .before .before .before .before .before .before) in omega arith
+add-result c = let m = reaches (c .before .before .before .before .before .before .before .before .before) in omega arith
 
 returns-4 : tie.Need-returns-4 Inv-loop μ-loop
 returns-4 c =
-    let o = c .before .before .before .before .before .before .before in
+    let o = c .before .before .before .before .before .before .before .before .before in
     let a = o .args in
     let l = c .before .before .before .loop in
     let q = c .before .if4 .left in
@@ -161,26 +127,28 @@ pass-spec =
     (tie.spec
     Inv-loop
     μ-loop
-    cast-n
-    cast-firsts
-    loop-holds
+    (λ c. search needs)
+    (λ c. search needs)
+    (λ c. search needs)
+    (λ c. search needs)
+    (λ c. search needs)
     difference-requires
-    add-i
-    cast-least
-    add-least
-    loop-less
+    (λ c. search needs)
+    (λ c. search needs)
+    (λ c. search needs)
+    (λ c. search needs)
     loop-again
     returns
     mul-get-u32
     add-get-u32
     get-u32-requires
-    cast-jump
+    (λ c. search needs)
     returns-2
-    add-taken
+    (λ c. search needs)
     add-least-2
-    loop-less-2
+    (λ c. search needs)
     loop-again-2
     returns-3
-    cast-result
+    (λ c. search needs)
     add-result
     returns-4)

@@ -2,8 +2,8 @@
 use mathlib.Core.Path.{refl, sym}
 use native.Mathlib.Nat.{pos-of-ne-zero}
 use native.Mathlib.Omega.{arith}
-use Rattle.jumps.proofs.Entries.{right}
-use Rattle.jumps.proofs.Turns.{entry-of, entry-room, starts-none, starts-some}
+use Rattle.jumps.proofs.Turns.{entry-room, starts-none, starts-some}
+use borrow.Author.Needs.{needs}
 use Rattle.jumps.proofs.check.starts_right.Statement.{statement}
 use Rattle.jumps.proofs.check.starts_right.Tie as tie
 
@@ -12,13 +12,11 @@ returns c = let a = c .before .before .before .args in sym (starts-none (a .v) (
 
 difference-requires : tie.Need-difference-requires
 difference-requires c κs =
-    let p = c .before .before .before .pre in
-    entry-room _ _ 0 (right _ _ (p .0)) refl (p .1) (pos-of-ne-zero (c .if1 .left))
+    entry-room _ _ 0 (c .before .before .before .before .pre) refl (pos-of-ne-zero (c .before .if1 .left))
 
 returns-2 : tie.Need-returns-2
 returns-2 c =
-    let p = c .before .before .before .before .pre in
-    starts-some _ _ (pos-of-ne-zero (c .before .if1 .left)) (entry-of _ _ 0 refl (p .1) (c .difference .ensures .0))
+    starts-some _ _ (pos-of-ne-zero (c .before .before .if1 .left)) (c .difference .ensures .0)
 
 pub starts-right-spec : {M : Type 1} → statement M
-starts-right-spec = tie.close (tie.spec returns difference-requires returns-2)
+starts-right-spec = tie.close (tie.spec returns (λ c. search needs) difference-requires returns-2)

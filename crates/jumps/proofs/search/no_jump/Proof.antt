@@ -3,7 +3,7 @@ use Prim.Native.Nat.{_+_, _-_, _≤_}
 use mathlib.Core.Path.{_≡_}
 use native.Mathlib.Omega.{arith}
 use Rattle.jumps.specs.Walk.{plain, Room}
-use Rattle.jumps.proofs.Steps.{earlier, plain-start, plain-difference, plain-jump}
+use Rattle.jumps.proofs.Walked.{earlier, plain-start, plain-difference, plain-jump}
 use borrow.Author.Needs.{needs}
 use Rattle.jumps.proofs.search.no_jump.Statement.{statement}
 use Rattle.jumps.proofs.search.no_jump.Tie as tie
@@ -23,26 +23,17 @@ room c = earlier _ _ _ (c .before .before .before .pre) (omega arith)
 loop-holds : tie.Need-loop-holds Inv-loop μ-loop
 loop-holds c = let a = c .before .args in (omega arith, plain-start (a .width) (a .second) (a .file .now) (a .r))
 
-add-k : tie.Need-add-k Inv-loop μ-loop
-add-k c = search needs
-
 add-difference : tie.Need-add-difference Inv-loop μ-loop
 add-difference c = let z = room c .rank in omega arith
 
 difference-requires : tie.Need-difference-requires Inv-loop μ-loop
 difference-requires c κs = let z = room c in (z .narrow, z .wide, z .inside)
 
-loop-less : tie.Need-loop-less Inv-loop μ-loop
-loop-less c = search needs
-
 loop-again : tie.Need-loop-again Inv-loop μ-loop
 loop-again c =
     let a = c .before .before .before .before .before .args in
     let l = c .before .before .before .loop in
     (omega arith, plain-jump (a .width) (a .second) (a .file .now) (a .r) (l .k) (c .before .difference .ensures .0) (c .if1 .taken))
-
-loop-less-2 : tie.Need-loop-less-2 Inv-loop μ-loop
-loop-less-2 c = search needs
 
 loop-again-2 : tie.Need-loop-again-2 Inv-loop μ-loop
 loop-again-2 c =
@@ -65,11 +56,11 @@ no-jump-spec =
     Inv-loop
     μ-loop
     loop-holds
-    add-k
+    (λ c. search needs)
     add-difference
     difference-requires
-    loop-less
+    (λ c. search needs)
     loop-again
-    loop-less-2
+    (λ c. search needs)
     loop-again-2
     returns)

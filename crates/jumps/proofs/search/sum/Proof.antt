@@ -3,7 +3,7 @@ use Prim.Native.Nat.{_+_, _*_, _-_, _≤_}
 use mathlib.Core.Path.{_≡_}
 use native.Mathlib.Omega.{arith}
 use Rattle.jumps.specs.Walk.{total, Room}
-use Rattle.jumps.proofs.Steps.{earlier, total-start, total-next}
+use Rattle.jumps.proofs.Walked.{earlier, total-start, total-next}
 use borrow.Author.Needs.{needs}
 use Rattle.jumps.proofs.search.sum.Statement.{statement}
 use Rattle.jumps.proofs.search.sum.Tie as tie
@@ -23,20 +23,11 @@ room c = earlier _ _ _ (c .before .before .before .pre) (omega arith)
 loop-holds : tie.Need-loop-holds Inv-loop μ-loop
 loop-holds c = let a = c .before .args in (omega arith, omega arith, total-start (a .width) (a .second) (a .file .now) (a .r))
 
-add-k : tie.Need-add-k Inv-loop μ-loop
-add-k c = search needs
-
 add-difference : tie.Need-add-difference Inv-loop μ-loop
 add-difference c = let z = room c .rank in omega arith
 
 difference-requires : tie.Need-difference-requires Inv-loop μ-loop
 difference-requires c κs = let z = room c in (z .narrow, z .wide, z .inside)
-
-add-x : tie.Need-add-x Inv-loop μ-loop
-add-x c = search needs
-
-loop-less : tie.Need-loop-less Inv-loop μ-loop
-loop-less c = search needs
 
 loop-again : tie.Need-loop-again Inv-loop μ-loop
 loop-again c =
@@ -59,10 +50,10 @@ sum-spec =
     Inv-loop
     μ-loop
     loop-holds
-    add-k
+    (λ c. search needs)
     add-difference
     difference-requires
-    add-x
-    loop-less
+    (λ c. search needs)
+    (λ c. search needs)
     loop-again
     returns)

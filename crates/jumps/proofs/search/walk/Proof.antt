@@ -3,29 +3,23 @@ use Prim.Native.Nat.{_+_, _-_, _≤_, _<_}
 use mathlib.Core.Path.{_≡_}
 use native.Mathlib.Omega.{arith}
 use Rattle.jumps.specs.Walk.{walked, Within}
-use Rattle.jumps.proofs.Steps.{earlier, walked-start, walked-further}
+use Rattle.jumps.proofs.Walked.{earlier, walked-start, walked-further}
 use borrow.Author.Needs.{needs}
 use Rattle.jumps.proofs.search.walk.Statement.{statement}
 use Rattle.jumps.proofs.search.walk.Tie as tie
 
 -- rank r is reached, below the target
 abbrev Inv-loop : tie.InvT-loop
-Inv-loop file second width n target t₀ r₀ t r =
-    (r ≤ n) × (t ≡ walked width second file 0 r t₀) × Within (r + 1) t × (1 ≤ r → t .position < target)
+Inv-loop file start second width n target t₀ r₀ t r =
+    (r ≤ n) × (t ≡ walked width start second file 0 r t₀) × Within (r + 1) t × (1 ≤ r → t .position < target)
 
 abbrev μ-loop : tie.MeasureT-loop
-μ-loop file second width n target t₀ r₀ t r = n - r
+μ-loop file start second width n target t₀ r₀ t r = n - r
 
 loop-holds : tie.Need-loop-holds Inv-loop μ-loop
 loop-holds c =
     let a = c .before .args in
-    (omega arith, walked-start (a .width) (a .second) (a .file .now) 0 (a .s), c .before .pre .1, λ h. absurd (omega arith))
-
-sub-next-group : tie.Need-sub-next-group Inv-loop μ-loop
-sub-next-group c = search needs
-
-next-group-requires : tie.Need-next-group-requires Inv-loop μ-loop
-next-group-requires c κs = search needs
+    (omega arith, walked-start (a .width) (a .start) (a .second) (a .file .now) 0 (a .s), c .before .pre .1, λ h. absurd (omega arith))
 
 walk-group-requires : tie.Need-walk-group-requires Inv-loop μ-loop
 walk-group-requires c κs =
@@ -60,7 +54,7 @@ loop-again c =
     let l = c .before .before .before .before .before .loop in
     let m = c .before .before .before .next-group .ensures .0 in
     let w = c .before .before .walk-group .ensures in
-    (omega arith, walked-further (a .width) (a .second) (a .file .now) (l .r) _ (a .s) (l .inv .1) (w .0), w .1, λ h. c .if1 .left)
+    (omega arith, walked-further (a .width) (a .start) (a .second) (a .file .now) (l .r) _ (a .s) (l .inv .1) (w .0), w .1, λ h. c .if1 .left)
 
 returns-2 : tie.Need-returns-2 Inv-loop μ-loop
 returns-2 c =
@@ -75,8 +69,8 @@ walk-spec =
     Inv-loop
     μ-loop
     loop-holds
-    sub-next-group
-    next-group-requires
+    (λ c. search needs)
+    (λ c κs. search needs)
     walk-group-requires
     returns
     add-r

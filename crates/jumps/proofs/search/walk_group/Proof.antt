@@ -3,17 +3,17 @@ use Prim.Native.Nat.{_+_, _-_, _≤_}
 use mathlib.Core.Path.{_≡_, sym, _∙_}
 use native.Mathlib.Omega.{arith}
 use Rattle.jumps.specs.Walk.{walked, Room, Within}
-use Rattle.jumps.proofs.Steps.{earlier, walked-start, walked-next, group-sum}
+use Rattle.jumps.proofs.Walked.{earlier, walked-start, walked-next, group-sum}
 use borrow.Author.Needs.{needs}
 use Rattle.jumps.proofs.search.walk_group.Statement.{statement}
 use Rattle.jumps.proofs.search.walk_group.Tie as tie
 
 -- k ranks are taken
 abbrev Inv-loop : tie.InvT-loop
-Inv-loop file second width r n t₀ k₀ t k = (k ≤ n) × (t ≡ walked width second file r k t₀) × Within (r + k + 1) t
+Inv-loop file start second width r n t₀ k₀ t k = (k ≤ n) × (t ≡ walked width start second file r k t₀) × Within (r + k + 1) t
 
 abbrev μ-loop : tie.MeasureT-loop
-μ-loop file second width r n t₀ k₀ t k = n - k
+μ-loop file start second width r n t₀ k₀ t k = n - k
 
 -- the next difference lies in the file
 room : (c : tie.In-loop Inv-loop μ-loop)
@@ -26,11 +26,8 @@ no-jump-requires c κs = rw (c .if1 .taken) at (c .before .before .pre .0)
 sum-requires : tie.Need-sum-requires Inv-loop μ-loop
 sum-requires c κs = rw (c .before .before .if1 .taken) at (c .before .before .before .before .pre .0)
 
-cast-t12 : tie.Need-cast-t12 Inv-loop μ-loop
-cast-t12 c = search needs
-
-add-t13 : tie.Need-add-t13 Inv-loop μ-loop
-add-t13 c =
+add-t14 : tie.Need-add-t14 Inv-loop μ-loop
+add-t14 c =
     let w = c .before .before .before .before .before .before .pre in
     let z = w .0 .rank in
     let p = w .1 .position in
@@ -48,7 +45,7 @@ returns c =
     let x = c .before .sum .ensures in
     let x1 = x .1 in
     let g = sym (c .before .before .before .no-jump .ensures) ∙ c .before .before .if2 .taken in (
-      rw e (group-sum (a .width) (a .second) (a .file .now) (a .r) 32 (a .s) g (x .0)),
+      rw e (group-sum (a .width) (a .start) (a .second) (a .file .now) (a .r) 32 (a .s) g (x .0)),
       record { position = omega arith; taken = omega arith },
     )
 
@@ -58,10 +55,7 @@ loop-holds c =
     let w = c .before .before .pre .1 in
     let p = w .position in
     let q = w .taken in
-    (omega arith, walked-start (a .width) (a .second) (a .file .now) (a .r) (a .s), record { position = omega arith; taken = omega arith })
-
-add-k : tie.Need-add-k Inv-loop μ-loop
-add-k c = search needs
+    (omega arith, walked-start (a .width) (a .start) (a .second) (a .file .now) (a .r) (a .s), record { position = omega arith; taken = omega arith })
 
 add-advance : tie.Need-add-advance Inv-loop μ-loop
 add-advance c = let z = room c .rank in omega arith
@@ -73,9 +67,6 @@ advance-requires c κs =
     let q = w .taken in
     (room c, record { position = omega arith; taken = omega arith })
 
-loop-less : tie.Need-loop-less Inv-loop μ-loop
-loop-less c = search needs
-
 loop-again : tie.Need-loop-again Inv-loop μ-loop
 loop-again c =
     let a = c .before .before .before .before .before .args in
@@ -84,7 +75,7 @@ loop-again c =
     let p = t .1 .position in
     let q = t .1 .taken in (
       omega arith,
-      walked-next (a .width) (a .second) (a .file .now) (a .r) (l .k) (a .s) (l .inv .1) (t .0),
+      walked-next (a .width) (a .start) (a .second) (a .file .now) (a .r) (l .k) (a .s) (l .inv .1) (t .0),
       record { position = omega arith; taken = omega arith },
     )
 
@@ -102,13 +93,13 @@ walk-group-spec =
     μ-loop
     no-jump-requires
     sum-requires
-    cast-t12
-    add-t13
+    (λ c. search needs)
+    add-t14
     returns
     loop-holds
-    add-k
+    (λ c. search needs)
     add-advance
     advance-requires
-    loop-less
+    (λ c. search needs)
     loop-again
     returns-2)

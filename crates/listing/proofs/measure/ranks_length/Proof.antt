@@ -4,11 +4,10 @@ use mathlib.Core.Path.{_≡_, _∙_}
 use native.Mathlib.Omega.{arith}
 use lib.ListN.{length, drop}
 use Rattle.format.specs.Bytes.{field}
-use Rattle.format.specs.Accepted.{wordsCount, positionsOf, keptOf}
+use Rattle.format.specs.Accepted.{positionsOf, keptOf}
 use Rattle.format.specs.Lister.{rankLines}
-use Rattle.header.specs.View.{wordsPlace}
-use Rattle.cursor.specs.Cursor.{walked}
-use Rattle.cursor.proofs.Walks.{walked-start}
+use Rattle.parts.proofs.Seen.{seen}
+use Rattle.kinds.proofs.Walks.{Ahead, walk-start}
 use Rattle.listing.proofs.Lines.{word-inside, ranks-most, total-end, step, total-turn}
 use borrow.Author.Needs.{needs}
 use Rattle.listing.proofs.measure.ranks_length.Statement.{statement}
@@ -16,28 +15,31 @@ use Rattle.listing.proofs.measure.ranks_length.Tie as tie
 
 abbrev Inv-loop : tie.InvT-loop
 Inv-loop file v words c₀ total₀ rank₀ c total rank =
-    (rank ≤ v .words) × (walked file v c (wordsCount file - rank) ≡ drop rank (positionsOf file))
+    (rank ≤ v .words) × Ahead file v c rank
     × (total + length (rankLines rank (drop rank (positionsOf file)) (drop rank (keptOf file))) ≡ length (rankLines 0 (positionsOf file) (keptOf file)))
 
 abbrev μ-loop : tie.MeasureT-loop
 μ-loop file v words c₀ total₀ rank₀ c total rank = v .words - rank
 
+start-requires : tie.Need-start-requires Inv-loop μ-loop
+start-requires c κs = let s = c .before .before in seen (s .args .file .now) (s .args .v) (s .pre .0) .holds .counted .allowed
+
 loop-holds : tie.Need-loop-holds Inv-loop μ-loop
 loop-holds c =
     let s = c .before .before .before in
     let o = s .pre .0 in
-    (omega arith, rw (c .start .ensures, o .view) (walked-start (s .args .file .now) (o .accepted)), omega arith)
+    (omega arith, rw (c .start .ensures) (walk-start (s .args .file .now) (s .args .v) o), omega arith)
 
 get-u32-requires : tie.Need-get-u32-requires Inv-loop μ-loop
 get-u32-requires c κs =
     let s = c .before .before .before .before .before .before in
-    rw (c .before .before .before .before .words-at .ensures .0) (word-inside (s .args .file .now) (s .args .v) (s .pre .0) (c .before .before .loop .rank) (c .if1 .taken))
+    word-inside (s .args .file .now) (s .args .v) (s .pre .0) (c .before .before .loop .rank) (c .if1 .taken)
 
 -- the word that the line tells
 word-read : (c : tie.After-line-length Inv-loop μ-loop)
     → let a = c .before .before .before .before .before .before .before .before .args in
-    c .before .get-u32 .result ≡ field 4 (wordsPlace (a .v) + 4 * c .before .before .before .before .loop .rank) (a .file .now)
-word-read c = c .before .get-u32 .ensures .0 ∙ rw (c .before .before .before .before .before .before .words-at .ensures .0)
+    c .before .get-u32 .result ≡ field 4 (a .v .place + 4 * c .before .before .before .before .loop .rank) (a .file .now)
+word-read c = c .before .get-u32 .ensures .0
 
 add-total : tie.Need-add-total Inv-loop μ-loop
 add-total c =
@@ -47,6 +49,11 @@ add-total c =
     let m = ranks-most (s .args .file .now) (s .args .v) (s .pre .0) (s .pre .1) in
     let e = c .line-length .ensures in
     omega arith
+
+next-requires : tie.Need-next-requires Inv-loop μ-loop
+next-requires c κs =
+    let s = c .before .before .before .before .before .before .before .before in
+    seen (s .args .file .now) (s .args .v) (s .pre .0) .holds .counted .allowed
 
 add-rank : tie.Need-add-rank Inv-loop μ-loop
 add-rank c = let h = c .before .before .before .if1 .taken in search needs
@@ -74,8 +81,8 @@ ranks-length-spec =
     (tie.spec
     Inv-loop
     μ-loop
-    (λ c κs. search needs)
-    (λ c κs. search needs)
+    (λ c. search needs)
+    start-requires
     loop-holds
     (λ c. search needs)
     (λ c. search needs)
@@ -83,7 +90,7 @@ ranks-length-spec =
     get-u32-requires
     (λ c κs. search needs)
     add-total
-    (λ c κs. search needs)
+    next-requires
     add-rank
     (λ c. search needs)
     loop-again

@@ -5,9 +5,6 @@ use borrow.Author.Needs.{needs}
 use Rattle.paged_runs.proofs.check.before_of.Statement.{statement}
 use Rattle.paged_runs.proofs.check.before_of.Tie as tie
 
-long-requires : tie.Need-long-requires
-long-requires c κs = search needs
-
 returns : tie.Need-returns
 returns c = (rw (eq-eqb (c .before .args .left) 0 (c .if1 .taken)), omega arith)
 
@@ -15,4 +12,9 @@ returns-2 : tie.Need-returns-2
 returns-2 c = (rw (ne-eqb (c .before .before .args .left) 0 (c .before .if1 .left)) (c .long .ensures .0), c .long .ensures .1)
 
 pub before-of-spec : {M : Type 1} → statement M
-before-of-spec = tie.close (tie.spec long-requires returns returns-2)
+before-of-spec =
+    tie.close
+    (tie.spec
+    (λ c κs. search needs)
+    returns
+    returns-2)

@@ -5,33 +5,6 @@ use borrow.Author.Needs.{needs}
 use Rattle.paged_runs.proofs.check.compare.Statement.{statement}
 use Rattle.paged_runs.proofs.check.compare.Tie as tie
 
-before-of-requires : tie.Need-before-of-requires
-before-of-requires c κs = search needs
-
-long-requires : tie.Need-long-requires
-long-requires c κs = search needs
-
-add-cells : tie.Need-add-cells
-add-cells c = search needs
-
-before-of-requires-2 : tie.Need-before-of-requires-2
-before-of-requires-2 c κs = search needs
-
-long-requires-2 : tie.Need-long-requires-2
-long-requires-2 c κs = search needs
-
-add-empty : tie.Need-add-empty
-add-empty c = search needs
-
-long-requires-3 : tie.Need-long-requires-3
-long-requires-3 c κs = search needs
-
-long-requires-4 : tie.Need-long-requires-4
-long-requires-4 c κs = search needs
-
-left-after-requires : tie.Need-left-after-requires
-left-after-requires c κs = search needs
-
 returns : tie.Need-returns
 returns c =
     let a = c .before .before .before .before .before .before .before .before .before .args in
@@ -47,13 +20,13 @@ pub compare-spec : {M : Type 1} → statement M
 compare-spec =
     tie.close
     (tie.spec
-    before-of-requires
-    long-requires
-    add-cells
-    before-of-requires-2
-    long-requires-2
-    add-empty
-    long-requires-3
-    long-requires-4
-    left-after-requires
+    (λ c κs. search needs)
+    (λ c κs. search needs)
+    (λ c. search needs)
+    (λ c κs. search needs)
+    (λ c κs. search needs)
+    (λ c. search needs)
+    (λ c κs. search needs)
+    (λ c κs. search needs)
+    (λ c κs. search needs)
     returns)

@@ -17,50 +17,44 @@ abbrev below-last : ℕ → ℕ → ℕ
 below-last below end = below + end - 1
 
 abbrev Inv-loop : tie.InvT-loop
-Inv-loop file step start size below under page s₀ i₀ end₀ s i end =
-    (restOf step (entries file) start size below under s i
-    ≡ sameSpans (take size (drop start (entries file))) (level step (lasts step (take under (drop below (entries file))))))
+Inv-loop file start step first size below under page s₀ i₀ end₀ s i end =
+    (restOf step (entries start file) first size below under s i
+    ≡ sameSpans (take size (drop first (entries start file))) (level step (lasts step (take under (drop below (entries start file))))))
     × (i ≤ size)
     × (end ≡ min (i * step) under)
 
 abbrev μ-loop : tie.MeasureT-loop
-μ-loop file step start size below under page s₀ i₀ end₀ s i end = size - i
-
-index-requires : tie.Need-index-requires Inv-loop μ-loop
-index-requires c κs = search needs
+μ-loop file start step first size below under page s₀ i₀ end₀ s i end = size - i
 
 loop-holds : tie.Need-loop-holds Inv-loop μ-loop
 loop-holds c =
     let a = c .before .before .args in
     let p = c .before .before .pre in
-    let n = length-entries (a .file .now) in (
-      rest-first (a .step) (entries (a .file .now)) (a .start) (a .size) (a .below) (a .under) (p .low) (p .size-of) (omega (arith, p .long))
+    let n = length-entries (a .start) (a .file .now) in (
+      rest-first (a .step) (entries (a .start) (a .file .now)) (a .first) (a .size) (a .below) (a .under) (p .low) (p .size-of) (omega (arith, p .long))
           (omega (arith, p .long-below)) _,
       omega arith,
       first-end (a .step) (a .under),
     )
 
-add-least : tie.Need-add-least Inv-loop μ-loop
-add-least c = omega (arith, c .before .before .index .ensures, c .before .before .before .before .pre .most, c .before .loop .inv .2)
-
-least-requires : tie.Need-least-requires Inv-loop μ-loop
-least-requires c κs = search needs
+add-lesser : tie.Need-add-lesser Inv-loop μ-loop
+add-lesser c = omega (arith, c .before .before .index .ensures, c .before .before .before .before .pre .most, c .before .loop .inv .2)
 
 -- the end of the page below
-page-end : (c : tie.After-least Inv-loop μ-loop)
-    → c .least .result ≡ min (suc (c .before .before .loop .i) * c .before .before .before .before .before .args .step)
+page-end : (c : tie.After-lesser Inv-loop μ-loop)
+    → c .lesser .result ≡ min (suc (c .before .before .loop .i) * c .before .before .before .before .before .args .step)
     (c .before .before .before .before .before .args .under)
 page-end c =
     let a = c .before .before .before .before .before .args in
     let p = c .before .before .before .before .before .pre in
     let l = p .low in
     let t = c .before .loop-test .taken in
-    c .least .ensures
+    c .lesser .ensures
     ∙ rw (c .before .before .before .index .ensures .0)
     (page-ends (a .step) (a .under) (c .before .before .loop .i) (c .before .before .loop .end) (omega arith) (rw (p .size-of) at t)
     (c .before .before .loop .inv .2))
 
-page-some : (c : tie.After-least Inv-loop μ-loop)
+page-some : (c : tie.After-lesser Inv-loop μ-loop)
     → 1 ≤ min (suc (c .before .before .loop .i) * c .before .before .before .before .before .args .step)
     (c .before .before .before .before .before .args .under)
 page-some c =
@@ -88,28 +82,22 @@ pair-at-requires-2 c κs = omega (arith, page-end (c .before), page-some (c .bef
 compare-requires : tie.Need-compare-requires Inv-loop μ-loop
 compare-requires c κs = let l = c .before .before .before .before .before .before .before .pre .low in omega arith
 
-add-i : tie.Need-add-i Inv-loop μ-loop
-add-i c = search needs
-
-loop-less : tie.Need-loop-less Inv-loop μ-loop
-loop-less c = search needs
-
 loop-again : tie.Need-loop-again Inv-loop μ-loop
 loop-again c =
     let m = c .before .before .before in
     let o = m .before .before .loop in
     let a = m .before .before .before .before .before .args in
     let p = m .before .before .before .before .before .pre in
-    let n = length-entries (a .file .now) in
+    let n = length-entries (a .start) (a .file .now) in
     let e = page-end m in
     let t = m .before .loop-test .taken in
     let x = c .before .pair-at2 in
-    let f : below-last (a .below) (m .least .result) ≡ below-last (a .below) (min (suc (o .i) * a .step) (a .under)) = ap (below-last (a .below)) e in (
+    let f : below-last (a .below) (m .lesser .result) ≡ below-last (a .below) (min (suc (o .i) * a .step) (a .under)) = ap (below-last (a .below)) e in (
       rw (c .compare .ensures)
-          (sym (rest-turn (a .step) (entries (a .file .now)) (a .start) (a .size) (a .below) (a .under) (p .low) (p .size-of) (omega (arith, p .long))
+          (sym (rest-turn (a .step) (entries (a .start) (a .file .now)) (a .first) (a .size) (a .below) (a .under) (p .low) (p .size-of) (omega (arith, p .long))
           (omega (arith, p .long-below))
           (o .s) (o .i) (c .before .before .pair-at .result) (spanOf (x .result)) t (c .before .before .pair-at .ensures .0)
-          (x .ensures .0 ∙ ap (λ (j : ℕ). getD (entries (a .file .now)) j none) f))
+          (x .ensures .0 ∙ ap (λ (j : ℕ). getD (entries (a .start) (a .file .now)) j none) f))
           ∙ o .inv .0),
       omega arith,
       e ∙ rw (add-one (o .i)),
@@ -119,8 +107,8 @@ returns : tie.Need-returns Inv-loop μ-loop
 returns c =
     let a = c .before .before .before .before .args in
     let p = c .before .before .before .before .pre in
-    let n = length-entries (a .file .now) in
-    sym (rest-none (a .step) (entries (a .file .now)) (a .start) (a .size) (a .below) (a .under) (p .low) (p .size-of) (omega (arith, p .long))
+    let n = length-entries (a .start) (a .file .now) in
+    sym (rest-none (a .step) (entries (a .start) (a .file .now)) (a .first) (a .size) (a .below) (a .under) (p .low) (p .size-of) (omega (arith, p .long))
     (omega (arith, p .long-below))
     (c .before .loop .s) (c .before .loop .i) (c .loop-test .left))
     ∙ c .before .loop .inv .0
@@ -131,17 +119,17 @@ level-right-spec =
     (tie.spec
     Inv-loop
     μ-loop
-    index-requires
+    (λ c κs. search needs)
     loop-holds
-    add-least
-    least-requires
+    add-lesser
+    (λ c κs. search needs)
     add-pair-at
     pair-at-requires
     add-pair-at-2
     sub-pair-at
     pair-at-requires-2
     compare-requires
-    add-i
-    loop-less
+    (λ c. search needs)
+    (λ c. search needs)
     loop-again
     returns)

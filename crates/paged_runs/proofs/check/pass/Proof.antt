@@ -7,12 +7,6 @@ use borrow.Author.Needs.{needs}
 use Rattle.paged_runs.proofs.check.pass.Statement.{statement}
 use Rattle.paged_runs.proofs.check.pass.Tie as tie
 
-start-of-requires : tie.Need-start-of-requires
-start-of-requires c κs = search needs
-
-long-requires : tie.Need-long-requires
-long-requires c κs = search needs
-
 add-t11 : tie.Need-add-t11
 add-t11 c =
     let a = c .before .before .before .before .before in
@@ -20,9 +14,6 @@ add-t11 c =
     (pick-small (eqb (a .args .s .left) 0) _ _ (a .pre .1) (a .pre .2)) in
     let s0 = s .cells in
     omega (arith, c .before .long .ensures .1)
-
-long-requires-2 : tie.Need-long-requires-2
-long-requires-2 c κs = search needs
 
 add-t13 : tie.Need-add-t13
 add-t13 c =
@@ -41,9 +32,6 @@ run-follows-requires c κs =
     let s1 = s .empty in
     (a .pre .1, omega (arith, c .before .before .before .long .ensures .1), omega (arith, c .before .long2 .ensures .1))
 
-left-after-requires : tie.Need-left-after-requires
-left-after-requires c κs = search needs
-
 returns : tie.Need-returns
 returns c =
     let a = c .before .before .before .before .before .before .before .before .before .before .args in
@@ -56,11 +44,11 @@ pub pass-spec : {M : Type 1} → statement M
 pass-spec =
     tie.close
     (tie.spec
-    start-of-requires
-    long-requires
+    (λ c κs. search needs)
+    (λ c κs. search needs)
     add-t11
-    long-requires-2
+    (λ c κs. search needs)
     add-t13
     run-follows-requires
-    left-after-requires
+    (λ c κs. search needs)
     returns)

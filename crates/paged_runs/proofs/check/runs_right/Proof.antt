@@ -11,16 +11,10 @@ use Rattle.paged_runs.proofs.check.runs_right.Statement.{statement}
 use Rattle.paged_runs.proofs.check.runs_right.Tie as tie
 
 abbrev Inv-loop : tie.InvT-loop
-Inv-loop file v step at₀ end s₀ at s = Going (entries file) (v .step) (v .cells) (v .words) (v .firsts) (v .seconds) at s
+Inv-loop file v step at₀ end s₀ at s = Going (entries (v .start) file) (v .step) (v .cells) (v .words) (v .firsts) (v .seconds) at s
 
 abbrev μ-loop : tie.MeasureT-loop
 μ-loop file v step at₀ end s₀ at s = end - at
-
-index-requires : tie.Need-index-requires Inv-loop μ-loop
-index-requires c κs = search needs
-
-index-requires-2 : tie.Need-index-requires-2 Inv-loop μ-loop
-index-requires-2 c κs = search needs
 
 add-end : tie.Need-add-end Inv-loop μ-loop
 add-end c = omega (arith, c .index2 .ensures, c .before .index .ensures)
@@ -40,12 +34,6 @@ pass-requires c κs =
     let l = p .low in
     (omega arith, m .0, m .1)
 
-add-at : tie.Need-add-at Inv-loop μ-loop
-add-at c = search needs
-
-loop-less : tie.Need-loop-less Inv-loop μ-loop
-loop-less c = search needs
-
 loop-again : tie.Need-loop-again Inv-loop μ-loop
 loop-again c =
     let a = c .before .before .before .before .before .before .before .args in
@@ -54,18 +42,9 @@ loop-again c =
     let n1 = c .before .before .before .before .index2 .ensures .0 in
     let n2 = c .before .before .before .before .before .index .ensures .0 in
     let t : c .before .before .before .loop .at < a .v .firsts + a .v .seconds = omega (arith, c .before .before .loop-test .taken) in
-    let l : a .v .firsts + a .v .seconds ≤ length (entries (a .file .now)) = omega (arith, length-entries (a .file .now)) in
+    let l : a .v .firsts + a .v .seconds ≤ length (entries (a .v .start) (a .file .now)) = omega (arith, length-entries (a .v .start) (a .file .now)) in
     rw (c .pass .ensures)
     (going-on _ _ _ _ _ _ _ _ (c .before .before .before .loop .inv) (spanOf (y .result)) t l (y .ensures .0) (y .ensures .1) (y .ensures .2))
-
-long-requires : tie.Need-long-requires Inv-loop μ-loop
-long-requires c κs = search needs
-
-long-requires-2 : tie.Need-long-requires-2 Inv-loop μ-loop
-long-requires-2 c κs = search needs
-
-add-result : tie.Need-add-result Inv-loop μ-loop
-add-result c = search needs
 
 returns : tie.Need-returns Inv-loop μ-loop
 returns c =
@@ -84,16 +63,16 @@ runs-right-spec =
     (tie.spec
     Inv-loop
     μ-loop
-    index-requires
-    index-requires-2
+    (λ c κs. search needs)
+    (λ c κs. search needs)
     add-end
     loop-holds
     pair-at-requires
     pass-requires
-    add-at
-    loop-less
+    (λ c. search needs)
+    (λ c. search needs)
     loop-again
-    long-requires
-    long-requires-2
-    add-result
+    (λ c κs. search needs)
+    (λ c κs. search needs)
+    (λ c. search needs)
     returns)

@@ -1,5 +1,4 @@
 -- `upper_right` meets its contract. The loop's invariant is `Climbing`; each level is smaller than the one below. Assumes nothing.
-use Prim.Native.Nat.{_-_}
 use mathlib.Core.Path.{refl, sym, _∙_}
 use native.Mathlib.Omega.{arith}
 use borrow.Author.Tests.{not-true, not-false}
@@ -12,19 +11,10 @@ use Rattle.paged_runs.proofs.check.upper_right.Statement.{statement}
 use Rattle.paged_runs.proofs.check.upper_right.Tie as tie
 
 abbrev Inv-loop : tie.InvT-loop
-Inv-loop file v page below₀ under₀ below under = Climbing (entries file) (v .step) (v .firsts) (v .seconds) below under
+Inv-loop file v page below₀ under₀ below under = Climbing (entries (v .start) file) (v .step) (v .firsts) (v .seconds) below under
 
 abbrev μ-loop : tie.MeasureT-loop
 μ-loop file v page below₀ under₀ below under = under
-
-index-requires : tie.Need-index-requires Inv-loop μ-loop
-index-requires c κs = search needs
-
-index-requires-2 : tie.Need-index-requires-2 Inv-loop μ-loop
-index-requires-2 c κs = search needs
-
-index-requires-3 : tie.Need-index-requires-3 Inv-loop μ-loop
-index-requires-3 c κs = search needs
 
 loop-holds : tie.Need-loop-holds Inv-loop μ-loop
 loop-holds c =
@@ -41,19 +31,19 @@ add-size c = omega (arith, c .before .before .before .before .index .ensures .1,
 div-size : tie.Need-div-size Inv-loop μ-loop
 div-size c = let l = c .before .before .before .before .before .before .pre .low in omega (arith, c .before .before .before .before .index .ensures .0)
 
-sub-start : tie.Need-sub-start Inv-loop μ-loop
-sub-start c =
+sub-first : tie.Need-sub-first Inv-loop μ-loop
+sub-first c =
     let a = c .before .before .before .before .before .before .args in
     let p = c .before .before .before .before .before .before .pre in
     let e = c .before .before .before .before .index .ensures .0 in
     let i = c .before .loop .inv in
     let l = i .long in
     let m = p .long in
-    let n = length-entries (a .file .now) in
+    let n = length-entries (a .v .start) (a .file .now) in
     let t = rw e at (c .loop-test .taken) in
     rw e (omega (
       arith,
-      start-of-above (a .v .step) (entries (a .file .now)) (c .before .loop .below) (c .before .loop .under) (p .low) (i .count)
+      start-of-above (a .v .step) (entries (a .v .start) (a .file .now)) (c .before .loop .below) (c .before .loop .under) (p .low) (i .count)
           (omega arith) t,
     ))
 
@@ -65,9 +55,9 @@ level-right-requires c κs =
     let i = c .before .loop .inv in
     let l = i .long in
     let m = p .long in
-    let n = length-entries (a .file .now) in
+    let n = length-entries (a .v .start) (a .file .now) in
     let t = rw e at (c .loop-test .taken) in
-    let s = start-of-above (a .v .step) (entries (a .file .now)) (c .before .loop .below) (c .before .loop .under) (p .low) (i .count) (omega arith) t in
+    let s = start-of-above (a .v .step) (entries (a .v .start) (a .file .now)) (c .before .loop .below) (c .before .loop .under) (p .low) (i .count) (omega arith) t in
     rw e (record { low = p .low; high = p .high; size-of = refl; most = i .most; long = omega arith; long-below = omega arith })
 
 returns : tie.Need-returns Inv-loop μ-loop
@@ -80,13 +70,13 @@ returns c =
     let i = o .inv in
     let l = i .long in
     let m = p .long in
-    let n = length-entries (a .file .now) in
+    let n = length-entries (a .v .start) (a .file .now) in
     let t = rw e at (c .before .before .loop-test .taken) in
     let f = not-true (c .before .level-right .result) (c .if1 .taken) in
     let q = rw e at (sym (c .before .level-right .ensures) ∙ f) in
-    sym (upper-wrong (a .v .step) (entries (a .file .now)) (o .below) (o .under) (p .low) (i .count) (omega arith) t q)
+    sym (upper-wrong (a .v .step) (entries (a .v .start) (a .file .now)) (o .below) (o .under) (p .low) (i .count) (omega arith) t q)
     ∙ i .whole
-    ∙ upper-whole (a .v .step) (entries (a .file .now)) (a .v .firsts) (a .v .seconds)
+    ∙ upper-whole (a .v .step) (entries (a .v .start) (a .file .now)) (a .v .firsts) (a .v .seconds)
 
 loop-less : tie.Need-loop-less Inv-loop μ-loop
 loop-less c =
@@ -104,11 +94,11 @@ loop-again c =
     let e = c .before .before .before .before .before .before .index .ensures .0 in
     let o = c .before .before .before .loop in
     let m = p .long in
-    let n = length-entries (a .file .now) in
+    let n = length-entries (a .v .start) (a .file .now) in
     let t = rw e at (c .before .before .loop-test .taken) in
     let f = not-false (c .before .level-right .result) (c .if1 .left) in
     let q = rw e at (sym (c .before .level-right .ensures) ∙ f) in
-    rw e (climbing-on (entries (a .file .now)) (a .v .step) (a .v .firsts) (a .v .seconds) (o .below) (o .under) (p .low) (omega arith) (o .inv) t q)
+    rw e (climbing-on (entries (a .v .start) (a .file .now)) (a .v .step) (a .v .firsts) (a .v .seconds) (o .below) (o .under) (p .low) (omega arith) (o .inv) t q)
 
 returns-2 : tie.Need-returns-2 Inv-loop μ-loop
 returns-2 c =
@@ -119,10 +109,10 @@ returns-2 c =
     let i = c .before .loop .inv in
     let l = i .long in
     let m = p .long in
-    let n = length-entries (a .file .now) in
+    let n = length-entries (a .v .start) (a .file .now) in
     let t = rw e at (c .loop-test .left) in
-    sym (upper-none (a .v .step) (entries (a .file .now)) (c .before .loop .below) (c .before .loop .under) (p .low) (i .count) (omega arith) t)
-    ∙ i .whole ∙ upper-whole (a .v .step) (entries (a .file .now)) (a .v .firsts) (a .v .seconds)
+    sym (upper-none (a .v .step) (entries (a .v .start) (a .file .now)) (c .before .loop .below) (c .before .loop .under) (p .low) (i .count) (omega arith) t)
+    ∙ i .whole ∙ upper-whole (a .v .step) (entries (a .v .start) (a .file .now)) (a .v .firsts) (a .v .seconds)
 
 pub upper-right-spec : {M : Type 1} → statement M
 upper-right-spec =
@@ -130,14 +120,14 @@ upper-right-spec =
     (tie.spec
     Inv-loop
     μ-loop
-    index-requires
-    index-requires-2
-    index-requires-3
+    (λ c κs. search needs)
+    (λ c κs. search needs)
+    (λ c κs. search needs)
     loop-holds
     sub-size
     add-size
     div-size
-    sub-start
+    sub-first
     level-right-requires
     returns
     loop-less

@@ -7,7 +7,7 @@ use borrow.Author.Needs.{needs}
 use borrow.Fn.Kinds.{In}
 use borrow.Fn.PlainCycle.{Measures, is, falls, and}
 use Rattle.paged_runs.specs.Levels.{spanOf}
-use Rattle.paged_runs.proofs.Steps.{walk-end, descent-leaf, descent-page, first-fits, page-fits, Walking, walking-first, walking-inside, walking-on, walking-here, walking-down, walking-none}
+use Rattle.paged_runs.proofs.CheckSteps.{walk-end, descent-leaf, descent-page, first-fits, page-fits, Walking, walking-first, walking-inside, walking-on, walking-here, walking-down, walking-none}
 use Rattle.paged_runs.proofs.search.descend.Reads as descend
 use Rattle.paged_runs.proofs.search.descend.Kinds as descend-kinds
 use Rattle.paged_runs.proofs.search.+descend+page_walk.Lts-descend as descend-lts
@@ -17,16 +17,16 @@ use Rattle.paged_runs.proofs.search.+descend+page_walk.Lts-page_walk as
 use Rattle.paged_runs.proofs.entry.pair_at.Reads as pair-at-reads
 use Rattle.paged_runs.proofs.search.count.Reads as count-reads
 use Rattle.paged_runs.proofs.search.less.Reads as less-reads
-use Rattle.paged_runs.proofs.entry.least.Reads as least-reads
+use Rattle.wire.proofs.numbers.lesser.Reads as lesser-reads
 use Rattle.paged_runs.proofs.search.size_at.Reads as size-at-reads
 use Rattle.paged_runs.proofs.search.+descend+page_walk.{statement}
 use Rattle.paged_runs.proofs.search.+descend+page_walk.Tie.{close}
 
 abbrev μ-descend : Measures 1 descend-kinds.ps ℕ
-μ-descend κs a = 2 * a .1 .1 .1 .1 .0
+μ-descend κs a = 2 * a .1 .1 .1 .1 .1 .0
 
 abbrev μ-page-walk : Measures 1 page-walk-kinds.ps ℕ
-μ-page-walk κs a = 2 * a .1 .1 .1 .1 .0 + 1
+μ-page-walk κs a = 2 * a .1 .1 .1 .1 .1 .0 + 1
 
 abbrev descend-at : ℕ → In 1 descend-kinds.ps
 descend-at t = and 1 descend-kinds.ps (is 1 descend-kinds.ps μ-descend t) descend.Pre
@@ -41,7 +41,7 @@ abbrev page-walk-below : ℕ → In 1 page-walk-kinds.ps
 page-walk-below t = and 1 page-walk-kinds.ps (falls 1 page-walk-kinds.ps _<_ μ-page-walk t) page-walk.Pre
 
 abbrev descend-calls : ℕ → descend-lts.Claims
-descend-calls t = (size-at-reads.Asked, size-at-reads.Learnt, least-reads.Asked, least-reads.Learnt, page-walk-below t, page-walk.Post)
+descend-calls t = (size-at-reads.Asked, size-at-reads.Learnt, lesser-reads.Asked, lesser-reads.Learnt, page-walk-below t, page-walk.Post)
 
 abbrev page-walk-calls : ℕ → page-walk-lts.Claims
 page-walk-calls t = (
@@ -81,60 +81,44 @@ descend-returns-2 t c =
     let z : min (a .step) (getD (a .sizes .now) (a .level - 1) 0 - a .entry * a .step) ≡ 0 = omega (arith, e) in
     sym (descent-page _ _ _ _ _ _ _ _ _ _ (c .before .before .if1 .left) ∙ walk-end _ _ _ _ _ _ _ _ _ _ _ z)
 
-descend-sub-least : (t : ℕ) → descend-lts.Need-sub-least (descend-calls t) (descend-at t) descend.Post
-descend-sub-least t c = omega arith
-
-descend-least-requires : (t : ℕ) → descend-lts.Need-least-requires (descend-calls t) (descend-at t) descend.Post
-descend-least-requires t c κs = tt
-
 descend-page-walk-requires : (t : ℕ) → descend-lts.Need-page-walk-requires (descend-calls t) (descend-at t) descend.Post
 descend-page-walk-requires t c κs =
     let a = c .before .before .before .before .before .args in
     let f = c .before .before .before .before .before .pre in
     let e = c .before .before .size-at .ensures .0 in
     let h : a .entry * a .step < getD (a .sizes .now) (a .level - 1) 0 = omega (arith, e) in
-    (omega (arith, c .before .before .before .if1 .left), rw (c .least .ensures, e) (page-fits _ _ _ _ _ _ _ (f .1) (c .before .before .before .if1 .left) h))
+    (omega (arith, c .before .before .before .if1 .left), rw (c .lesser .ensures, e) (page-fits _ _ _ _ _ _ _ _ (f .1) (c .before .before .before .if1 .left) h))
 
 descend-returns-3 : (t : ℕ) → descend-lts.Need-returns-3 (descend-calls t) (descend-at t) descend.Post
 descend-returns-3 t c =
     c .page-walk .ensures
-    ∙ rw (c .before .least .ensures, c .before .before .before .size-at .ensures .0)
+    ∙ rw (c .before .lesser .ensures, c .before .before .before .size-at .ensures .0)
     (sym (descent-page _ _ _ _ _ _ _ _ _ _ (c .before .before .before .before .if1 .left)))
 
 -- ---- along a page
 
 abbrev page-walk-Inv-loop : page-walk-lts.InvT-loop
-page-walk-Inv-loop file sizes step stored level start first left before p end entry₀ c₀ entry c =
-    Walking file sizes step level start first left before entry stored (spanOf c) p
+page-walk-Inv-loop file start sizes step stored level from first left before p end entry₀ c₀ entry c =
+    Walking file start sizes step level from first left before entry stored (spanOf c) p
 
 abbrev page-walk-μ-loop : page-walk-lts.MeasureT-loop
-page-walk-μ-loop file sizes step stored level start first left before p end entry₀ c₀ entry c = end - entry
+page-walk-μ-loop file start sizes step stored level from first left before p end entry₀ c₀ entry c = end - entry
 
 page-walk-add-end : (t : ℕ) → page-walk-lts.Need-add-end (page-walk-calls t) (page-walk-at t) page-walk.Post page-walk-Inv-loop page-walk-μ-loop
 page-walk-add-end t c = let f = c .before .pre .1 in omega (arith, f .inside, f .page)
 
 page-walk-loop-holds : (t : ℕ) → page-walk-lts.Need-loop-holds (page-walk-calls t) (page-walk-at t) page-walk.Post page-walk-Inv-loop page-walk-μ-loop
-page-walk-loop-holds t c = walking-first _ _ _ _ _ _ _ _ _ _ (c .before .pre .1)
+page-walk-loop-holds t c = walking-first _ _ _ _ _ _ _ _ _ _ _ (c .before .pre .1)
 
 page-walk-add-pair-at : (t : ℕ) → page-walk-lts.Need-add-pair-at (page-walk-calls t) (page-walk-at t) page-walk.Post page-walk-Inv-loop page-walk-μ-loop
-page-walk-add-pair-at t c = omega (arith, walking-inside _ _ _ _ _ _ _ _ _ _ _ _ (c .before .loop .inv) (c .loop-test .taken))
+page-walk-add-pair-at t c = omega (arith, walking-inside _ _ _ _ _ _ _ _ _ _ _ _ _ (c .before .loop .inv) (c .loop-test .taken))
 
 page-walk-pair-at-requires : (t : ℕ)
     → page-walk-lts.Need-pair-at-requires (page-walk-calls t) (page-walk-at t) page-walk.Post page-walk-Inv-loop page-walk-μ-loop
-page-walk-pair-at-requires t c κs = walking-inside _ _ _ _ _ _ _ _ _ _ _ _ (c .before .loop .inv) (c .loop-test .taken)
-
-page-walk-count-requires : (t : ℕ) → page-walk-lts.Need-count-requires (page-walk-calls t) (page-walk-at t) page-walk.Post page-walk-Inv-loop page-walk-μ-loop
-page-walk-count-requires t c κs = tt
-
-page-walk-count-requires-2 : (t : ℕ)
-    → page-walk-lts.Need-count-requires-2 (page-walk-calls t) (page-walk-at t) page-walk.Post page-walk-Inv-loop page-walk-μ-loop
-page-walk-count-requires-2 t c κs = tt
+page-walk-pair-at-requires t c κs = walking-inside _ _ _ _ _ _ _ _ _ _ _ _ _ (c .before .loop .inv) (c .loop-test .taken)
 
 page-walk-sub-rest : (t : ℕ) → page-walk-lts.Need-sub-rest (page-walk-calls t) (page-walk-at t) page-walk.Post page-walk-Inv-loop page-walk-μ-loop
 page-walk-sub-rest t c = rw (c .count2 .ensures) (c .before .before .before .before .before .loop .inv .count)
-
-page-walk-less-requires : (t : ℕ) → page-walk-lts.Need-less-requires (page-walk-calls t) (page-walk-at t) page-walk.Post page-walk-Inv-loop page-walk-μ-loop
-page-walk-less-requires t c κs = tt
 
 page-walk-size-at-requires : (t : ℕ)
     → page-walk-lts.Need-size-at-requires (page-walk-calls t) (page-walk-at t) page-walk.Post page-walk-Inv-loop page-walk-μ-loop
@@ -144,9 +128,6 @@ page-walk-add-descend : (t : ℕ) → page-walk-lts.Need-add-descend (page-walk-
 page-walk-add-descend t c =
     let f = c .before .before .before .before .before .before .before .loop .inv .fits in
     omega (arith, c .size-at .ensures .0, f .inside)
-
-page-walk-cast-descend : (t : ℕ) → page-walk-lts.Need-cast-descend (page-walk-calls t) (page-walk-at t) page-walk.Post page-walk-Inv-loop page-walk-μ-loop
-page-walk-cast-descend t c = search needs
 
 page-walk-add-descend-2 : (t : ℕ) → page-walk-lts.Need-add-descend-2 (page-walk-calls t) (page-walk-at t) page-walk.Post page-walk-Inv-loop page-walk-μ-loop
 page-walk-add-descend-2 t c =
@@ -159,7 +140,7 @@ page-walk-descend-requires t c κs =
     let o = c .before .before .before .before .before .before .before .before in
     let t = c .before .before .before .before .before .before .before .loop-test .taken in
     let e = c .before .size-at .ensures in
-    (omega arith, rw (e .0) (walking-down _ _ _ _ _ _ _ _ _ _ _ _ (o .loop .inv) _ t (rw (e .0) at (e .1)) (omega (arith, c .struct-known .given))))
+    (omega arith, rw (e .0) (walking-down _ _ _ _ _ _ _ _ _ _ _ _ _ (o .loop .inv) _ t (rw (e .0) at (e .1)) (omega (arith, c .struct-known .given))))
 
 page-walk-returns : (t : ℕ) → page-walk-lts.Need-returns (page-walk-calls t) (page-walk-at t) page-walk.Post page-walk-Inv-loop page-walk-μ-loop
 page-walk-returns t c =
@@ -169,12 +150,12 @@ page-walk-returns t c =
     let p = c .before .before .before .before .before .if1 .taken in
     c .descend .ensures
     ∙ rw (c .before .before .size-at .ensures .0, c .before .before .before .less .ensures, c .before .before .before .before .count2 .ensures)
-    (walking-here _ _ _ _ _ _ _ _ _ _ _ _ (o .loop .inv) (spanOf (y .result)) t (y .ensures .0)
+    (walking-here _ _ _ _ _ _ _ _ _ _ _ _ _ (o .loop .inv) (spanOf (y .result)) t (y .ensures .0)
     (rw (c .before .before .before .before .before .before .count .ensures) at p))
 
 page-walk-add-entry : (t : ℕ) → page-walk-lts.Need-add-entry (page-walk-calls t) (page-walk-at t) page-walk.Post page-walk-Inv-loop page-walk-μ-loop
 page-walk-add-entry t c = omega
-    (arith, walking-inside _ _ _ _ _ _ _ _ _ _ _ _ (c .before .before .before .before .loop .inv) (c .before .before .before .loop-test .taken))
+    (arith, walking-inside _ _ _ _ _ _ _ _ _ _ _ _ _ (c .before .before .before .before .loop .inv) (c .before .before .before .loop-test .taken))
 
 page-walk-loop-less : (t : ℕ) → page-walk-lts.Need-loop-less (page-walk-calls t) (page-walk-at t) page-walk.Post page-walk-Inv-loop page-walk-μ-loop
 page-walk-loop-less t c = let t = c .before .before .before .loop-test .taken in omega arith
@@ -183,12 +164,12 @@ page-walk-loop-again : (t : ℕ) → page-walk-lts.Need-loop-again (page-walk-ca
 page-walk-loop-again t c =
     let y = c .before .before .pair-at in
     let p = c .if1 .left in
-    walking-on _ _ _ _ _ _ _ _ _ _ _ _ (c .before .before .before .before .loop .inv) (spanOf (y .result)) (c .before .before .before .loop-test .taken)
+    walking-on _ _ _ _ _ _ _ _ _ _ _ _ _ (c .before .before .before .before .loop .inv) (spanOf (y .result)) (c .before .before .before .loop-test .taken)
     (y .ensures .0)
     (rw (c .before .count .ensures) at p)
 
 page-walk-returns-2 : (t : ℕ) → page-walk-lts.Need-returns-2 (page-walk-calls t) (page-walk-at t) page-walk.Post page-walk-Inv-loop page-walk-μ-loop
-page-walk-returns-2 t c = walking-none _ _ _ _ _ _ _ _ _ _ _ _ (c .before .loop .inv) (c .loop-test .left)
+page-walk-returns-2 t c = walking-none _ _ _ _ _ _ _ _ _ _ _ _ _ (c .before .loop .inv) (c .loop-test .left)
 
 pub +descend+page-walk-spec : {M : Type 1} → statement M
 +descend+page-walk-spec = close μ-descend μ-page-walk (λ t. descend-lts.spec (descend-calls t)
@@ -199,8 +180,8 @@ pub +descend+page-walk-spec : {M : Type 1} → statement M
     (descend-size-at-requires t)
     (descend-mul-first t)
     (descend-returns-2 t)
-    (descend-sub-least t)
-    (descend-least-requires t)
+    (λ c. omega arith)
+    (λ c κs. tt)
     (descend-page-walk-requires t)
     (descend-returns-3 t))
     λ t. page-walk-lts.spec (page-walk-calls t)
@@ -212,13 +193,13 @@ pub +descend+page-walk-spec : {M : Type 1} → statement M
     (page-walk-loop-holds t)
     (page-walk-add-pair-at t)
     (page-walk-pair-at-requires t)
-    (page-walk-count-requires t)
-    (page-walk-count-requires-2 t)
+    (λ c κs. tt)
+    (λ c κs. tt)
     (page-walk-sub-rest t)
-    (page-walk-less-requires t)
+    (λ c κs. tt)
     (page-walk-size-at-requires t)
     (page-walk-add-descend t)
-    (page-walk-cast-descend t)
+    (λ c. search needs)
     (page-walk-add-descend-2 t)
     (page-walk-descend-requires t)
     (page-walk-returns t)

@@ -3,9 +3,6 @@ use borrow.Author.Needs.{needs}
 use Rattle.paged_runs.proofs.search.count.Statement.{statement}
 use Rattle.paged_runs.proofs.search.count.Tie as tie
 
-less-requires : tie.Need-less-requires
-less-requires c κs = search needs
-
 returns : tie.Need-returns
 returns c = rw (c .before .if1 .taken) (c .less .ensures)
 
@@ -13,4 +10,9 @@ returns-2 : tie.Need-returns-2
 returns-2 c = rw (c .if1 .left)
 
 pub count-spec : {M : Type 1} → statement M
-count-spec = tie.close (tie.spec less-requires returns returns-2)
+count-spec =
+    tie.close
+    (tie.spec
+    (λ c κs. search needs)
+    returns
+    returns-2)

@@ -10,40 +10,13 @@ Inv-loop step seconds sizes₀ size₀ count₀ entries₀ sizes size count entr
 abbrev μ-loop : tie.MeasureT-loop
 μ-loop step seconds sizes₀ size₀ count₀ entries₀ sizes size count entries = size
 
-index-requires : tie.Need-index-requires Inv-loop μ-loop
-index-requires c κs = search needs
-
-element-write-sizes : tie.Need-element-write-sizes Inv-loop μ-loop
-element-write-sizes c = search needs
-
 loop-holds : tie.Need-loop-holds Inv-loop μ-loop
 loop-holds c =
     rw (c .index .ensures .0) (storing-first (c .before .args .step) (c .before .args .seconds) (c .before .args .sizes .now) (c .before .pre .3)
     (c .before .pre .2))
 
-sub-size : tie.Need-sub-size Inv-loop μ-loop
-sub-size c = search needs
-
-add-size : tie.Need-add-size Inv-loop μ-loop
-add-size c = search needs
-
-div-size : tie.Need-div-size Inv-loop μ-loop
-div-size c = search needs
-
-mul-sizes : tie.Need-mul-sizes Inv-loop μ-loop
-mul-sizes c = search needs
-
 element-write-sizes-2 : tie.Need-element-write-sizes-2 Inv-loop μ-loop
 element-write-sizes-2 c = room-left _ _ _ _ _ _ (c .before .before .before .pre .0) (c .before .loop .inv) (c .loop-test .taken)
-
-add-count : tie.Need-add-count Inv-loop μ-loop
-add-count c = search needs
-
-index-requires-2 : tie.Need-index-requires-2 Inv-loop μ-loop
-index-requires-2 c κs = search needs
-
-add-entries : tie.Need-add-entries Inv-loop μ-loop
-add-entries c = search needs
 
 loop-less : tie.Need-loop-less Inv-loop μ-loop
 loop-less c = less-above _ _ _ _ _ _ (c .before .before .before .before .pre .0) (c .before .before .loop .inv) (c .before .loop-test .taken)
@@ -62,17 +35,17 @@ level-sizes-spec =
     (tie.spec
     Inv-loop
     μ-loop
-    index-requires
-    element-write-sizes
+    (λ c κs. search needs)
+    (λ c. search needs)
     loop-holds
-    sub-size
-    add-size
-    div-size
-    mul-sizes
+    (λ c. search needs)
+    (λ c. search needs)
+    (λ c. search needs)
+    (λ c. search needs)
     element-write-sizes-2
-    add-count
-    index-requires-2
-    add-entries
+    (λ c. search needs)
+    (λ c κs. search needs)
+    (λ c. search needs)
     loop-less
     loop-again
     returns)

@@ -19,38 +19,31 @@ level-sizes-requires c κs =
     let t = c .before in
     (t .before .before .before .before .if1 .left, t .before .before .if2 .left, t .if3 .left, refl)
 
-mul-if4 : tie.Need-mul-if4
-mul-if4 c = search needs
-
-add-if4 : tie.Need-add-if4
-add-if4 c = search needs
-
 returns-4 : tie.Need-returns-4
 returns-4 c =
-    let t = c .before .before .before .before in
+    let t = c .before .before .before .before .before in
+    let l = rw (c .before .before .index .ensures .0) at (c .if4 .taken) in
     sym (short-file _ _ _ _ (t .before .before .before .before .if1 .left) (t .before .before .if2 .left) (t .if3 .left) _ _ _
-    (c .before .before .level-sizes .ensures) (c .if4 .taken))
-
-index-requires : tie.Need-index-requires
-index-requires c κs = tt
+    (c .before .before .before .level-sizes .ensures) l)
 
 descend-requires : tie.Need-descend-requires
 descend-requires c κs =
-    let l = c .before .before .before .before in
+    let l = c .before .before .before .before .before in
     let t = l .before .before in
     let a = t .before .before .before .before .before .before .before .args in
-    rw (c .index .ensures .0)
+    let k = rw (c .before .before .before .before .index .ensures .0) at (c .before .before .if4 .left) in
+    rw (c .index2 .ensures .0)
     (top-fits (a .file .now) (a .v) (a .stored) (a .number) (t .before .before .before .before .if1 .left) (t .before .before .if2 .left) (t .if3 .left) _ _ _
-    (l .level-sizes .ensures) (c .before .before .if4 .left))
+    (l .level-sizes .ensures) k)
 
 returns-5 : tie.Need-returns-5
 returns-5 c =
-    let l = c .before .before .before .before .before in
+    let l = c .before .before .before .before .before .before in
     let t = l .before .before in
+    let k = rw (c .before .before .before .before .before .index .ensures .0) at (c .before .before .before .if4 .left) in
     c .descend .ensures
-    ∙ rw (c .before .index .ensures .0)
-    (from-top _ _ _ _ (t .before .before .before .before .if1 .left) (t .before .before .if2 .left) (t .if3 .left) _ _ _ (l .level-sizes .ensures)
-    (c .before .before .before .if4 .left))
+    ∙ rw (c .before .index2 .ensures .0)
+    (from-top _ _ _ _ (t .before .before .before .before .if1 .left) (t .before .before .if2 .left) (t .if3 .left) _ _ _ (l .level-sizes .ensures) k)
 
 pub search-spec : {M : Type 1} → statement M
 search-spec =
@@ -60,9 +53,10 @@ search-spec =
     returns-2
     returns-3
     level-sizes-requires
-    mul-if4
-    add-if4
+    (λ c κs. search needs)
+    (λ c. search needs)
+    (λ c. search needs)
     returns-4
-    index-requires
+    (λ c κs. search needs)
     descend-requires
     returns-5)

@@ -4,7 +4,7 @@ use native.Mathlib.Omega.{arith}
 use lib.ListN.{length, drop}
 use Rattle.format.specs.Tools.{both}
 use Rattle.format.specs.Bytes.{numbersOf}
-use Rattle.header.specs.Body.{rises}
+use Rattle.parts.specs.Holds.{rises}
 use Rattle.positions.proofs.Climb.{climbs, rises-climbs, rises-none, climb-first, climb-turn, climb-end}
 use borrow.Author.Needs.{needs}
 use Rattle.positions.proofs.check.positions_rise.Statement.{statement}
@@ -18,25 +18,20 @@ Inv-loop file at n cells before₀ place₀ left₀ right₀ before place left r
 abbrev μ-loop : tie.MeasureT-loop
 μ-loop file at n cells before₀ place₀ left₀ right₀ before place left right = left
 
--- src/check.rt:17:9
 returns : tie.Need-returns Inv-loop μ-loop
 returns c =
     let a = c .before .before .args in
     sym (rises-none 4 (a .cells) (a .n) (drop (a .at) (a .file .now)) (c .if1 .taken))
 
--- src/check.rt:19:9
 get-u32-requires : tie.Need-get-u32-requires Inv-loop μ-loop
 get-u32-requires c κs = search needs
 
--- src/check.rt:20:21
 add-place : tie.Need-add-place Inv-loop μ-loop
 add-place c = search needs
 
--- src/check.rt:21:20
 sub-left : tie.Need-sub-left Inv-loop μ-loop
 sub-left c = search needs
 
--- src/check.rt:23:5
 loop-holds : tie.Need-loop-holds Inv-loop μ-loop
 loop-holds c =
     let a = c .before .before .before .args in
@@ -46,23 +41,18 @@ loop-holds c =
           (climb-first 4 (a .n) (a .at) (a .cells) (a .file .now) z ∙ sym (rises-climbs 0 (a .cells) (numbersOf 4 (a .n) (drop (a .at) (a .file .now))) (omega arith))),
     )
 
--- src/check.rt:24:13
 get-u32-requires-2 : tie.Need-get-u32-requires-2 Inv-loop μ-loop
 get-u32-requires-2 c κs = search needs
 
--- src/check.rt:27:9
 add-place-2 : tie.Need-add-place-2 Inv-loop μ-loop
 add-place-2 c = search needs
 
--- src/check.rt:28:9
 sub-left-2 : tie.Need-sub-left-2 Inv-loop μ-loop
 sub-left-2 c = search needs
 
--- src/check.rt:23:5
 loop-less : tie.Need-loop-less Inv-loop μ-loop
 loop-less c = search needs
 
--- src/check.rt:23:5
 loop-again : tie.Need-loop-again Inv-loop μ-loop
 loop-again c =
     let a = c .before .before .before .before .before .before .args in
@@ -71,7 +61,6 @@ loop-again c =
       rw (c .get-u322 .ensures .0) (climb-turn 4 (l .left) (l .place) (l .before) (a .cells) (a .file .now) (l .right) (c .before .loop-test .taken) ∙ l .inv .1),
     )
 
--- src/check.rt:12:1
 returns-2 : tie.Need-returns-2 Inv-loop μ-loop
 returns-2 c =
     let a = c .before .before .before .before .before .args in

@@ -1,5 +1,6 @@
 use native.Mathlib.Omega.{arith}
-use Rattle.rewrite.proofs.RunEdits.{ranks-there, lost-none, left-there, lost-one}
+use Rattle.rewrite.proofs.Three.{ranks-there, cells-most}
+use Rattle.rewrite.proofs.RunEdits.{lost-none, left-there, lost-one}
 use Rattle.rewrite.proofs.counted.runs_lost.Statement.{statement}
 use Rattle.rewrite.proofs.counted.runs_lost.Tie as tie
 
@@ -13,7 +14,15 @@ stored-position-requires : tie.Need-stored-position-requires
 stored-position-requires c κs = (c .before .before .before .pre .0, left-there (c .before .before .before .args .file .now) (c .before .before .before .args .v) (c .before .before .before .pre .0) (c .before .before .before .args .x) (c .before .before .before .pre .1) (c .if1 .left))
 
 runs-joined-requires-2 : tie.Need-runs-joined-requires-2
-runs-joined-requires-2 c κs = (c .before .before .before .before .pre .0, ranks-there (c .before .before .before .before .args .file .now) (c .before .before .before .before .args .v) (c .before .before .before .before .pre .0) (c .before .before .before .before .args .x) (c .before .before .before .before .pre .1) .1, λ e. c .stored-position .ensures .1)
+runs-joined-requires-2 c κs = (
+  c .before .before .before .before .pre .0,
+  ranks-there (c .before .before .before .before .args .file .now) (c .before .before .before .before .args .v) (c .before .before .before .before .pre .0) (c .before .before .before .before .args .x) (c .before .before .before .before .pre .1) .1,
+  λ e.
+      let p = c .before .before .before .before in
+      let m = cells-most (p .args .file .now) (p .args .v) (p .pre .0) (p .args .x) (p .pre .1) in
+      let q = c .stored-position .ensures .1 in
+      omega arith,
+)
 
 returns-2 : tie.Need-returns-2
 returns-2 c = lost-one (c .before .before .before .before .before .args .file .now) (c .before .before .before .before .before .args .v) (c .before .before .before .before .before .pre .0) (c .before .before .before .before .before .args .x) (c .before .before .before .before .before .pre .1) (c .before .before .before .before .before .args .end) _ _ (c .before .before .if1 .left) (c .before .stored-position .ensures .0) (c .runs-joined2 .ensures)

@@ -1,6 +1,7 @@
-use Rattle.shape.proofs.Measures.{as-itself}
-use Rattle.rewrite.proofs.RunEdits.{ranks-there, few-words}
-use Rattle.rewrite.proofs.RunSizes.{listed-after}
+use native.Mathlib.Omega.{arith}
+use Rattle.rewrite.proofs.Three.{ranks-there}
+use Rattle.rewrite.proofs.RunEdits.{few-words}
+use Rattle.rewrite.proofs.RunSizes.{few-ranks, ranks-measure, runs-measure}
 use borrow.Author.Needs.{needs}
 use Rattle.rewrite.proofs.counted.sized.Statement.{statement}
 use Rattle.rewrite.proofs.counted.sized.Tie as tie
@@ -9,57 +10,62 @@ ranks-after-requires : tie.Need-ranks-after-requires
 ranks-after-requires c κs =
     let p = c .before .before .before in
     let a = p .args in
-    (p .pre .1 .ordered, ranks-there (a .file .now) (a .v) (p .pre .0) (a .x) (p .pre .1) .1, few-words (a .file .now) (a .v) (p .pre .0))
+    let t = ranks-there (a .file .now) (a .v) (p .pre .0) (a .x) (p .pre .1) in
+    (t .0, t .1, few-words (a .file .now) (a .v) (p .pre .0))
 
-cast-encoder-of : tie.Need-cast-encoder-of
-cast-encoder-of c = search needs
-
-mul-encoder-of : tie.Need-mul-encoder-of
-mul-encoder-of c = search needs
-
-encoder-of-requires : tie.Need-encoder-of-requires
-encoder-of-requires c κs = search needs
+by-counts-requires : tie.Need-by-counts-requires
+by-counts-requires c κs =
+    let p = c .before .before .before .before in
+    let a = p .args in
+    (p .pre .2, few-ranks (a .file .now) (a .v) (p .pre .0) (a .x) (p .pre .1) _ (c .ranks-after .ensures .0), omega arith)
 
 returns : tie.Need-returns
 returns c =
     let p = c .before .before .before .before .before in
     let a = p .args in
-    let w = p .pre in
-    listed-after (a .file .now) (a .v) (w .0) (a .x) (w .1) (a .s) (w .2) _ (c .before .ranks-after .ensures .0) (c .before .before .if1 .taken) _
-    (c .encoder-of .ensures)
+    let r = c .by-counts in
+    ranks-measure (a .file .now) (a .v) (p .pre .0) (a .x) (p .pre .1) _ (c .before .ranks-after .ensures .0) (a .s) (p .pre .2) _ (r .result)
+    (r .ensures .0) (r .ensures .1) (c .before .before .before .sized-by-ranks .ensures (c .before .before .if1 .taken))
 
-stores-runs-requires : tie.Need-stores-runs-requires
-stores-runs-requires c κs = search needs
+ranks-after-requires-2 : tie.Need-ranks-after-requires-2
+ranks-after-requires-2 c κs =
+    let p = c .before .before .before .before .before .before .before in
+    let a = p .args in
+    let t = ranks-there (a .file .now) (a .v) (p .pre .0) (a .x) (p .pre .1) in
+    (t .0, t .1, few-words (a .file .now) (a .v) (p .pre .0))
 
-stores-runs-requires-2 : tie.Need-stores-runs-requires-2
-stores-runs-requires-2 c κs = search needs
+runs-after-requires : tie.Need-runs-after-requires
+runs-after-requires c κs =
+    let p = c .before .before .before .before .before .before .before .before .pre in
+    (p .0, p .1, c .before .before .stores-runs2 .ensures (c .before .if3 .taken))
 
-counted-requires : tie.Need-counted-requires
-counted-requires c κs =
-    let w = c .before .before .before .before .before .before .before .pre in
-    (w .0, w .1, w .2, c .before .stores-runs2 .ensures (c .if3 .taken), c .before .before .before .stores-runs .ensures (c .before .before .if2 .taken))
+by-counts-requires-2 : tie.Need-by-counts-requires-2
+by-counts-requires-2 c κs =
+    let p = c .before .before .before .before .before .before .before .before .before in
+    let a = p .args in
+    (p .pre .2, few-ranks (a .file .now) (a .v) (p .pre .0) (a .x) (p .pre .1) _ (c .before .ranks-after2 .ensures .0), c .runs-after .ensures .1)
 
 returns-2 : tie.Need-returns-2
-returns-2 c = search needs
-
-measure-requires : tie.Need-measure-requires
-measure-requires c κs = search needs
-
-returns-3 : tie.Need-returns-3
-returns-3 c = as-itself _ _ (c .measure .ensures)
+returns-2 c =
+    let p = c .before .before .before .before .before .before .before .before .before .before in
+    let a = p .args in
+    let r = c .by-counts2 in
+    runs-measure (a .file .now) (a .v) (p .pre .0) (a .x) (p .pre .1) _ (c .before .before .ranks-after2 .ensures .0) (a .s) (p .pre .2) _ (r .result)
+    (r .ensures .0) (r .ensures .1) (c .before .before .before .before .before .before .stores-runs .ensures (c .before .before .before .before .before .if2 .taken)) (c .before .runs-after .ensures .0)
 
 pub sized-spec : {M : Type 1} → statement M
 sized-spec =
     tie.close
     (tie.spec
+    (λ c κs. search needs)
     ranks-after-requires
-    cast-encoder-of
-    mul-encoder-of
-    encoder-of-requires
+    by-counts-requires
     returns
-    stores-runs-requires
-    stores-runs-requires-2
-    counted-requires
+    (λ c κs. search needs)
+    (λ c κs. search needs)
+    ranks-after-requires-2
+    runs-after-requires
+    by-counts-requires-2
     returns-2
-    measure-requires
-    returns-3)
+    (λ c κs. search needs)
+    (λ c. search needs))

@@ -2,7 +2,7 @@ use Prim.Native.Nat.{_+_, _-_}
 use mathlib.Core.Path.{_≡_, refl}
 use native.Mathlib.Omega.{arith}
 use lib.ListN.{length}
-use Rattle.cursor.proofs.Stretches.{stretch-inside}
+use Rattle.parts.proofs.Along.{stretch-inside}
 use Rattle.rewrite.proofs.RunTurns.{Written, cells, run-asked, run-room, written-turn, written-end}
 use borrow.Author.Needs.{needs}
 use Rattle.rewrite.proofs.runs.put_runs.Statement.{statement}
@@ -22,8 +22,8 @@ loop-holds c =
 stretch-requires : tie.Need-stretch-requires Inv-loop μ-loop
 stretch-requires c κs = search needs
 
-emit-run-requires : tie.Need-emit-run-requires Inv-loop μ-loop
-emit-run-requires c κs =
+put-run-requires : tie.Need-put-run-requires Inv-loop μ-loop
+put-run-requires c κs =
     let p = c .before .before .before .before .before .before in
     let a = p .args in
     let l = c .before .before .before .loop in
@@ -31,7 +31,7 @@ emit-run-requires c κs =
     let q = cells (l .c) (k .result) (l .left) (c .before .before .loop-test .taken) (k .ensures) in
     let r = run-asked (a .s) (a .file .now) (a .v) (p .pre .2) (l .c) (l .e) (k .result) (l .left) q (l .inv .measured .rest) in
     let m = run-room (a .s) (a .file .now) (a .v) (p .pre .2) (l .c) (l .e) (k .result) (l .left) q (length (l .dst)) (l .inv .room) in
-    (p .pre .0, p .pre .1, q .some, r .0, r .1, r .2, m .0, m .1)
+    (p .pre .0, p .pre .1, q .some, r .0, r .1, r .2, m)
 
 sub-past-cells : tie.Need-sub-past-cells Inv-loop μ-loop
 sub-past-cells c =
@@ -61,7 +61,7 @@ loop-again c =
     let a = p .args in
     let l = c .before .before .before .before .before .before .before .loop in
     let k = c .before .before .before .before .before .stretch in
-    let o = c .before .before .before .emit-run in
+    let o = c .before .before .before .put-run in
     let q = cells (l .c) (k .result) (l .left) (c .before .before .before .before .before .before .loop-test .taken) (k .ensures) in
     let z = q .some in
     let one : k .result - 1 + 1 ≡ k .result = omega arith in
@@ -85,7 +85,7 @@ put-runs-spec =
     μ-loop
     loop-holds
     stretch-requires
-    emit-run-requires
+    put-run-requires
     sub-past-cells
     past-cells-requires
     sub-left

@@ -3,8 +3,8 @@ use mathlib.Core.Path.{_≡_, refl, sym, _∙_}
 use native.Mathlib.Omega.{arith}
 use lib.ListN.{length}
 use lib.Seq.{length-take-le}
-use Rattle.cursor.specs.Cursor.{walked}
-use Rattle.encode.specs.Batch.{Along}
+use Rattle.parts.specs.Batch.{Along}
+use Rattle.kinds.specs.Steps.{walked}
 use Rattle.rewrite.specs.Walk.{along}
 use Rattle.rewrite.proofs.Stretch.{Batch, batch, turn-whole, turn-now, turn-later, end-whole}
 use borrow.Author.Needs.{needs}
@@ -28,7 +28,7 @@ next c =
     (c .positions .ensures .0) (c .positions .ensures .1)
 
 loop-holds : tie.Need-loop-holds Inv-loop μ-loop
-loop-holds c = (omega arith, refl, c .before .pre .1, refl)
+loop-holds c = (omega arith, refl, c .before .pre .2, refl)
 
 batch-of-requires : tie.Need-batch-of-requires Inv-loop μ-loop
 batch-of-requires c κs = search needs
@@ -49,19 +49,18 @@ array-share-prefix-batch c =
     let l = c .before .before .before .before .before .loop in
     rw (next (c .before) .size, l .inv .1) (c .before .before .before .batch-of .ensures .1)
 
-slice-aggregate-advance-all : tie.Need-slice-aggregate-advance-all Inv-loop μ-loop
-slice-aggregate-advance-all c = sym (next (c .before .before) .count)
+slice-aggregate-take-all : tie.Need-slice-aggregate-take-all Inv-loop μ-loop
+slice-aggregate-take-all c = sym (next (c .before .before) .count)
 
-advance-all-requires : tie.Need-advance-all-requires Inv-loop μ-loop
-advance-all-requires c κs =
+take-all-requires : tie.Need-take-all-requires Inv-loop μ-loop
+take-all-requires c κs =
     let a = c .before .before .before .before .before .before .before .before .args in
     let p = c .before .before .before .before .before .before .before .before .pre in
     let l = c .before .before .before .before .before .before .loop in
     let k = c .before .before .before .before .batch-of .result in
     let h = c .before .before .before .before .batch-of .ensures .0 in
     let t = next (c .before .before) in
-    let n = turn-now (a .s) (a .file .now) (a .v) (l .c) (l .e) k (l .left) h (l .inv .2) in
-    rw (t .front) (p .0, n .sound, n .rising)
+    rw (t .front) (p .1, turn-now (a .s) (a .file .now) (a .v) (l .c) (l .e) k (l .left) h (l .inv .2))
 
 cast-left : tie.Need-cast-left Inv-loop μ-loop
 cast-left c = search needs
@@ -83,10 +82,10 @@ loop-again c =
     let k = c .before .before .before .before .before .batch-of .result in
     let h = c .before .before .before .before .before .batch-of .ensures .0 in
     let t = next (c .before .before .before) in
-    let q = rw (t .front) at (c .advance-all .ensures) in (
+    let q = rw (t .front) at (c .take-all .ensures) in (
       omega arith,
       t .size ∙ l .inv .1,
-      rw (t .cursor, q) (turn-later (a .s) (a .file .now) (a .v) (l .c) (l .e) k (l .left) h (p .0) (l .inv .2)),
+      rw (t .cursor, q) (turn-later (a .s) (a .file .now) (a .v) (l .c) (l .e) k (l .left) h (p .1) (l .inv .2)),
       rw (t .cursor, q) (turn-whole (a .s) (a .file .now) (a .v) (l .c) (l .e) k (l .left) h) ∙ l .inv .3,
     )
 
@@ -108,8 +107,8 @@ measure-ranks-spec =
     slice-aggregate-positions
     positions-requires
     array-share-prefix-batch
-    slice-aggregate-advance-all
-    advance-all-requires
+    slice-aggregate-take-all
+    take-all-requires
     cast-left
     sub-left
     loop-less

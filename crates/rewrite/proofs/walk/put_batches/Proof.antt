@@ -3,11 +3,11 @@ use mathlib.Core.Path.{_≡_, refl, sym, ap, _∙_}
 use native.Mathlib.Omega.{arith}
 use lib.ListN.{length}
 use lib.Seq.{length-take-le}
-use Rattle.cursor.specs.Cursor.{walked}
-use Rattle.encode.specs.Batch.{Along, RoomAll, putAllBy}
-use Rattle.encode.specs.Encoder.{coder}
+use Rattle.parts.specs.Batch.{Along, RoomAll, putAllBy}
+use Rattle.kinds.specs.Steps.{walked}
+use Rattle.kinds.specs.Coding.{coder}
 use Rattle.rewrite.specs.Walk.{along}
-use Rattle.rewrite.proofs.Stretch.{Batch, batch, turn-whole, turn-now, turn-later, turn-room-now, turn-room-later, turn-put, end-whole, end-put, length-put-all, room-asked, put-all-is}
+use Rattle.rewrite.proofs.Stretch.{Batch, batch, turn-whole, turn-now, turn-later, turn-room-now, turn-room-later, turn-put, end-whole, end-put, length-put-all}
 use borrow.Author.Needs.{needs}
 use Rattle.rewrite.proofs.walk.put_batches.Statement.{statement}
 use Rattle.rewrite.proofs.walk.put_batches.Tie as tie
@@ -31,7 +31,7 @@ next c =
     (c .positions .ensures .0) (c .positions .ensures .1)
 
 loop-holds : tie.Need-loop-holds Inv-loop μ-loop
-loop-holds c = let p = c .before .before .pre in (omega arith, refl, p .1, refl, refl, p .2, refl)
+loop-holds c = let p = c .before .before .pre in (omega arith, refl, p .2, refl, refl, p .3, refl)
 
 batch-of-requires : tie.Need-batch-of-requires Inv-loop μ-loop
 batch-of-requires c κs = search needs
@@ -52,11 +52,11 @@ array-share-prefix-batch c =
     let l = c .before .before .before .before .before .before .loop in
     rw (next (c .before .before) .size, l .inv .1) (c .before .before .before .before .batch-of .ensures .1)
 
-slice-aggregate-emit-all : tie.Need-slice-aggregate-emit-all Inv-loop μ-loop
-slice-aggregate-emit-all c = sym (next (c .before .before .before) .count)
+slice-aggregate-put-all : tie.Need-slice-aggregate-put-all Inv-loop μ-loop
+slice-aggregate-put-all c = sym (next (c .before .before .before) .count)
 
-emit-all-requires : tie.Need-emit-all-requires Inv-loop μ-loop
-emit-all-requires c κs =
+put-all-requires : tie.Need-put-all-requires Inv-loop μ-loop
+put-all-requires c κs =
     let a = c .before .before .before .before .before .before .before .before .before .before .args in
     let p = c .before .before .before .before .before .before .before .before .before .before .pre in
     let l = c .before .before .before .before .before .before .before .loop in
@@ -64,8 +64,8 @@ emit-all-requires c κs =
     let h = c .before .before .before .before .before .batch-of .ensures .0 in
     let t = next (c .before .before .before) in
     let n = turn-now (a .s) (a .file .now) (a .v) (l .c) (l .e) k (l .left) h (l .inv .2) in
-    let m = room-asked (a .s) (l .e) _ (length (a .dst .now)) (turn-room-now (a .s) (a .file .now) (a .v) (l .c) (l .e) k (l .left) h (length (a .dst .now)) (l .inv .5)) in
-    rw (t .front, l .inv .4) (p .0, n .sound, n .rising, m .0, m .1)
+    let m = turn-room-now (a .s) (a .file .now) (a .v) (l .c) (l .e) k (l .left) h (length (a .dst .now)) (l .inv .5) in
+    rw (t .front, l .inv .4) (p .1, n, m)
 
 cast-left : tie.Need-cast-left Inv-loop μ-loop
 cast-left c = search needs
@@ -87,13 +87,13 @@ loop-again c =
     let k = c .before .before .before .before .before .before .before .before .batch-of .result in
     let h = c .before .before .before .before .before .before .before .before .batch-of .ensures .0 in
     let t = next (c .before .before .before .before .before .before) in
-    let e = c .before .before .emit-all .result in
-    let q = rw (t .front) at (c .before .before .emit-all .ensures .0) in
-    let w = rw (t .front) at (c .before .before .emit-all .ensures .1) ∙ put-all-is (a .s) (l .e) (walked (a .file .now) (a .v) (l .c) k) (l .dst) in
+    let e = c .before .before .put-all .result in
+    let q = rw (t .front) at (c .before .before .put-all .ensures .0) in
+    let w = rw (t .front) at (c .before .before .put-all .ensures .1) in
     let m = length (a .dst .now) in (
       omega arith,
       t .size ∙ l .inv .1,
-      rw (t .cursor, q) (turn-later (a .s) (a .file .now) (a .v) (l .c) (l .e) k (l .left) h (p .0) (l .inv .2)),
+      rw (t .cursor, q) (turn-later (a .s) (a .file .now) (a .v) (l .c) (l .e) k (l .left) h (p .1) (l .inv .2)),
       rw (t .cursor, q) (turn-whole (a .s) (a .file .now) (a .v) (l .c) (l .e) k (l .left) h) ∙ l .inv .3,
       ap length w ∙ length-put-all (coder (a .s)) (l .dst) (l .e) (walked (a .file .now) (a .v) (l .c) k) ∙ l .inv .4,
       rw (t .cursor, q) (turn-room-later (a .s) (a .file .now) (a .v) (l .c) (l .e) k (l .left) h m (l .inv .5)),
@@ -123,8 +123,8 @@ put-batches-spec =
     slice-aggregate-positions
     positions-requires
     array-share-prefix-batch
-    slice-aggregate-emit-all
-    emit-all-requires
+    slice-aggregate-put-all
+    put-all-requires
     cast-left
     sub-left
     loop-less

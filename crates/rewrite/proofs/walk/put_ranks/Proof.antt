@@ -11,7 +11,7 @@ stores-runs-requires-2 c κs = search needs
 put-runs-requires : tie.Need-put-runs-requires
 put-runs-requires c κs =
     let p = c .before .before .before .before .before .before .before .pre in
-    (p .0, c .before .before .before .before .stores-runs .ensures (c .before .before .before .if1 .taken), c .before .before .stores-runs2 .ensures (c .before .if2 .taken), p .1, p .2)
+    (p .1, c .before .before .before .before .stores-runs .ensures (c .before .before .before .if1 .taken), c .before .before .stores-runs2 .ensures (c .before .if2 .taken), p .2, p .3)
 
 same-length : tie.Need-same-length
 same-length c = search needs

@@ -1,6 +1,6 @@
 use mathlib.Core.Path.{_≡_, refl, sym, _∙_}
 use native.Mathlib.Omega.{arith}
-use Rattle.cursor.specs.Cursor.{steppedBy}
+use Rattle.kinds.specs.Steps.{steppedBy}
 use Rattle.rewrite.proofs.Stretch.{skip-turn, skip-end}
 use borrow.Author.Needs.{needs}
 use Rattle.rewrite.proofs.walk.skip.Statement.{statement}
@@ -12,30 +12,24 @@ Inv-loop file v c₀ n₀ c n = steppedBy file v c n ≡ steppedBy file v c₀ n
 abbrev μ-loop : tie.MeasureT-loop
 μ-loop file v c₀ n₀ c n = n
 
--- src/walk.rt:44:5
 loop-holds : tie.Need-loop-holds Inv-loop μ-loop
 loop-holds c = refl
 
--- src/walk.rt:45:9
 next-requires : tie.Need-next-requires Inv-loop μ-loop
 next-requires c κs = search needs
 
--- src/walk.rt:46:9
 sub-n : tie.Need-sub-n Inv-loop μ-loop
 sub-n c = search needs
 
--- src/walk.rt:44:5
 loop-less : tie.Need-loop-less Inv-loop μ-loop
 loop-less c = search needs
 
--- src/walk.rt:44:5
 loop-again : tie.Need-loop-again Inv-loop μ-loop
 loop-again c =
     let a = c .before .before .before .before .args in
     let l = c .before .before .loop in
     rw (c .next .ensures) (skip-turn (a .file .now) (a .v) (l .c) (l .n) (let h = c .before .loop-test .taken in omega arith)) ∙ l .inv
 
--- src/walk.rt:40:1
 returns : tie.Need-returns Inv-loop μ-loop
 returns c =
     let a = c .before .before .before .args in

@@ -14,37 +14,29 @@ Inv-loop dst₀ at src from n i₀ dst i = (i ≤ n) × (length dst ≡ length d
 abbrev μ-loop : tie.MeasureT-loop
 μ-loop dst₀ at src from n i₀ dst i = n - i
 
--- src/words.rt:23:5
 loop-holds : tie.Need-loop-holds Inv-loop μ-loop
 loop-holds c =
     let a = c .args in
     (omega arith, refl, copy-start (a .dst .now) (a .src .now) (a .at) (a .from) (a .n))
 
--- src/words.rt:24:27
 add-dst : tie.Need-add-dst Inv-loop μ-loop
 add-dst c = search needs
 
--- src/words.rt:24:23
 shared-slice-read-dst : tie.Need-shared-slice-read-dst Inv-loop μ-loop
 shared-slice-read-dst c = search needs
 
--- src/words.rt:24:13
 add-dst-2 : tie.Need-add-dst-2 Inv-loop μ-loop
 add-dst-2 c = search needs
 
--- src/words.rt:24:9
 slice-write-dst : tie.Need-slice-write-dst Inv-loop μ-loop
 slice-write-dst c = search needs
 
--- src/words.rt:25:9
 add-i : tie.Need-add-i Inv-loop μ-loop
 add-i c = search needs
 
--- src/words.rt:23:5
 loop-less : tie.Need-loop-less Inv-loop μ-loop
 loop-less c = search needs
 
--- src/words.rt:23:5
 loop-again : tie.Need-loop-again Inv-loop μ-loop
 loop-again c =
     let a = c .before .before .before .args in
@@ -54,11 +46,9 @@ loop-again c =
       copy-turn (l .dst) (a .src .now) (a .at) (a .from) (a .n) (l .i) (c .before .before .before .pre .0) (omega arith) ∙ l .inv .2,
     )
 
--- src/words.rt:18:1
 same-length : tie.Need-same-length Inv-loop μ-loop
 same-length c = search needs
 
--- src/words.rt:18:1
 returns : tie.Need-returns Inv-loop μ-loop
 returns c =
     let a = c .before .before .args in

@@ -7,7 +7,6 @@ use borrow.Author.Needs.{needs}
 use Rattle.rewrite.proofs.words.put_word.Statement.{statement}
 use Rattle.rewrite.proofs.words.put_word.Tie as tie
 
--- src/words.rt:35:9
 put-u32-requires : tie.Need-put-u32-requires
 put-u32-requires c κs =
     let a = c .before .before .before .args in
@@ -15,21 +14,17 @@ put-u32-requires c κs =
     let h = rw (c .before .if1 .taken) at (c .before .before .before .pre) in
     omega arith
 
--- src/words.rt:36:16
 add-result : tie.Need-add-result
 add-result c = search needs
 
--- src/words.rt:36:9
 same-length : tie.Need-same-length
 same-length c = search needs
 
--- src/words.rt:36:9
 returns : tie.Need-returns
 returns c =
     let a = c .before .before .before .before .before .before .args in
     rw (c .before .before .before .before .if1 .taken) (ap (λ (n : ℕ). a .at + n) (sym (word-size (a .word))), c .before .before .put-u32 .ensures ∙ sym (put-one (a .dst .now) (a .at) (a .word)))
 
--- src/words.rt:30:1
 returns-2 : tie.Need-returns-2
 returns-2 c =
     let a = c .before .before .args in

@@ -1,3 +1,0 @@
-pub mod Encoder
-pub mod Ready
-pub mod Batch
