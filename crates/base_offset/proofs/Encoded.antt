@@ -16,6 +16,7 @@ use Rattle.parts.specs.declared.Encoder.{Encoder}
 use Rattle.parts.specs.Encoder.{begun, leftAfter, sizesAs, takenBy, endedBy, firstsBy, secondsBy, takenAllBy}
 use Rattle.parts.specs.Ready.{Next, Keeps}
 use Rattle.parts.specs.Codes.{sizesIn, Codes}
+use Rattle.parts.proofs.Outright.{outright}
 use Rattle.parts.proofs.Taking.{if-zero, if-suc, if-most, if-le, rank-all, first-all, second-all}
 use Rattle.parts.proofs.Sounds.{Kept, sound-by}
 use Rattle.base_offset.specs.Coding.{offsetAt, based, coder}
@@ -143,13 +144,8 @@ codes w l h =
       keeps = keeps w l (a .width-most);
       fits = λ f g ls. fits-are w l f g ls s;
       out = λ B ls m o.
-          record {
-            first = λ d f g. unfold basedKind basedParts in firsts-are w l f g ls s;
-            none = λ d. absurd (unfold coder in never d);
-            second = λ f g. unfold basedKind basedParts in seconds-are w l f g ls s;
-            sizes = λ u. sizes-are w l B ls s;
-          };
+          outright (coder w l) (basedKind w l) B ls (λ z start d. unfold coder in refl)
+          (λ f g. unfold basedKind basedParts in firsts-are w l f g ls s)
+          (λ f g. unfold basedKind basedParts in seconds-are w l f g ls s)
+          (λ u. sizes-are w l B ls s);
     }
-  where
-    never : false ≡ true → ⊥
-    never z = let y : _≡_ {A = ℕ} 0 1 = cc in omega arith

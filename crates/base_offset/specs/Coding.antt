@@ -1,6 +1,5 @@
 -- The encoder: a base where none is left to serve p, and p less the base. Assumes nothing.
 use Prim.Native.Nat.{ℕ, _-_, _/_, _^_}
-use mathlib.Core.Bool.{false}
 use mathlib.Core.List.{[]}
 use lib.Dec.{leb}
 use Rattle.format.specs.Tools.{both}
@@ -30,5 +29,5 @@ coder w l =
       endFirst = λ e. [];
       endSecond = λ e. [];
       sizes = λ e. sizesAs e (e .first / 4) (e .rank);
-      derives = false;
+      derived = λ z start d. d;
     }

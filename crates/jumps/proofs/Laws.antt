@@ -18,6 +18,7 @@ use Rattle.parts.specs.Cursor.{add32, before, movedTo, entryOf, walkedAs}
 use Rattle.parts.specs.Encoder.{begun, unchanged, endedBy, takenAllBy, sizesAs}
 use Rattle.parts.specs.Holds.{Holds}
 use Rattle.parts.specs.Codes.{sizesIn, Codes}
+use Rattle.parts.proofs.Outright.{outright}
 use Rattle.parts.proofs.Taking.{same-fit, rank-all, first-all, second-all}
 use Rattle.jumps.specs.Steps.{jumpFrom, jumpBy, next}
 use Rattle.jumps.specs.Coding.{jumpsCoder, coder}
@@ -68,10 +69,9 @@ codes w l a =
     record {
       keeps = keeps w (widths w l a .1);
       fits = λ f g ls. unfold jumpsKind jumpsCoder unchanged begun in same-fit (jumpsCoder w) (begun f g) ls (λ e p. refl);
-      out = λ B ls h o. record {
-        first = λ d f g. unfold jumpsKind jumpParts in firsts w f g ls;
-        none = λ d. absurd (let y : _≡_ {A = ℕ} 0 1 = unfold jumpsCoder in cc in omega arith);
-        second = λ f g. unfold jumpsKind jumpParts in seconds w f g ls;
-        sizes = λ u. unfold jumpsKind in sizes w ls;
-      };
+      out = λ B ls h o.
+          outright (jumpsCoder w) (jumpsKind w l) B ls (λ z start d. unfold jumpsCoder in refl)
+          (λ f g. unfold jumpsKind jumpParts in firsts w f g ls)
+          (λ f g. unfold jumpsKind jumpParts in seconds w f g ls)
+          (λ u. unfold jumpsKind in sizes w ls);
     }

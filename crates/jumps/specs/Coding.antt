@@ -1,6 +1,5 @@
 -- How positions go into jumps and differences (document 01, "The file"). Assumes nothing.
 use Prim.Native.Nat.{ℕ, _/_}
-use mathlib.Core.Bool.{false}
 use mathlib.Core.List.{[]}
 use Rattle.format.specs.Bytes.{bytes}
 use Rattle.format.specs.Jumps.{difference}
@@ -21,7 +20,7 @@ jumpsCoder w =
       endFirst = λ e. [];
       endSecond = λ e. [];
       sizes = λ e. sizesAs e (e .first / 4) (e .rank);
-      derives = false;
+      derived = λ z start d. d;
     }
 
 unfoldable pub coder : ℕ → ℕ → Coder

@@ -4,13 +4,11 @@ use mathlib.Core.Path.{_≡_, refl, sym}
 use mathlib.Core.Bool.{true}
 use mathlib.Core.List.{List}
 use lib.ListN.{length}
-use lib.Dec.{eqb}
-use native.Mathlib.Omega.{arith}
-use borrow.Author.Tests.{ne-eqb}
 use Rattle.format.specs.declared.View.{View}
 use Rattle.format.specs.declared.Setting.{Setting}
 use Rattle.format.specs.Kinds.{codec, codecOf, settingAllowed}
 use Rattle.parts.specs.declared.Cursor.{Cursor}
+use Rattle.parts.specs.declared.Sizes.{Sizes}
 use Rattle.parts.specs.Holds.{Holds, kindOf}
 use Rattle.parts.specs.Cursor.{add32, before, walkedAs}
 use Rattle.parts.specs.Codes.{Codes}
@@ -28,9 +26,7 @@ use Rattle.positions.specs.Coding as positions-spec
 use Rattle.base_offset.specs.Coding as based-spec
 use Rattle.jumps.specs.Coding as jumps-spec
 use Rattle.jumps.specs.Coding.{jumpsCoder}
-use Rattle.paged_runs.specs.Coding as paged-spec
-use Rattle.paged_runs.specs.Coding.{pagesCoder}
-use Rattle.kinds.specs.Coding.{noCoder, coderOf, coder}
+use Rattle.kinds.specs.Coding.{noCoder, coderOf, coder, derived}
 use Rattle.kinds.proofs.None.{never}
 
 walk-by : (k : ℕ) (b : List ℕ) (v : View) (ls : List ℕ) → Holds (codecOf k (v .width) (v .step)) b v ls → walkedAs (nextBy k b v) (nextBy k b v before) (length ls) ≡ ls
@@ -74,17 +70,17 @@ pub codes : (s : Setting) → settingAllowed s ≡ true → Codes (coder s) (cod
 unfolding settingAllowed codec coder
 codes s a = codes-by (s .kind) (s .width) (s .step) a
 
-derives-by : (k w l : ℕ) → coderOf k w l .derives ≡ eqb k 5
-unfolding runsCoder positions-spec.coder based-spec.coder jumps-spec.coder jumpsCoder paged-spec.coder pagesCoder noCoder
-derives-by zero w l = refl
-derives-by (suc zero) w l = refl
-derives-by (suc (suc zero)) w l = refl
-derives-by (suc (suc (suc zero))) w l = refl
-derives-by (suc (suc (suc (suc zero)))) w l = refl
-derives-by (suc (suc (suc (suc (suc zero))))) w l = refl
-derives-by (suc (suc (suc (suc (suc (suc k)))))) w l = sym (ne-eqb (suc (suc (suc (suc (suc (suc k)))))) 5 (λ e. omega arith))
+derived-by : (k w l : ℕ) → (k ≡ 5 → ⊥) → (z : Sizes) (start : ℕ) (d : List ℕ) → coderOf k w l .derived z start d ≡ d
+unfolding runsCoder positions-spec.coder based-spec.coder jumps-spec.coder jumpsCoder noCoder
+derived-by zero w l h z start d = refl
+derived-by (suc zero) w l h z start d = refl
+derived-by (suc (suc zero)) w l h z start d = refl
+derived-by (suc (suc (suc zero))) w l h z start d = refl
+derived-by (suc (suc (suc (suc zero)))) w l h z start d = refl
+derived-by (suc (suc (suc (suc (suc zero))))) w l h z start d = absurd (h refl)
+derived-by (suc (suc (suc (suc (suc (suc k)))))) w l h z start d = refl
 
--- kind 5 alone makes its first part of the second
-pub derives-five : (s : Setting) → coder s .derives ≡ eqb (s .kind) 5
-unfolding coder
-derives-five s = derives-by (s .kind) (s .width) (s .step)
+-- only kind 5 makes something of the parts that were put out
+pub derived-none : (s : Setting) → (s .kind ≡ 5 → ⊥) → (z : Sizes) (start : ℕ) (d : List ℕ) → d ≡ derived s z start d
+unfolding derived coder
+derived-none s h z start d = sym (derived-by (s .kind) (s .width) (s .step) h z start d)

@@ -7,9 +7,6 @@ use lib.ListN.{length}
 use lib.Dec.{eqb}
 use Rattle.format.specs.declared.Setting.{Setting}
 use Rattle.format.specs.Tools.{pick}
-use Rattle.format.specs.Bytes.{bytesOf}
-use Rattle.format.specs.PagedRuns.{flatSpans, upperLevels}
-use Rattle.stores.specs.Put.{put}
 use Rattle.parts.specs.declared.Encoder.{Encoder}
 use Rattle.parts.specs.declared.Sizes.{Sizes}
 use Rattle.parts.specs.Encoder.{Coder, unchanged, sizesAs, firstsBy, secondsBy, takenAllBy}
@@ -19,7 +16,6 @@ use Rattle.positions.specs.Coding as positions
 use Rattle.base_offset.specs.Coding as based
 use Rattle.jumps.specs.Coding as jumps
 use Rattle.paged_runs.specs.Coding as paged
-use Rattle.paged_runs.specs.LevelZero.{levelIn}
 
 unfoldable pub noCoder : Coder
 noCoder =
@@ -30,7 +26,7 @@ noCoder =
       endFirst = λ e. [];
       endSecond = λ e. [];
       sizes = λ e. sizesAs e 0 0;
-      derives = false;
+      derived = λ z start d. d;
     }
 
 abbrev pub coderOf : ℕ → ℕ → ℕ → Coder
@@ -67,10 +63,9 @@ pub record Apart (s : Setting) (e : Encoder) (ls : List ℕ) (v : ℕ) : Type 0 
   pub first : e .first + length (firsts s e ls) ≤ e .second
   pub second : e .second + length (seconds s e ls) ≤ v
 
--- a destination in which the encoder's parts stand, the first at `start`, with what is made of the second part: kind 5's upper levels
+-- a destination in which the parts stand as the encoder put them out, with what is made of them afterwards
 unfoldable pub derived : Setting → Sizes → ℕ → List ℕ → List ℕ
-derived s z start d =
-    pick (coder s .derives) (put d start (bytesOf 4 (flatSpans (upperLevels (s .step) (levelIn d (z .seconds) (start + z .first)))))) d
+derived s z start d = coder s .derived z start d
 
 -- a kind whose sizes follow from the number of ranks
 abbrev pub sizedByRanks : ℕ → Type 0

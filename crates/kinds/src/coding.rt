@@ -8,13 +8,13 @@ ghost use mathlib.Core.Bool.{true};
 ghost use Prim.Native.Nat.{_+_, _≤_};
 ghost use lib.ListN.{length};
 ghost use Rattle.format.specs.Tools.{range};
-ghost use Rattle.format.specs.Kinds.{settingAllowed};
+ghost use Rattle.format.specs.Kinds.{codec, settingAllowed};
 ghost use Rattle.stores.specs.Put.{put};
 ghost use Rattle.parts.specs.Encoder.{endedBy, takenAllBy};
 ghost use Rattle.parts.specs.Ready.{passed, Sound};
 ghost use Rattle.parts.specs.Batch.{Along, RoomAll, putAllBy};
+ghost use Rattle.parts.specs.Codes.{Standing};
 ghost use Rattle.kinds.specs.Steps.{storesRuns};
-ghost use Rattle.paged_runs.specs.LevelZero.{LevelZero};
 ghost use Rattle.kinds.specs.Coding.{coder, takenAll, derived, sizedByRanks, countedBy};
 
 // The encoder after the positions, with nothing put out.
@@ -114,13 +114,15 @@ pub fn put_run(dst: &mut [u8], s: Setting, e: Encoder, p: u32, n: u32) -> Encode
     paged_runs::coding::put_run(dst, s.width, s.step, e, p, n)
 }
 
-// What is made of the second part, which stands in dst behind a first part from `start` on: kind 5's upper levels; nothing for the other kinds.
+// What is made of the parts that stand in dst, the first from `start` on: kind 5's upper levels; nothing for the other kinds.
 pub fn put_derived(dst: &mut [u8], s: Setting, z: Sizes, start: usize)
-    requires { ⌜ (settingAllowed s ≡ true) × (start ≤ 4294967296) × (coder s .derives ≡ true → LevelZero (now dst) start (s .step) (z .seconds) (start + z .first)) ⌝ }
+    requires { ⌜ (settingAllowed s ≡ true) × (start ≤ 4294967296) × Standing (coder s) (codec s) z start (now dst) ⌝ }
     ensures { λ _. ⌜ now (dst .exit) ≡ derived s z start (now (dst .entry)) ⌝ }
 {
-    if s.kind == 5 {
-        paged_runs::levels::put_levels(dst, start, s.step, z.seconds, start + z.first as usize);
+    let kind = s.kind;
+    match kind {
+        5 => paged_runs::levels::put_derived(dst, s.width, s.step, z, start),
+        _ => (),
     }
 }
 

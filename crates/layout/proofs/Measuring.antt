@@ -8,7 +8,6 @@ use lib.ListN.{length}
 use Rattle.format.specs.declared.Setting.{Setting}
 use Rattle.format.specs.Tools.{pick}
 use Rattle.format.specs.Kinds.{codec, settingAllowed}
-use Rattle.laws.proofs.Tools.{cases}
 use Rattle.laws.proofs.Stored.{Rising, rising-widen, rising-length}
 use Rattle.laws.proofs.Parts.{Known, known}
 use Rattle.parts.specs.declared.Encoder.{Encoder}
@@ -64,14 +63,13 @@ module _ (s : Setting) (a : settingAllowed s ≡ true) (n : ℕ) (ls : List ℕ)
       let c = rank-added s (begun 0 0) ls in
       let f = first-all (coder s) (begun 0 0) ls in
       let g = second-all (coder s) (begun 0 0) ls in
-      let g2 = ap length (o .second 0 0) in
+      let f2 = o .first-most 0 0 in
+      let g2 = o .second-most 0 0 in
       let m = few in
       record {
         sound = sound-added s (begun 0 0) ls a (sound-begun 0 0 (omega arith) (omega arith)) (rising-widen 0 n 16777216 ls h r);
         rank = omega arith;
-        first = cases (coder s .derives)
-            (λ d. let f2 = ap length (o .none d 0 0) in omega arith)
-            (λ d. let f2 = ap length (o .first d 0 0) in omega arith);
+        first = omega arith;
         second = omega arith;
       }
 

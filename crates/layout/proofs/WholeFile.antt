@@ -24,16 +24,15 @@ use Rattle.stores.specs.Put.{put}
 use Rattle.stores.proofs.Laws.{put-front}
 use Rattle.parts.specs.declared.Sizes.{Sizes}
 use Rattle.parts.specs.Encoder.{begun}
-use Rattle.parts.specs.Codes.{sizesIn}
-use Rattle.paged_runs.specs.LevelZero.{LevelZero}
+use Rattle.parts.specs.Codes.{Standing, sizesIn}
 use Rattle.kinds.specs.declared.Measured.{Measured}
 use Rattle.kinds.specs.Coding.{coder, firsts, seconds, derived, Apart}
 use Rattle.layout.specs.Laid.{countsIn, totalOf, Fitting, Measures, outOf, Goes}
 use Rattle.layout.proofs.Header.{length-header}
 use Rattle.layout.proofs.Measuring.{not-true, fitting}
-use Rattle.layout.proofs.Pieces.{words-count, first-bytes, second-bytes, apart, levels, assembled}
+use Rattle.layout.proofs.Pieces.{words-count, first-bytes, second-bytes, apart, standing, assembled}
 
--- the destination before what is made of the second part: header, the encoder's bytes and the words
+-- the destination before what is made of the parts: header, the encoder's bytes and the words
 abbrev pub laidOut : Setting → Dimensions → ℕ → List ℕ → Sizes → List ℕ → List ℕ
 laidOut s d E ws z before =
     put
@@ -45,7 +44,7 @@ laidOut s d E ws z before =
 
 -- what `put_derived` asks of a destination
 abbrev pub Derivable : Setting → Sizes → List ℕ → Type 0
-Derivable s z b = coder s .derives ≡ true → LevelZero b headerLength (s .step) (z .seconds) (headerLength + z .first)
+Derivable s z b = Standing (coder s) (codec s) z headerLength b
 
 pub rising : (E : ℕ) (ws : List ℕ) → Rising 0 (length ws) (stored E ws)
 unfolding stored
@@ -143,9 +142,9 @@ laid-out s d E ws before z four size g =
       long = omega arith;
       apart = apart s a n ls (g .few) r z q;
       words-room = omega arith;
-      derivable = levels s a n ls (g .few) r z q before hd (bytesOf 4 (kept E ws)) l o w;
+      derivable = standing s a n ls (g .few) r z q before hd (bytesOf 4 (kept E ws)) l o;
       file =
-          assembled s a n ls (g .few) r z q before hd (bytesOf 4 (kept E ws)) l o w
+          assembled s a n ls (g .few) r z q before hd (bytesOf 4 (kept E ws)) l o
           ∙ ap (put before 0) (pieces s a d four E ws size (g .few) z q)
           ∙ put-front before (layout s d E ws) (omega arith);
     }

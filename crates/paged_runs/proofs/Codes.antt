@@ -11,21 +11,25 @@ use lib.Dec.{eqb}
 use borrow.Author.Tests.{eqb-true, eqb-false}
 use Rattle.format.specs.Tools.{pick}
 use Rattle.format.specs.Bytes.{bytesOf}
+use Rattle.format.specs.Picture.{mostCells}
 use Rattle.format.specs.Codec.{Parts}
 use Rattle.format.specs.Runs.{Span, runAt, runsFrom, runs, spansFrom, spans}
 use Rattle.format.specs.PagedRuns.{none, plus, sumsFrom, level, flatSpans, upperLevels, upperEntries, pagedParts, pagesKind}
 use Rattle.laws.proofs.Tools.{cases}
 use Rattle.laws.proofs.Stored.{Rising}
 use Rattle.laws.proofs.Bounds.{length-level, length-upperLevels}
-use Rattle.stores.specs.Put.{pair}
+use Rattle.stores.specs.Put.{put, pair}
+use Rattle.stores.proofs.Laws.{put-nil}
 use Rattle.parts.specs.declared.Encoder.{Encoder}
-use Rattle.parts.specs.Encoder.{ifZero, begun, leftAfter, unchanged, runEnds, takenBy, takenAllBy, endedBy, secondsBy}
-use Rattle.parts.specs.Codes.{Codes, PutOut, sizesIn}
+use Rattle.parts.specs.declared.Sizes.{Sizes}
+use Rattle.parts.specs.Encoder.{ifZero, begun, leftAfter, unchanged, runEnds, takenBy, takenAllBy, endedBy, firstsBy, secondsBy}
+use Rattle.parts.specs.Codes.{Codes, PutOut, sizesIn, outIn}
 use Rattle.parts.proofs.Taking.{if-suc, no-firsts, same-fit, rank-all, second-all}
 use Rattle.paged_runs.specs.Coding.{pageEntry, paged, pageSizes, pagesCoder, coder}
 use Rattle.paged_runs.proofs.Allowed.{page-step}
 use Rattle.paged_runs.proofs.OneEntry.{pages-fit, keeps-pages}
 use Rattle.paged_runs.proofs.LevelBytes.{flat-cons, length-entries}
+use Rattle.paged_runs.proofs.FirstPart.{levels-made}
 
 run-ends : (e : Encoder) (r p : ℕ) → e .rank ≡ suc r → runEnds e p ≡ not (eqb p (suc (e .last)))
 unfolding runEnds
@@ -190,6 +194,31 @@ all-sizes b B ls two o =
     (sym (length-entries (upperLevels b (level b xs))))
     s
 
+module _ (w b : ℕ) (a : pagesKind w b .allowed ≡ true) (B : ℕ) (ls : List ℕ) (o : Rising 0 B ls) where
+  abbrev parts : Parts
+  parts = pagesKind w b .parts B ls
+
+  firsts-none : (f g : ℕ) → firstsBy (pagesCoder b) (begun f g) ls ≡ []
+  unfolding pagesCoder
+  firsts-none f g = no-firsts (pagesCoder b) (begun f g) ls (λ e p. refl) (λ e. refl)
+
+  seconds-all : (f g : ℕ) → secondsBy (pagesCoder b) (begun f g) ls ≡ parts .second
+  unfolding pagesKind pagedParts
+  seconds-all f g = all-seconds b B f g ls o
+
+  pub level-alone : (z : Sizes) (start : ℕ) (d : List ℕ) → outIn (pagesCoder b) z start ls d ≡ put d (start + z .first) (parts .second)
+  unfolding outIn
+  level-alone z start d = rw (firsts-none start (start + z .first), seconds-all start (start + z .first), put-nil)
+
+  put-out : B ≤ mostCells → PutOut (pagesCoder b) (pagesKind w b) B ls
+  put-out h =
+      record {
+        first-most = λ f g. let e = firsts-none f g in rw e (omega arith);
+        second-most = λ f g. let e = seconds-all f g in rw e (omega arith);
+        sizes = λ t. unfold pagesKind pagedParts pagesCoder in all-sizes b B ls (page-step w b a .0) o;
+        made = λ z q d start room. unfold pagesCoder in levels-made w b a B ls h o z q d start room _ (level-alone z start d);
+      }
+
 pub codes : (w b : ℕ) → pagesKind w b .allowed ≡ true → Codes (coder w b) (pagesKind w b)
 unfolding coder
 codes w b a =
@@ -197,15 +226,5 @@ codes w b a =
     record {
       keeps = keeps-pages b;
       fits = λ f g ls. unfold pagesKind begun in same-fit k (begun f g) ls (pages-fit b);
-      out = λ B ls h o.
-          unfold pagesKind pagedParts in
-          record {
-            first = λ t. absurd (never (unfold pagesCoder in t));
-            none = λ t f g. unfold pagesCoder in no-firsts k (begun f g) ls (λ e p. refl) (λ e. refl);
-            second = λ f g. all-seconds b B f g ls o;
-            sizes = λ t. unfold pagesCoder in all-sizes b B ls (page-step w b a .0) o;
-          };
+      out = λ B ls h o. put-out w b a B ls o h;
     }
-  where
-    never : true ≡ false → ⊥
-    never t = let y : _≡_ {A = ℕ} 0 1 = cc in omega arith

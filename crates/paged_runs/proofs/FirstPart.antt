@@ -1,6 +1,6 @@
 -- Where the second part of rising positions stands, the levels above it are the first part. Assumes nothing.
 use Prim.Native.Nat.{ℕ, _+_, _*_, _^_, _≤_}
-use mathlib.Core.Path.{_≡_, ap, _∙_}
+use mathlib.Core.Path.{_≡_, sym, ap, _∙_}
 use mathlib.Core.Bool.{true}
 use mathlib.Core.List.{List}
 use native.Mathlib.Omega.{arith}
@@ -12,10 +12,13 @@ use Rattle.format.specs.PagedRuns.{level, lasts, upperLevels, upperEntries, fla
 use Rattle.laws.proofs.Stored.{Rising, rising-length}
 use Rattle.laws.proofs.Bounds.{length-level, length-upperLevels, below-level, length-spans}
 use Rattle.stores.specs.Put.{put}
+use Rattle.stores.proofs.Laws.{length-put, put-comm}
+use Rattle.parts.specs.declared.Sizes.{Sizes}
+use Rattle.parts.specs.Codes.{sizesIn}
 use Rattle.paged_runs.specs.LevelZero.{levelIn, pairSum, LevelZero}
 use Rattle.paged_runs.proofs.Allowed.{page-step}
 use Rattle.paged_runs.proofs.LevelSums.{level-sum, runs-sum}
-use Rattle.paged_runs.proofs.LevelBytes.{length-entries, level-back}
+use Rattle.paged_runs.proofs.LevelBytes.{length-entries, put-back, level-back}
 
 module _ (w b : ℕ) (allowed : pagesKind w b .allowed ≡ true) (B : ℕ) (ls : List ℕ) (most : B ≤ 16777216) (r : Rising 0 B ls) where
   -- the length pairs, and the parts
@@ -45,8 +48,7 @@ module _ (w b : ℕ) (allowed : pagesKind w b .allowed ≡ true) (B : ℕ) (ls :
     whole-sum : pairSum (lasts b (levelIn d (length xs) second)) ≡ pairSum xs
     whole-sum = ap (λ (l : List Span). pairSum (lasts b l)) level-stands ∙ level-sum b xs
 
-    -- what `put_levels` asks
-    pub level-zero : LevelZero d start b (parts .secondCount) second
+    level-zero : LevelZero d start b (parts .secondCount) second
     unfolding pagesKind pagedParts
     level-zero =
         let t = page-step w b allowed in
@@ -70,7 +72,43 @@ module _ (w b : ℕ) (allowed : pagesKind w b .allowed ≡ true) (B : ℕ) (ls :
           second-at = omega arith;
         }
 
-    -- and what it puts then
-    pub first-put : put d start (bytesOf 4 (flatSpans (upperLevels b (levelIn d (parts .secondCount) second)))) ≡ put d start (parts .first)
+    first-put : put d start (bytesOf 4 (flatSpans (upperLevels b (levelIn d (parts .secondCount) second)))) ≡ put d start (parts .first)
     unfolding pagesKind pagedParts
     first-put = ap (λ (ys : List Span). put d start (bytesOf 4 (flatSpans (upperLevels b ys)))) level-stands
+
+  -- the second part alone put out, and then the levels above it
+  module _ (z : Sizes) (q : z ≡ sizesIn (length ls) parts) (before : List ℕ) (start : ℕ) (room : start + z .first + z .second ≤ length before)
+      (d : List ℕ) (out : d ≡ put before (start + z .first) (parts .second)) where
+    first-bytes : z .first ≡ length (parts .first)
+    unfolding sizesIn
+    first-bytes = ap (λ (x : Sizes). x .first) q
+
+    second-bytes : z .second ≡ length (parts .second)
+    unfolding sizesIn
+    second-bytes = ap (λ (x : Sizes). x .second) q
+
+    count : z .seconds ≡ parts .secondCount
+    unfolding sizesIn
+    count = ap (λ (x : Sizes). x .seconds) q
+
+    behind : start + z .first ≡ start + length (parts .first)
+    behind = ap (λ (n : ℕ). start + n) first-bytes
+
+    inside : start + z .first + length (parts .second) ≤ length d
+    inside = let k = second-bytes in let l = ap length out ∙ length-put before (start + z .first) (parts .second) in omega arith
+
+    there : take (length (parts .second)) (drop (start + z .first) d) ≡ parts .second
+    there = let k = second-bytes in rw out (put-back before (start + z .first) (parts .second) (omega arith))
+
+    -- what `put_levels` asks
+    pub level-out : LevelZero d start b (z .seconds) (start + z .first)
+    level-out = rw count (level-zero d start (start + z .first) behind inside there)
+
+    -- and what is there then: both parts
+    pub levels-made : put d start (bytesOf 4 (flatSpans (upperLevels b (levelIn d (z .seconds) (start + z .first)))))
+        ≡ put (put before start (parts .first)) (start + z .first) (parts .second)
+    levels-made =
+        let k = first-bytes in
+        rw count (first-put d start (start + z .first) behind inside there)
+        ∙ ap (λ (t : List ℕ). put t start (parts .first)) out
+        ∙ sym (put-comm before start (parts .first) (start + z .first) (parts .second) (omega arith))

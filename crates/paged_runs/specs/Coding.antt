@@ -1,13 +1,14 @@
 -- Kind 5: where a run ends, its entry of level 0; the upper levels are made of level 0 afterwards. Assumes nothing.
 use Prim.Native.Nat.{ℕ, _+_, _-_, _*_, _/_}
-use mathlib.Core.Bool.{true}
 use mathlib.Core.List.{List, []}
 use Rattle.format.specs.Tools.{pick}
-use Rattle.format.specs.PagedRuns.{upperEntries}
-use Rattle.stores.specs.Put.{pair}
+use Rattle.format.specs.Bytes.{bytesOf}
+use Rattle.format.specs.PagedRuns.{upperEntries, flatSpans, upperLevels}
+use Rattle.stores.specs.Put.{put, pair}
 use Rattle.parts.specs.declared.Encoder.{Encoder}
 use Rattle.parts.specs.declared.Sizes.{Sizes}
 use Rattle.parts.specs.Encoder.{Coder, Inside, ifZero, unchanged, leftAfter, runEnds}
+use Rattle.paged_runs.specs.LevelZero.{levelIn}
 
 -- all cells, and the empty ones, from the page's start through the run
 unfoldable pub pageEntry : Encoder → List ℕ
@@ -44,7 +45,7 @@ pagesCoder b =
       endFirst = λ e. [];
       endSecond = λ e. ifZero (e .rank) [] (pageEntry e);
       sizes = pageSizes b;
-      derives = true;
+      derived = λ z start d. put d start (bytesOf 4 (flatSpans (upperLevels b (levelIn d (z .seconds) (start + z .first)))));
     }
 
 -- by width and step

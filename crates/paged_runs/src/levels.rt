@@ -1,15 +1,19 @@
 // The levels above level 0, which are made of it.
+use parts::Sizes;
 use stores::put_pair;
 use wire::Pair;
 use wire::get_pair;
 use wire::numbers::index;
 use wire::numbers::lesser;
 ghost use mathlib.Core.Path.{_≡_};
+ghost use mathlib.Core.Bool.{true};
 ghost use Prim.Native.Nat.{_+_, _*_, _≤_, _<_, _^_};
 ghost use Rattle.format.specs.Tools.{upTo};
 ghost use Rattle.format.specs.Bytes.{bytesOf};
-ghost use Rattle.format.specs.PagedRuns.{level, lasts, upperLevels, flatSpans};
+ghost use Rattle.format.specs.PagedRuns.{level, lasts, upperLevels, flatSpans, pagesKind};
 ghost use Rattle.stores.specs.Put.{put};
+ghost use Rattle.parts.specs.Codes.{Standing};
+ghost use Rattle.paged_runs.specs.Coding.{coder};
 ghost use Rattle.paged_runs.specs.LevelZero.{levelIn, Stands, LevelZero, spanOf, summed};
 
 // The sums of a page so far, all cells and the empty ones among them, and how many entries are left in it.
@@ -77,4 +81,12 @@ pub fn put_levels(dst: &mut [u8], start: usize, step: u32, runs: u32, second: us
         below = at;
         under = size;
     }
+}
+
+// The first part, made of the second, which stands in dst behind the room for it.
+pub fn put_derived(dst: &mut [u8], width: u32, step: u32, z: Sizes, start: usize)
+    requires { ⌜ (pagesKind width step .allowed ≡ true) × (start ≤ 4294967296) × Standing (coder width step) (pagesKind width step) z start (now dst) ⌝ }
+    ensures { λ _. ⌜ now (dst .exit) ≡ coder width step .derived z start (now (dst .entry)) ⌝ }
+{
+    put_levels(dst, start, step, z.seconds, start + z.first as usize);
 }

@@ -9,6 +9,7 @@ pub mod RunWalk
 pub mod Taking
 pub mod Sounds
 pub mod Taken
+pub mod Outright
 pub mod Added
 pub mod Grown
 -- The parts, and the facts of an accepted file.

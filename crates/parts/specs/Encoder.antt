@@ -25,7 +25,8 @@ pub record Inside : Type 0 where
   pub empty : ℕ
   pub fits : Bool
 
--- how a kind takes position p: the bytes that p adds to each part, what is kept after it, and the bytes added at the end; and the sizes of the file after the end
+-- how a kind takes position p: the bytes that p adds to each part, what is kept after it, and the bytes added at the end; the sizes of the file after the end; and what is
+-- made when both parts are put out
 pub record Coder : Type 0 where
   pub first : Encoder → ℕ → List ℕ
   pub second : Encoder → ℕ → List ℕ
@@ -33,8 +34,8 @@ pub record Coder : Type 0 where
   pub endFirst : Encoder → List ℕ
   pub endSecond : Encoder → List ℕ
   pub sizes : Encoder → Sizes
-  -- the first part is made of the second afterwards
-  pub derives : Bool
+  -- by the sizes and the place of the first part: a destination in which the parts stand as they were put out, with what is made of them afterwards
+  pub derived : Sizes → ℕ → List ℕ → List ℕ
 
 unfoldable pub unchanged : Encoder → Inside
 unchanged e = record { left = e .left; base = e .base; cells = e .cells; empty = e .empty; fits = e .fits }

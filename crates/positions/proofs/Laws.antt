@@ -24,6 +24,7 @@ use Rattle.parts.specs.Ready.{Next, moved}
 use Rattle.parts.specs.Codes.{sizesIn, PutOut, Codes}
 use Rattle.parts.proofs.Steps.{add32-small, upper, walks}
 use Rattle.parts.proofs.Entries.{Entries, first-entry, rest-entries, all-entries}
+use Rattle.parts.proofs.Outright.{outright}
 use Rattle.parts.proofs.Taking.{taken-moved, no-seconds, same-fit, rank-all, first-all, second-all}
 use Rattle.parts.proofs.Sounds.{Kept, sound-by}
 use Rattle.positions.specs.Steps.{next}
@@ -125,20 +126,15 @@ module _ (w l : ℕ) where
   out : (B : ℕ) (ls : List ℕ) → B ≤ mostCells → Rising 0 B ls → PutOut (coder w l) (positionsKind w l) B ls
   unfolding coder positionsKind positionParts sizesIn begun
   out B ls m o =
-      record {
-        first = λ d f g. firsts (begun f g) ls;
-        none = λ d f g. absurd (never d);
-        second = λ f g. no-seconds (coder w l) (begun f g) ls (λ e p. refl) (λ e. refl);
-        sizes = λ u.
-            let r = rank-all (coder w l) (begun 0 0) ls in
-            let f = first-all (coder w l) (begun 0 0) ls ∙ ap (λ (x : List ℕ). 0 + length x) (firsts (begun 0 0) ls) in
-            let s = second-all (coder w l) (begun 0 0) ls ∙ ap (λ (x : List ℕ). 0 + length x) (no-seconds (coder w l) (begun 0 0) ls (λ e p. refl) (λ e. refl)) in
-            done r f s;
-      }
+      outright (coder w l) (positionsKind w l) B ls (λ z start d. refl)
+      (λ f g. firsts (begun f g) ls)
+      (λ f g. no-seconds (coder w l) (begun f g) ls (λ e p. refl) (λ e. refl))
+      (λ u.
+      let r = rank-all (coder w l) (begun 0 0) ls in
+      let f = first-all (coder w l) (begun 0 0) ls ∙ ap (λ (x : List ℕ). 0 + length x) (firsts (begun 0 0) ls) in
+      let s = second-all (coder w l) (begun 0 0) ls ∙ ap (λ (x : List ℕ). 0 + length x) (no-seconds (coder w l) (begun 0 0) ls (λ e p. refl) (λ e. refl)) in
+      done r f s)
     where
-      never : false ≡ true → ⊥
-      never z = let y : _≡_ {A = ℕ} 0 1 = cc in omega arith
-
       done : takenAllBy (coder w l) (begun 0 0) ls .rank ≡ begun 0 0 .rank + length ls
           → endedBy (coder w l) (takenAllBy (coder w l) (begun 0 0) ls) .first ≡ 0 + length (bytesOf 4 ls)
           → endedBy (coder w l) (takenAllBy (coder w l) (begun 0 0) ls) .second ≡ 0 + 0

@@ -1,6 +1,5 @@
 -- How a position goes into the first part. Assumes nothing.
 use Prim.Native.Nat.{ℕ, _/_}
-use mathlib.Core.Bool.{false}
 use mathlib.Core.List.{[]}
 use Rattle.format.specs.Bytes.{bytes}
 use Rattle.parts.specs.Encoder.{Coder, unchanged, sizesAs}
@@ -15,5 +14,5 @@ coder w l =
       endFirst = λ e. [];
       endSecond = λ e. [];
       sizes = λ e. sizesAs e (e .first / 4) 0;
-      derives = false;
+      derived = λ z start d. d;
     }

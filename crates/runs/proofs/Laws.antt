@@ -17,9 +17,9 @@ use Rattle.stores.proofs.Laws.{pair-cons}
 use Rattle.parts.specs.declared.Encoder.{Encoder}
 use Rattle.parts.specs.Encoder.{begun, unchanged, runEnds, takenBy, takenAllBy, endedBy, firstsBy, secondsBy}
 use Rattle.parts.specs.Codes.{Codes, sizesIn}
+use Rattle.parts.proofs.Outright.{outright}
 use Rattle.parts.proofs.Taking.{if-suc, no-seconds, same-fit, rank-all, first-all, second-all}
 use Rattle.runs.specs.Coding.{runPair, runsCoder, coder}
-use Rattle.runs.proofs.Pairs.{unlike}
 use Rattle.runs.proofs.Adds.{keeps}
 
 run-ends : (e : Encoder) (r p : ℕ) → e .rank ≡ suc r → runEnds e p ≡ not (eqb p (suc (e .last)))
@@ -84,11 +84,5 @@ codes w l a =
     record {
       keeps = keeps;
       fits = λ f g ls. same-fit runsCoder (begun f g) ls (λ e p. refl);
-      out = λ B ls h r.
-          record {
-            first = λ d f g. firsts f g ls;
-            none = λ d. absurd (unlike d);
-            second = λ f g. seconds f g ls;
-            sizes = λ u. sized ls;
-          };
+      out = λ B ls h r. outright (coder w l) (runsKind w l) B ls (λ z start d. refl) (λ f g. firsts f g ls) (λ f g. seconds f g ls) (λ u. sized ls);
     }

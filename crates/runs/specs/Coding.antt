@@ -1,6 +1,5 @@
 -- The encoder of kind 1: the pair of a run goes out where the run ends. Assumes nothing.
 use Prim.Native.Nat.{ℕ, _+_, _-_, _/_}
-use mathlib.Core.Bool.{false}
 use mathlib.Core.List.{List, []}
 use Rattle.format.specs.Tools.{pick}
 use Rattle.stores.specs.Put.{pair}
@@ -20,7 +19,7 @@ runsCoder =
       endFirst = λ e. ifZero (e .rank) [] (runPair e);
       endSecond = λ e. [];
       sizes = λ e. sizesAs e (e .first / 8) 0;
-      derives = false;
+      derived = λ z start d. d;
     }
 
 -- the same at each width and step
