@@ -46,7 +46,8 @@ fn put_picture(dst: &mut [u8], d: Dimensions, empty: u32, words: &[u32], s: Sett
 {
     put_header(dst, s, d, empty, z);
     let second = HEADER + z.first as usize;
-    put_out(dst, words, empty, s, second, second + z.second as usize);
+    let place = second + z.second as usize;
+    put_out(dst, words, empty, s, HEADER, second, place);
     put_derived(dst, s, z, HEADER);
 }
 

@@ -31,7 +31,7 @@ fn put_recoded(dst: &mut [u8], file: &[u8], v: View, x: Edit, word: u32, s: Sett
 {
     put_header(dst, s, read_dimensions(file), v.empty, z);
     let second = HEADER + z.first as usize;
-    put_parts(dst, file, v, x, s, second);
+    put_parts(dst, file, v, x, s, HEADER, second);
     put_words(dst, second + z.second as usize, file, v, x, word);
     put_derived(dst, s, z, HEADER);
 }

@@ -10,7 +10,6 @@ use Rattle.format.specs.declared.Setting.{Setting}
 use Rattle.format.specs.Kinds.{settingAllowed}
 use Rattle.format.specs.Bytes.{bytesOf}
 use Rattle.format.specs.Stored.{stored, kept}
-use Rattle.format.specs.File.{headerLength}
 use Rattle.laws.proofs.Bytes.{length-bytesOf, bytes-append}
 use Rattle.laws.proofs.Stored.{length-stored}
 use Rattle.stores.specs.Put.{put}
@@ -35,16 +34,16 @@ pub record Going (s : Setting) (E : ℕ) (ws : List ℕ) (place n : ℕ) (e : En
 
 module _ (s : Setting) (E : ℕ) (ws : List ℕ) (place n : ℕ) where
   -- before the first cell
-  pub going-begun : (g : ℕ) → length ws ≤ 16777216 → g ≤ 4294967296 → Apart s (begun headerLength g) (stored E ws) place → place + 4 * length (kept E ws) ≤ n
-      → Going s E ws place n (begun headerLength g) 0
+  pub going-begun : (f g : ℕ) → length ws ≤ 16777216 → f ≤ 4294967296 → g ≤ 4294967296 → Apart s (begun f g) (stored E ws) place → place + 4 * length (kept E ws) ≤ n
+      → Going s E ws place n (begun f g) 0
   unfolding stored begun
-  going-begun g l h a r = record { along = along-begun headerLength g E ws (omega arith) h l; apart = a; room = omega arith }
+  going-begun f g l k h a r = record { along = along-begun f g E ws k h l; apart = a; room = omega arith }
 
-  pub put-begun : (g : ℕ) (d : List ℕ)
-      → putRest s d (begun headerLength g) (left E ws 0) place (kept E (drop 0 ws))
-      ≡ put (put (put d headerLength (firsts s (begun headerLength g) (stored E ws))) g (seconds s (begun headerLength g) (stored E ws))) place (bytesOf 4 (kept E ws))
+  pub put-begun : (f g : ℕ) (d : List ℕ)
+      → putRest s d (begun f g) (left E ws 0) place (kept E (drop 0 ws))
+      ≡ put (put (put d f (firsts s (begun f g) (stored E ws))) g (seconds s (begun f g) (stored E ws))) place (bytesOf 4 (kept E ws))
   unfolding stored begun
-  put-begun g d = rw add-zero
+  put-begun f g d = rw add-zero
 
   -- a chunk
   module _ (e : Encoder) (at end : ℕ) (z : Cut (length ws) at end) (g : Going s E ws place n e at) where

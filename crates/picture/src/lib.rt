@@ -1,5 +1,4 @@
 // A picture's lent words, chunk by chunk: measured, and put out.
-use format::HEADER;
 use format::Setting;
 use kinds::Measured;
 use kinds::coding::finish;
@@ -17,7 +16,6 @@ ghost use lib.ListN.{length};
 ghost use Rattle.format.specs.Kinds.{settingAllowed};
 ghost use Rattle.format.specs.Bytes.{bytesOf};
 ghost use Rattle.format.specs.Stored.{storedFrom, stored, kept};
-ghost use Rattle.format.specs.File.{headerLength};
 ghost use Rattle.stores.specs.Put.{put};
 ghost use Rattle.parts.specs.Encoder.{begun};
 ghost use Rattle.parts.specs.Batch.{Along};
@@ -93,16 +91,24 @@ fn put_chunk(
     next
 }
 
-// The parts of the stored positions, the first behind the header and the second at `second`, and the stored words at `place`. A first
-// part that is made of the second is left out.
-pub fn put_out(dst: &mut [u8], words: &[u32], empty: u32, s: Setting, second: usize, place: usize)
-    requires { ⌜ (settingAllowed s ≡ true) × (length (now words) ≤ 16777216) × (second ≤ 4294967296)
-        × Apart s (begun headerLength second) (stored empty (now words)) place × (place + 4 * length (kept empty (now words)) ≤ length (now dst)) ⌝ }
-    ensures { λ _. ⌜ now (dst .exit) ≡ put (put (put (now (dst .entry)) headerLength (firsts s (begun headerLength second) (stored empty (now (words .entry))))) second
-        (seconds s (begun headerLength second) (stored empty (now (words .entry))))) place (bytesOf 4 (kept empty (now (words .entry)))) ⌝ }
+// The parts of the stored positions, the first at `start` and the second at `second`, and the stored words at `place`. A first part
+// that is made of the second is left out.
+pub fn put_out(
+    dst: &mut [u8],
+    words: &[u32],
+    empty: u32,
+    s: Setting,
+    start: usize,
+    second: usize,
+    place: usize,
+)
+    requires { ⌜ (settingAllowed s ≡ true) × (length (now words) ≤ 16777216) × (start ≤ 4294967296) × (second ≤ 4294967296)
+        × Apart s (begun start second) (stored empty (now words)) place × (place + 4 * length (kept empty (now words)) ≤ length (now dst)) ⌝ }
+    ensures { λ _. ⌜ now (dst .exit) ≡ put (put (put (now (dst .entry)) start (firsts s (begun start second) (stored empty (now (words .entry))))) second
+        (seconds s (begun start second) (stored empty (now (words .entry))))) place (bytesOf 4 (kept empty (now (words .entry)))) ⌝ }
 {
     let mut batch = [0u32; CHUNK];
-    let mut e = begin(HEADER, second);
+    let mut e = begin(start, second);
     let mut at: usize = 0;
     while at < words.len() {
         let next = lesser(at + CHUNK, words.len());

@@ -4,7 +4,6 @@ use mathlib.Core.Path.{_≡_, refl, sym, _∙_}
 use native.Mathlib.Omega.{arith}
 use lib.ListN.{length, drop}
 use Rattle.format.specs.Stored.{kept}
-use Rattle.format.specs.File.{headerLength}
 use Rattle.parts.specs.Encoder.{begun}
 use Rattle.picture.proofs.Chunks.{left, next-cut, length-chunk}
 use Rattle.picture.proofs.Puts.{putRest, Going, going-begun, put-begun, room-chunk, going-next, put-next, room-end, put-rest-end}
@@ -13,18 +12,18 @@ use Rattle.picture.proofs.put_out.Statement.{statement}
 use Rattle.picture.proofs.put_out.Tie as tie
 
 abbrev Inv-loop : tie.InvT-loop
-Inv-loop dst₀ words empty s second place batch₀ e₀ at₀ dst batch e at =
+Inv-loop dst₀ words empty s start second place batch₀ e₀ at₀ dst batch e at =
     (at ≤ length words) × (length batch ≡ 1024) × (length dst ≡ length dst₀) × Going s empty words place (length dst₀) e at
-    × (putRest s dst e (left empty words at) place (kept empty (drop at words)) ≡ putRest s dst₀ (begun headerLength second) (left empty words 0) place (kept empty words))
+    × (putRest s dst e (left empty words at) place (kept empty (drop at words)) ≡ putRest s dst₀ (begun start second) (left empty words 0) place (kept empty words))
 
 abbrev μ-loop : tie.MeasureT-loop
-μ-loop dst₀ words empty s second place batch₀ e₀ at₀ dst batch e at = length words - at
+μ-loop dst₀ words empty s start second place batch₀ e₀ at₀ dst batch e at = length words - at
 
 loop-holds : tie.Need-loop-holds Inv-loop μ-loop
 loop-holds c =
     let a = c .before .before .before .args in
     let p = c .before .before .before .pre in
-    let g = going-begun (a .s) (a .empty) (a .words .now) (a .place) (length (a .dst .now)) (a .second) (p .1) (p .2) (p .3) (p .4) in
+    let g = going-begun (a .s) (a .empty) (a .words .now) (a .place) (length (a .dst .now)) (a .start) (a .second) (p .1) (p .2) (p .3) (p .4) (p .5) in
     (omega arith, refl, refl, rw (c .begin .ensures) g, rw (c .begin .ensures))
 
 put-chunk-requires : tie.Need-put-chunk-requires Inv-loop μ-loop
@@ -65,7 +64,7 @@ returns c =
     c .before .before .finish .ensures
     ∙ sym (put-rest-end (a .s) (a .empty) (a .words .now) (a .place) 0 (l .e) (l .at) (c .before .before .before .before .loop-test .left) (l .dst))
     ∙ l .inv .4
-    ∙ put-begun (a .s) (a .empty) (a .words .now) (a .place) 0 (a .second) (a .dst .now)
+    ∙ put-begun (a .s) (a .empty) (a .words .now) (a .place) 0 (a .start) (a .second) (a .dst .now)
 
 pub put-out-spec : {M : Type 1} → statement M
 put-out-spec =

@@ -26,7 +26,7 @@ put-out-requires c κs =
     let s = c .before .before .before .before .before .before .before .before .before in
     let l = laid s in
     let f = l .fitting in
-    (s .pre .1 .allowed, s .pre .1 .few, omega arith, l .apart, words-room _ _ _ _ _ _ (four s) (s .pre .0) (s .pre .1) _ (c .before .before .before .before .before .put-header .ensures))
+    (s .pre .1 .allowed, s .pre .1 .few, omega arith, omega arith, l .apart, words-room _ _ _ _ _ _ (four s) (s .pre .0) (s .pre .1) _ (c .before .before .before .before .before .put-header .ensures))
 
 put-derived-requires : tie.Need-put-derived-requires
 put-derived-requires c κs =

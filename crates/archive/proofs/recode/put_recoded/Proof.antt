@@ -19,6 +19,7 @@ put-parts-requires c κs =
       w .1 .edit,
       w .2 .allowed,
       parts-apart (g .file .now) (g .v) (w .0) (g .x) (g .word) (w .1) (g .s) (g .dst .now) (g .z) (w .2) _ (c .before .before .before .before .before .read-dimensions .ensures) _ (c .before .before .before .before .put-header .ensures),
+      omega arith,
       second-small (g .file .now) (g .v) (w .0) (g .x) (g .word) (w .1) (g .s) (g .dst .now) (g .z) (w .2),
     )
 
