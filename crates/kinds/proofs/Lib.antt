@@ -1,4 +1,5 @@
 pub mod None
+pub mod At
 pub mod Numbers
 pub mod Laws
 pub mod Walks

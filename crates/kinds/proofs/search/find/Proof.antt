@@ -1,39 +1,8 @@
-use Rattle.format.specs.Codec.{Codec}
-use Rattle.parts.specs.Found.{FoundIn}
-use Rattle.kinds.proofs.None.{of-view, never, nothing-held}
+use Rattle.kinds.proofs.At.{view-found}
+use Rattle.kinds.proofs.None.{none-found}
 use borrow.Author.Needs.{needs}
 use Rattle.kinds.proofs.search.find.Statement.{statement}
 use Rattle.kinds.proofs.search.find.Tie as tie
-
-returns : tie.Need-returns
-returns c =
-    let a = c .before .before .before .args in
-    of-view (a .v) 1 (c .before .match .keys1) (λ (k : Codec). FoundIn k (a .file .now) (a .v) (a .p .0) (c .find .result)) (c .find .ensures)
-
-returns-2 : tie.Need-returns-2
-returns-2 c =
-    let a = c .before .before .before .args in
-    of-view (a .v) 2 (c .before .match .keys2) (λ (k : Codec). FoundIn k (a .file .now) (a .v) (a .p .0) (c .find2 .result)) (c .find2 .ensures)
-
-returns-3 : tie.Need-returns-3
-returns-3 c =
-    let a = c .before .before .before .args in
-    of-view (a .v) 3 (c .before .match .keys3) (λ (k : Codec). FoundIn k (a .file .now) (a .v) (a .p .0) (c .find3 .result)) (c .find3 .ensures)
-
-returns-4 : tie.Need-returns-4
-returns-4 c =
-    let a = c .before .before .before .args in
-    of-view (a .v) 4 (c .before .match .keys4) (λ (k : Codec). FoundIn k (a .file .now) (a .v) (a .p .0) (c .find4 .result)) (c .find4 .ensures)
-
-returns-5 : tie.Need-returns-5
-returns-5 c =
-    let a = c .before .before .before .args in
-    of-view (a .v) 5 (c .before .match .keys5) (λ (k : Codec). FoundIn k (a .file .now) (a .v) (a .p .0) (c .find5 .result)) (c .find5 .ensures)
-
-returns-6 : tie.Need-returns-6
-returns-6 c =
-    let r = c .match .rest in
-    record { right = λ ls h. absurd (nothing-held _ _ ls h (r .0 .0 .0 .0 .1) (r .0 .0 .0 .1) (r .0 .0 .1) (r .0 .1) (r .1)); free = λ t. absurd (never t) }
 
 pub find-spec : {M : Type 1} → statement M
 find-spec =
@@ -44,9 +13,9 @@ find-spec =
     (λ c κs. search needs)
     (λ c κs. search needs)
     (λ c κs. search needs)
-    returns
-    returns-2
-    returns-3
-    returns-4
-    returns-5
-    returns-6)
+    (λ c. view-found _ 1 (c .before .match .keys1) _ _ _ (c .find .ensures))
+    (λ c. view-found _ 2 (c .before .match .keys2) _ _ _ (c .find2 .ensures))
+    (λ c. view-found _ 3 (c .before .match .keys3) _ _ _ (c .find3 .ensures))
+    (λ c. view-found _ 4 (c .before .match .keys4) _ _ _ (c .find4 .ensures))
+    (λ c. view-found _ 5 (c .before .match .keys5) _ _ _ (c .find5 .ensures))
+    (λ c. none-found _ _ _ (c .match .rest)))
