@@ -3,19 +3,20 @@ use Prim.Native.Nat.{ℕ, suc, _+_, _-_, _*_, _^_, _≤_, _<_}
 use mathlib.Core.Path.{_≡_, refl, _∙_}
 use mathlib.Core.List.{List, _∷_}
 use native.Mathlib.Omega.{arith}
-use lib.ListN.{length}
 use lib.Dec.{ltb}
 use borrow.Author.Tests.{ltb-true, ltb-false, lt-ltb, le-ltb}
 use Rattle.format.specs.declared.View.{View}
+use Rattle.format.specs.BaseOffset.{basedKind}
 use Rattle.laws.proofs.Tools.{cases}
 use Rattle.laws.proofs.Stored.{Rising, rising-length}
 use Rattle.laws.proofs.Streams.{basesFrom, offsetsFrom, bases-stream, offsets-stream}
 use Rattle.wire.specs.Wire.{whole, entrySize}
 use Rattle.parts.specs.declared.Cursor.{Cursor}
-use Rattle.parts.specs.Cursor.{add32, before, movedTo, entryOf, walkedAs}
+use Rattle.parts.specs.Cursor.{add32, before, movedTo, entryOf}
 use Rattle.parts.specs.Holds.{Holds}
+use Rattle.parts.specs.Walks.{Walks}
 use Rattle.parts.proofs.Entries.{Entries, first-entry, rest-entries}
-use Rattle.parts.proofs.Steps.{add32-small, upper, walks}
+use Rattle.parts.proofs.Steps.{add32-small, upper, RanksFit, upper-next, ranks-rest, kept-walk}
 use Rattle.base_offset.specs.Steps.{baseOf, offsetFrom, next}
 use Rattle.base_offset.proofs.Known.{kind, held, base-entries, offset-entries}
 
@@ -24,7 +25,7 @@ record Ahead (b : List ℕ) (v : View) (B : ℕ) (c : Cursor) (ls : List ℕ) : 
   least : ℕ
   rising : Rising least B ls
   base-low : c .used < v .step → c .base ≤ least
-  ranks : upper c + length ls < 2 ^ 32
+  ranks : RanksFit c ls
   next-low : c .next ≤ upper c
   bases : Entries b 4 (v .start) (c .next) (basesFrom (v .step) (v .step - c .used) ls)
   offsets : Entries b (entrySize (v .width)) (v .second) (upper c) (offsetsFrom (v .step) (v .step - c .used) (c .base) ls)
@@ -37,7 +38,7 @@ module _ (b : List ℕ) (v : View) (B : ℕ) (small : B < 2 ^ 32) (c : Cursor) (
   r = upper c
 
   next-rank : add32 r 1 ≡ suc r
-  next-rank = let n = a .ranks in add32-small r 1 (omega arith) ∙ omega arith
+  next-rank = upper-next c p ls (a .ranks)
 
   -- the base is kept
   same-base : c .used < v .step → (next b v c .at ≡ p) × Ahead b v B (next b v c) ls
@@ -57,7 +58,7 @@ module _ (b : List ℕ) (v : View) (B : ℕ) (small : B < 2 ^ 32) (c : Cursor) (
           least = suc p;
           rising = o .2;
           base-low = λ z. omega arith;
-          ranks = rw next-rank (omega arith);
+          ranks = ranks-rest c p ls n;
           next-low = let l = a .next-low in rw next-rank (omega arith);
           bases = bs;
           offsets = rw next-rank (rest-entries b w (v .second) r (p - c .base) _ os);
@@ -84,7 +85,7 @@ module _ (b : List ℕ) (v : View) (B : ℕ) (small : B < 2 ^ 32) (c : Cursor) (
           least = suc p;
           rising = o .2;
           base-low = λ z. omega arith;
-          ranks = rw next-rank (omega arith);
+          ranks = ranks-rest c p ls n;
           next-low = rw next-rank (omega arith);
           bases = rest-entries b 4 (v .start) (c .next) p _ bs;
           offsets = rw next-rank (rest-entries b w (v .second) r 0 _ os);
@@ -94,29 +95,29 @@ module _ (b : List ℕ) (v : View) (B : ℕ) (small : B < 2 ^ 32) (c : Cursor) (
   turn : (next b v c .at ≡ p) × Ahead b v B (next b v c) ls
   turn = cases (ltb (c .used) (v .step)) (λ e. same-base (ltb-true (c .used) (v .step) e)) (λ e. next-base (ltb-false (c .used) (v .step) e))
 
-pub rank-next : (b : List ℕ) (v : View) (c : Cursor) → next b v c .rank ≡ add32 (c .rank) 1
-unfolding next offsetFrom baseOf movedTo
-rank-next b v c = cases (ltb (c .used) (v .step)) (λ t. rw t) (λ t. rw t)
+-- before rank 0 all stand ahead
+begin : (b : List ℕ) (v : View) (ls : List ℕ) → Holds (kind v) b v ls → Ahead b v (v .cells) before ls
+unfolding add32
+begin b v ls h =
+    let a = held b v ls h .rule in
+    let m = held b v ls h .cells-most in
+    let n = rising-length 0 (v .cells) ls (omega arith) (h .rising) in
+    let k : v .step - 4294967295 ≡ 0 = omega arith in
+    record {
+      least = 0;
+      rising = h .rising;
+      base-low = λ z. absurd (omega arith);
+      ranks = omega arith;
+      next-low = omega arith;
+      bases = rw k (rw (bases-stream (v .step) ls (a .step-least)) at (base-entries b v ls h));
+      offsets = rw k (rw (offsets-stream (v .step) ls (a .step-least)) at (offset-entries b v ls h));
+    }
 
-module _ (b : List ℕ) (v : View) (ls : List ℕ) (h : Holds (kind v) b v ls) where
-  begin : Ahead b v (v .cells) before ls
-  unfolding add32
-  begin =
-      let a = held b v ls h .rule in
-      let m = held b v ls h .cells-most in
-      let n = rising-length 0 (v .cells) ls (omega arith) (h .rising) in
-      let k : v .step - 4294967295 ≡ 0 = omega arith in
-      record {
-        least = 0;
-        rising = h .rising;
-        base-low = λ z. absurd (omega arith);
-        ranks = omega arith;
-        next-low = omega arith;
-        bases = rw k (rw (bases-stream (v .step) ls (a .step-least)) at (base-entries b v ls h));
-        offsets = rw k (rw (offsets-stream (v .step) ls (a .step-least)) at (offset-entries b v ls h));
-      }
-
-  pub walk : walkedAs (next b v) (next b v before) (length ls) ≡ ls
-  walk =
-      let m = held b v ls h .cells-most in
-      walks (next b v) (Ahead b v (v .cells)) (turn b v (v .cells) (omega arith)) ls before begin
+pub walks : Walks basedKind next
+walks =
+    record {
+      rank = λ b v c. unfold next offsetFrom baseOf movedTo in cases (ltb (c .used) (v .step)) (λ t. rw t) (λ t. rw t);
+      walk = λ b v ls h.
+          let m = held b v ls h .cells-most in
+          kept-walk (next b v) (Ahead b v (v .cells)) (turn b v (v .cells) (omega arith)) ls before (begin b v ls h);
+    }

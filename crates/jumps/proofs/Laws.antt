@@ -7,16 +7,14 @@ use native.Mathlib.Nat.{zero-add}
 use native.Mathlib.Omega.{arith}
 use lib.ListN.{length}
 use lib.Dec.{eqb}
-use Rattle.format.specs.declared.View.{View}
 use Rattle.format.specs.Bytes.{bytesOf}
 use Rattle.format.specs.Jumps.{differences, jumps, jumpParts, jumpsKind}
 use Rattle.laws.proofs.Tools.{cases}
 use Rattle.laws.proofs.Bytes.{length-bytesOf}
-use Rattle.parts.specs.declared.Cursor.{Cursor}
 use Rattle.parts.specs.declared.Encoder.{Encoder}
-use Rattle.parts.specs.Cursor.{add32, before, movedTo, entryOf, walkedAs}
+use Rattle.parts.specs.Cursor.{add32, movedTo, entryOf}
 use Rattle.parts.specs.Encoder.{begun, unchanged, endedBy, takenAllBy, sizesAs}
-use Rattle.parts.specs.Holds.{Holds}
+use Rattle.parts.specs.Walks.{Walks}
 use Rattle.parts.specs.Codes.{sizesIn, Codes}
 use Rattle.parts.proofs.Outright.{outright}
 use Rattle.parts.proofs.Taking.{same-fit, rank-all, first-all, second-all}
@@ -29,12 +27,12 @@ use Rattle.jumps.proofs.Taken.{seconds, firsts}
 
 -- ---- the cursor
 
-pub rank-next : (b : List ℕ) (v : View) (c : Cursor) → next b v c .rank ≡ add32 (c .rank) 1
-unfolding next jumpBy jumpFrom movedTo
-rank-next b v c = cases (eqb (entryOf b v (add32 (c .rank) 1)) 0) (λ e. rw e) (λ e. rw e)
-
-pub walk : (b : List ℕ) (v : View) (ls : List ℕ) → Holds (jumpsKind (v .width) (v .step)) b v ls → walkedAs (next b v) (next b v before) (length ls) ≡ ls
-walk b v ls h = walk-held b v ls (held b v ls h)
+pub walks : Walks jumpsKind next
+walks =
+    record {
+      rank = λ b v c. unfold next jumpBy jumpFrom movedTo in cases (eqb (entryOf b v (add32 (c .rank) 1)) 0) (λ e. rw e) (λ e. rw e);
+      walk = λ b v ls h. walk-held b v ls (held b v ls h);
+    }
 
 -- ---- the encoder
 

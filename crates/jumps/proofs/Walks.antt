@@ -1,6 +1,6 @@
 -- The cursor's steps go from position to position. Assumes nothing.
-use Prim.Native.Nat.{ℕ, suc, _+_, _*_, _^_, _≤_, _<_}
-use mathlib.Core.Path.{_≡_, _∙_}
+use Prim.Native.Nat.{ℕ, _+_, _*_, _^_, _≤_}
+use mathlib.Core.Path.{_≡_}
 use mathlib.Core.List.{List, _∷_}
 use native.Mathlib.Omega.{arith}
 use lib.ListN.{length}
@@ -14,7 +14,7 @@ use Rattle.wire.specs.Wire.{whole, entrySize}
 use Rattle.wire.proofs.Laws.{entry-of}
 use Rattle.parts.specs.declared.Cursor.{Cursor}
 use Rattle.parts.specs.Cursor.{add32, before, movedTo, entryOf, walkedAs}
-use Rattle.parts.proofs.Steps.{add32-small, upper, walks}
+use Rattle.parts.proofs.Steps.{add32-small, upper, RanksFit, upper-next, ranks-rest, kept-walk}
 use Rattle.jumps.specs.declared.search.Reached.{Reached}
 use Rattle.jumps.specs.Walk.{stepBy, stepped}
 use Rattle.jumps.specs.Steps.{jumpFrom, jumpBy, next}
@@ -24,7 +24,7 @@ use Rattle.jumps.proofs.Ahead.{Ahead, turned, there, ahead}
 -- the cursor before the positions ls
 pub record AheadOf (b : List ℕ) (v : View) (c : Cursor) (ls : List ℕ) : Type 0 where
   pub below : Below (2 ^ 32) ls
-  pub ranks : upper c + length ls < 2 ^ 32
+  pub ranks : RanksFit c ls
   pub low : c .next ≤ upper c
   pub ahead : Ahead b (v .width) (v .start) (v .second) (upper c) (record { position = c .at; taken = c .next }) ls
 
@@ -41,18 +41,18 @@ module _ (b : List ℕ) (v : View) (narrow : 1 ≤ v .width) (wide : v .width �
       let n = a .ranks in
       let l = a .low in
       let f = a .below .0 in
-      let r : add32 (upper c) 1 ≡ suc (upper c) = add32-small (upper c) 1 (omega arith) ∙ omega arith in
+      let r = upper-next c p ls n in
       cases (eqb d 0)
       (λ z.
       let m : add32 (c .next) 1 ≡ c .next + 1 = add32-small (c .next) 1 (omega arith) in
       let t0 = rw z at (t .0) in
       let t1 = rw z at (t .1) in
-      rw (e, z, m) (t0, record { below = a .below .1; ranks = rw r (omega arith); low = rw r (omega arith); ahead = rw r t1 }))
+      rw (e, z, m) (t0, record { below = a .below .1; ranks = ranks-rest c p ls n; low = rw r (omega arith); ahead = rw r t1 }))
       (λ z.
       let t0 = rw z at (t .0) in
       let t1 = rw z at (t .1) in
       let m : add32 (c .at) d ≡ c .at + d = add32-small (c .at) d (omega arith) in
-      rw (e, z, m) (t0, record { below = a .below .1; ranks = rw r (omega arith); low = rw r (omega arith); ahead = rw r t1 }))
+      rw (e, z, m) (t0, record { below = a .below .1; ranks = ranks-rest c p ls n; low = rw r (omega arith); ahead = rw r t1 }))
 
 -- before rank 0 all stand ahead
 pub walk-held : (b : List ℕ) (v : View) (ls : List ℕ) → Held b v ls → walkedAs (next b v) (next b v before) (length ls) ≡ ls
@@ -61,7 +61,7 @@ walk-held b v ls h =
     let m = z .cells in
     let k = z .words in
     let n = h .size in
-    walks (next b v) (AheadOf b v) (turn b v (z .narrow) (z .wide)) ls before
+    kept-walk (next b v) (AheadOf b v) (turn b v (z .narrow) (z .wide)) ls before
     (unfold add32 in record {
       below = below-widen (v .cells) (2 ^ 32) ls (omega arith) (below-rising 0 (v .cells) ls (h .rising));
       ranks = omega arith;

@@ -22,7 +22,7 @@ use Rattle.laws.proofs.Settings.{setting, by-kind}
 use Rattle.laws.proofs.Parts.{Known, known}
 use Rattle.parts.specs.declared.Cursor.{Cursor}
 use Rattle.parts.specs.declared.Sizes.{Sizes}
-use Rattle.parts.specs.Cursor.{alongRun}
+use Rattle.parts.specs.Walks.{GoesAlong}
 use Rattle.parts.specs.Codes.{sizesIn}
 use Rattle.parts.specs.Holds.{Holds, kindOf}
 use Rattle.parts.proofs.Along.{walked-along, stretch-inside}
@@ -55,7 +55,7 @@ module _ (b : List ℕ) (v : View) (ls : List ℕ) (h : Holds (kindOf v) b v ls)
 -- ---- the positions of a stretch of a run, or of one cell
 
 module _ (b : List ℕ) (v : View) (s : storesRuns (v .kind)) where
-  next-along : (c : Cursor) → c .at < c .last → nextOf b v c ≡ alongRun c
+  next-along : GoesAlong (nextOf b v)
   unfolding nextOf
   next-along c h = ⊎-elim (λ e. ap (λ (k : ℕ). nextBy k b v c) e ∙ run-walk.next-along b v c h) (λ e. ap (λ (k : ℕ). nextBy k b v c) e ∙ page-walk.next-along b v c h) s
 

@@ -10,7 +10,8 @@ use Rattle.format.specs.Kinds.{codec, codecOf, settingAllowed}
 use Rattle.parts.specs.declared.Cursor.{Cursor}
 use Rattle.parts.specs.declared.Sizes.{Sizes}
 use Rattle.parts.specs.Holds.{Holds, kindOf}
-use Rattle.parts.specs.Cursor.{add32, before, walkedAs}
+use Rattle.parts.specs.Cursor.{add32}
+use Rattle.parts.specs.Walks.{Walks}
 use Rattle.parts.specs.Codes.{Codes}
 use Rattle.runs.proofs.Walk as runs
 use Rattle.runs.proofs.Laws as runs-coder
@@ -29,32 +30,23 @@ use Rattle.jumps.specs.Coding.{jumpsCoder}
 use Rattle.kinds.specs.Coding.{noCoder, coderOf, coder, derived}
 use Rattle.kinds.proofs.None.{never}
 
-walk-by : (k : ℕ) (b : List ℕ) (v : View) (ls : List ℕ) → Holds (codecOf k (v .width) (v .step)) b v ls → walkedAs (nextBy k b v) (nextBy k b v before) (length ls) ≡ ls
-walk-by zero b v ls h = absurd (never (h .counted .allowed))
-walk-by (suc zero) b v ls h = runs.walk b v ls h
-walk-by (suc (suc zero)) b v ls h = positions.walk b v ls h
-walk-by (suc (suc (suc zero))) b v ls h = based.walk b v ls h
-walk-by (suc (suc (suc (suc zero)))) b v ls h = jumps.walk b v ls h
-walk-by (suc (suc (suc (suc (suc zero))))) b v ls h = paged.walk b v ls h
-walk-by (suc (suc (suc (suc (suc (suc k)))))) b v ls h = absurd (never (h .counted .allowed))
+walks-by : (k w l : ℕ) → codecOf k w l .allowed ≡ true → Walks (codecOf k) (nextBy k)
+walks-by zero w l a = absurd (never a)
+walks-by (suc zero) w l a = runs.walks
+walks-by (suc (suc zero)) w l a = positions.walks
+walks-by (suc (suc (suc zero))) w l a = based.walks
+walks-by (suc (suc (suc (suc zero)))) w l a = jumps.walks
+walks-by (suc (suc (suc (suc (suc zero))))) w l a = paged.walks
+walks-by (suc (suc (suc (suc (suc (suc k)))))) w l a = absurd (never a)
 
 -- the cursor walks the stored positions that the parts hold
 pub walks : (b : List ℕ) (v : View) (ls : List ℕ) → Holds (kindOf v) b v ls → walked b v (startOf b v) (length ls) ≡ ls
 unfolding walked startOf nextOf
-walks b v ls h = walk-by (v .kind) b v ls h
-
-rank-by : (k w l : ℕ) → codecOf k w l .allowed ≡ true → (b : List ℕ) (v : View) (c : Cursor) → nextBy k b v c .rank ≡ add32 (c .rank) 1
-rank-by zero w l a b v c = absurd (never a)
-rank-by (suc zero) w l a b v c = runs.rank-next b v c
-rank-by (suc (suc zero)) w l a b v c = positions.rank-next b v c
-rank-by (suc (suc (suc zero))) w l a b v c = based.rank-next b v c
-rank-by (suc (suc (suc (suc zero)))) w l a b v c = jumps.rank-next b v c
-rank-by (suc (suc (suc (suc (suc zero))))) w l a b v c = paged.rank-next b v c
-rank-by (suc (suc (suc (suc (suc (suc k)))))) w l a b v c = absurd (never a)
+walks b v ls h = walks-by (v .kind) (v .width) (v .step) (h .counted .allowed) .walk b v ls h
 
 pub rank-next : (b : List ℕ) (v : View) (c : Cursor) → kindOf v .allowed ≡ true → nextOf b v c .rank ≡ add32 (c .rank) 1
 unfolding nextOf
-rank-next b v c a = rank-by (v .kind) (v .width) (v .step) a b v c
+rank-next b v c a = walks-by (v .kind) (v .width) (v .step) a .rank b v c
 
 codes-by : (k w l : ℕ) → codecOf k w l .allowed ≡ true → Codes (coderOf k w l) (codecOf k w l)
 codes-by zero w l a = absurd (never a)

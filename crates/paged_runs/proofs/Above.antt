@@ -23,8 +23,8 @@ use Rattle.parts.specs.Encoder.{leftAfter}
 use Rattle.paged_runs.specs.declared.check.Compared.{Compared}
 use Rattle.paged_runs.specs.Levels.{spanOf}
 use Rattle.paged_runs.specs.Passing.{comparedWith, sameSpans}
-use Rattle.paged_runs.proofs.Bounded.{flat-append}
-use Rattle.paged_runs.proofs.Along.{and-both}
+use Rattle.paged_runs.proofs.LevelBytes.{flat-append}
+use Rattle.paged_runs.proofs.Along.{and-three}
 
 -- ---- one entry
 
@@ -68,11 +68,7 @@ pub compared-path : (b : ℕ) (s : Compared) (u : Pair) (x : Span) (left cells e
     → _≡_ {A = Compared} (record { left = left; sum = u; right = (s .right && eqb uc cells) && eqb ue empty }) (comparedWith b s u x)
 compared-path b s u x left cells empty uc ue l c e p q =
     rw (l, c, e, p, q)
-    (ap (λ (r : Bool). record { left = leftAfter b (s .left); sum = u; right = r }) (three (s .right) _ _))
-  where
-    three : (r t k : Bool) → (r && t) && k ≡ both r (both t k)
-    three true t k = and-both t k
-    three false t k = refl
+    (ap (λ (r : Bool). record { left = leftAfter b (s .left); sum = u; right = r }) (and-three (s .right) _ _))
 
 -- ---- the last entries below
 

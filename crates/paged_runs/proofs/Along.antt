@@ -27,6 +27,10 @@ pub and-both : (s t : Bool) → (s && t) ≡ both s t
 and-both true t = refl
 and-both false t = refl
 
+pub and-three : (r s t : Bool) → (r && s) && t ≡ both r (both s t)
+and-three true s t = and-both s t
+and-three false s t = refl
+
 pub follows-path : (a s : Sum) (n : ℕ) → n ≡ leastEmpty (a .cells)
     → (leb (n + a .empty) (s .empty) && ltb (s .empty + a .cells) (s .cells + a .empty)) ≡ follows a s
 follows-path a s n e = rw e (and-both (leb (leastEmpty (a .cells) + a .empty) (s .empty)) (ltb (s .empty + a .cells) (s .cells + a .empty)))
@@ -198,11 +202,7 @@ right-level b c w ys h =
 
 -- the last tests, as code makes them
 pub ends-both : (cells words : ℕ) (s : Passed) → (s .right && leb (s .sum .cells) cells) && eqb (s .sum .cells) (s .sum .empty + words) ≡ runsEnd cells words s
-ends-both cells words s = three (s .right) (leb (s .sum .cells) cells) (eqb (s .sum .cells) (s .sum .empty + words))
-  where
-    three : (r t k : Bool) → (r && t) && k ≡ both r (both t k)
-    three true t k = and-both t k
-    three false t k = refl
+ends-both cells words s = and-three (s .right) (leb (s .sum .cells) cells) (eqb (s .sum .cells) (s .sum .empty + words))
 
 -- ---- the loop along level 0
 

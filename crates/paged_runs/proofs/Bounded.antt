@@ -1,7 +1,7 @@
 -- How large the entries of the levels are: no sum exceeds that of all pairs. Assumes nothing.
 use Prim.Native.Nat.{ℕ, zero, suc, _+_, _-_, _≤_, _<_}
 use mathlib.Core.Path.{_≡_, refl, ap, _∙_}
-use mathlib.Core.List.{List, [], _∷_, _++_}
+use mathlib.Core.List.{List, [], _∷_}
 use native.Mathlib.Omega.{arith}
 use lib.ListN.{length}
 use lib.Dec.{leb}
@@ -14,6 +14,7 @@ use Rattle.laws.proofs.Bounds.{below-runs}
 use Rattle.laws.proofs.Stored.{Rising}
 use Rattle.laws.proofs.Search.{Proper}
 use Rattle.laws.proofs.Ranks.{InOrder, in-order, proper-spans}
+use Rattle.paged_runs.proofs.LevelBytes.{flat-append}
 
 -- all cells, and all empty cells, of a list of pairs
 unfoldable pub cellsOf : List Span → ℕ
@@ -57,11 +58,6 @@ level-empty b (x ∷ xs) = lasts-empty b (b - 1) x xs ∙ unfold emptyOf in refl
 pub level-below : (b M : ℕ) (xs : List Span) → cellsOf xs < M → emptyOf xs < M → Below M (flatSpans (level b xs))
 unfolding level
 level-below b M xs h g = sums-below b 0 M none xs (omega arith) (omega arith)
-
-pub flat-append : (xs ys : List Span) → flatSpans (xs ++ ys) ≡ flatSpans xs ++ flatSpans ys
-unfolding flatSpans
-flat-append [] ys = refl
-flat-append (x ∷ xs) ys = rw (flat-append xs ys)
 
 above-below : (n b M : ℕ) (xs : List Span) → cellsOf xs < M → emptyOf xs < M → Below M (flatSpans (levelsAbove n b (level b xs)))
 unfolding levelsAbove

@@ -24,16 +24,12 @@ use Rattle.parts.specs.declared.Encoder.{Encoder}
 use Rattle.parts.specs.declared.Sizes.{Sizes}
 use Rattle.parts.specs.Encoder.{ifZero, begun, leftAfter, unchanged, runEnds, takenBy, takenAllBy, endedBy, firstsBy, secondsBy}
 use Rattle.parts.specs.Codes.{Codes, PutOut, sizesIn, outIn}
-use Rattle.parts.proofs.Taking.{if-suc, no-firsts, same-fit, rank-all, second-all}
+use Rattle.parts.proofs.Taking.{if-suc, run-ends, no-firsts, same-fit, rank-all, second-all}
 use Rattle.paged_runs.specs.Coding.{pageEntry, paged, pageSizes, pagesCoder, coder}
 use Rattle.paged_runs.proofs.Allowed.{page-step}
 use Rattle.paged_runs.proofs.OneEntry.{pages-fit, keeps-pages}
 use Rattle.paged_runs.proofs.LevelBytes.{flat-cons, length-entries}
 use Rattle.paged_runs.proofs.FirstPart.{levels-made}
-
-run-ends : (e : Encoder) (r p : ℕ) → e .rank ≡ suc r → runEnds e p ≡ not (eqb p (suc (e .last)))
-unfolding runEnds
-run-ends e r p h = if-suc (e .rank) r false (not (eqb p (e .last + 1))) h ∙ ap (λ (n : ℕ). not (eqb p n)) (add-one (e .last))
 
 -- the entry of the pair x, where k more entries belong to the page that has the sum a so far
 entryAt : ℕ → Span → Span → Span

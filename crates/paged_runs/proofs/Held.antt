@@ -1,35 +1,30 @@
 -- What the parts of kind 5 hold: counts and places where they are right, and the levels. Assumes nothing.
 use Prim.Native.Nat.{ℕ, _+_, _*_, _^_, _≤_, _<_}
 use mathlib.Core.Path.{_≡_, sym, ap, ap₂, _∙_}
-use mathlib.Core.Bool.{true}
 use mathlib.Core.List.{List, _++_}
 use native.Mathlib.Omega.{arith}
 use lib.ListN.{length, take, drop, take-append-drop}
 use lib.Dec.{leb, eqb}
 use borrow.Author.Tests.{leb-true, eqb-true}
 use Rattle.format.specs.declared.View.{View}
-use Rattle.format.specs.Tools.{within}
 use Rattle.format.specs.Bytes.{bytesOf}
 use Rattle.format.specs.Runs.{Span, runs, spans}
 use Rattle.format.specs.PagedRuns.{level, upperLevels, upperEntries, flatSpans, pagesKind, pagedParts}
-use Rattle.laws.proofs.Tools.{both-true, within-true}
+use Rattle.laws.proofs.Tools.{both-true}
 use Rattle.laws.proofs.Bounds.{length-level}
 use Rattle.parts.specs.Holds.{Counted, Holds}
 use Rattle.paged_runs.specs.Levels.{entries}
 use Rattle.paged_runs.specs.Passing.{Inside}
+use Rattle.paged_runs.proofs.Allowed.{page-step}
 use Rattle.paged_runs.proofs.Reading.{pairs-back, entries-take, entries-next}
 use Rattle.paged_runs.proofs.Bounded.{cellsOf, emptyOf, level-below, upper-below, cells-runs, empty-runs}
 
 -- ---- right counts
 
-pub allowed-step : (w b : ℕ) → pagesKind w b .allowed ≡ true → (2 ≤ b) × (b ≤ 64)
-unfolding pagesKind
-allowed-step w b h = within-true 2 64 b (both-true (eqb w 0) (within 2 64 b) h .1)
-
 pub inside : (b : List ℕ) (v : View) → Counted (pagesKind (v .width) (v .step)) b v → Inside b v
 unfolding pagesKind
 inside b v c =
-    let s = allowed-step (v .width) (v .step) (c .allowed) in
+    let s = page-step (v .width) (v .step) (c .allowed) in
     let n = both-true (eqb (v .firsts) (upperEntries (v .step) (v .seconds))) (leb (v .seconds) (v .words)) (c .counts) in
     let m = leb-true (v .seconds) (v .words) (n .1) in
     let w = c .words-most in

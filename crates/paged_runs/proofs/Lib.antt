@@ -1,3 +1,4 @@
+pub mod Allowed
 -- Check and searches.
 pub mod Reading
 pub mod Sizes
@@ -13,7 +14,6 @@ pub mod Whole
 pub mod Answering
 pub mod Finding
 -- The cursor and the encoder.
-pub mod Allowed
 pub mod Walk
 pub mod OneEntry
 pub mod Codes

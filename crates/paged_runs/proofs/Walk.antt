@@ -3,7 +3,6 @@ use Prim.Native.Nat.{ℕ, suc, _+_, _-_, _*_, _^_, _≤_, _<_}
 use mathlib.Core.Path.{_≡_, refl, ap, _∙_}
 use mathlib.Core.List.{List, [], _∷_}
 use native.Mathlib.Omega.{arith}
-use lib.ListN.{length}
 use lib.Dec.{ltb}
 use borrow.Author.Tests.{lt-ltb, ltb-true, ltb-false}
 use Rattle.format.specs.declared.View.{View}
@@ -16,25 +15,18 @@ use Rattle.laws.proofs.Levels.{none-plus}
 use Rattle.laws.proofs.Stored.{Rising}
 use Rattle.wire.specs.Wire.{pairAt}
 use Rattle.parts.specs.declared.Cursor.{Cursor}
-use Rattle.parts.specs.Cursor.{add32, alongRun, before, walkedAs}
+use Rattle.parts.specs.Cursor.{add32, alongRun, before}
 use Rattle.parts.specs.Holds.{Holds}
+use Rattle.parts.specs.Walks.{Walks, StepsAlong}
 use Rattle.parts.proofs.Entries.{Entries, first-pair, rest-pairs, all-entries}
-use Rattle.parts.proofs.Steps.{add32-small, add32-back, upper, walks}
+use Rattle.parts.proofs.Steps.{add32-small, add32-back, upper, kept-walk}
 use Rattle.parts.proofs.RunWalk.{Fit, Along, along-run, none-left, enter-run, all-fit, all-along}
 use Rattle.paged_runs.specs.Steps.{pageOf, entered, next}
 use Rattle.paged_runs.proofs.Allowed.{page-step}
 
-pub next-along : (b : List ℕ) (v : View) (c : Cursor) → c .at < c .last → next b v c ≡ alongRun c
+pub next-along : StepsAlong next
 unfolding next
 next-along b v c h = rw (lt-ltb _ _ h)
-
--- each step goes to the next rank
-pub rank-next : (b : List ℕ) (v : View) (c : Cursor) → next b v c .rank ≡ add32 (c .rank) 1
-unfolding next alongRun entered pageOf
-rank-next b v c =
-    cases (ltb (c .at) (c .last))
-    (λ t. rw t)
-    (λ t. rw t (cases (ltb (c .used) (v .step)) (λ u. rw u) (λ u. rw u)))
 
 -- a is the sum of the page's pairs so far, and base and empty say what stands before the page, while entries of the page are left
 record Ahead (b : List ℕ) (w : View) (B : ℕ) (c : Cursor) (ls : List ℕ) : Type 0 where
@@ -160,16 +152,26 @@ begin b w B ls rising h es =
       entries = rw k es;
     }
 
--- over parts that hold stored positions the cursor stands at them, one after the other
-pub walk : (b : List ℕ) (v : View) (ls : List ℕ) → Holds (pagesKind (v .width) (v .step)) b v ls
-    → walkedAs (next b v) (next b v before) (length ls) ≡ ls
+held-ahead : (b : List ℕ) (v : View) (ls : List ℕ) → Holds (pagesKind (v .width) (v .step)) b v ls → Ahead b v (v .cells) before ls
 unfolding pagesKind pagedParts
-walk b v ls h =
+held-ahead b v ls h =
     let c = h .counted in
     let m = c .cells-most in
     let i = c .inside in
     let u = page-step (v .width) (v .step) (c .allowed) .1 in
     let xs = flatSpans (level (v .step) (spans (runs ls))) in
     let g : Below (256 ^ 4) xs = below-level (v .step) 0 (v .cells) (256 ^ 4) ls (omega arith) (h .rising) in
-    walks (next b v) (Ahead b v (v .cells)) (turn b v (v .cells) (omega arith)) ls before
-    (begin b v (v .cells) ls (h .rising) u (all-entries b 4 (v .second) (8 * v .seconds) xs (omega arith) g (h .second)))
+    begin b v (v .cells) ls (h .rising) u (all-entries b 4 (v .second) (8 * v .seconds) xs (omega arith) g (h .second))
+
+pub walks : Walks pagesKind next
+walks =
+    record {
+      rank = λ b v c.
+          unfold next alongRun entered pageOf in
+          cases (ltb (c .at) (c .last))
+          (λ t. rw t)
+          (λ t. rw t (cases (ltb (c .used) (v .step)) (λ u. rw u) (λ u. rw u)));
+      walk = λ b v ls h.
+          let m = h .counted .cells-most in
+          kept-walk (next b v) (Ahead b v (v .cells)) (turn b v (v .cells) (omega arith)) ls before (held-ahead b v ls h);
+    }

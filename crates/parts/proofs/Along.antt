@@ -7,6 +7,7 @@ use native.Mathlib.Omega.{arith}
 use Rattle.format.specs.Tools.{range}
 use Rattle.parts.specs.declared.Cursor.{Cursor}
 use Rattle.parts.specs.Cursor.{add32, alongRun, alongBy, walkedAs, steppedAs}
+use Rattle.parts.specs.Walks.{GoesAlong}
 use Rattle.parts.proofs.Batches.{stepped-as-add}
 
 add32-one : (a m : ℕ) → add32 (add32 a 1) m ≡ add32 a (suc m)
@@ -29,7 +30,7 @@ along-more : (c : Cursor) (m : ℕ) → alongBy m (alongRun c) ≡ alongBy (suc 
 unfolding alongBy alongRun
 along-more c m = rw (add32-one (c .rank) m, add32-in (c .at) m)
 
-module _ (f : Cursor → Cursor) (same : (c : Cursor) → c .at < c .last → f c ≡ alongRun c) where
+module _ (f : Cursor → Cursor) (same : GoesAlong f) where
   stepped-along : (m : ℕ) (c : Cursor) → c .rank < 2 ^ 32 → c .at + m < 2 ^ 32 → m ≤ c .last - c .at → steppedAs f c m ≡ alongBy m c
   unfolding steppedAs
   stepped-along zero c r a h = along-none c r (omega arith)

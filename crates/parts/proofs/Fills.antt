@@ -11,7 +11,8 @@ use borrow.Author.Tests.{leb-true, leb-false}
 use Rattle.format.specs.Tools.{range}
 use Rattle.laws.proofs.Tools.{cases, range-snoc}
 use Rattle.parts.specs.declared.Cursor.{Cursor}
-use Rattle.parts.specs.Cursor.{add32, alongRun, walkedAs, steppedAs}
+use Rattle.parts.specs.Cursor.{add32, walkedAs, steppedAs}
+use Rattle.parts.specs.Walks.{GoesAlong}
 use Rattle.parts.specs.Stretch.{Filled, Stretch}
 use Rattle.parts.proofs.Steps.{add32-small}
 use Rattle.parts.proofs.Along.{walked-along}
@@ -49,7 +50,7 @@ fill-less p from m n before after h x = record { size = x .size; front = λ k l 
 
 -- ---- a turn
 
-module _ (f : Cursor → Cursor) (same : (c : Cursor) → c .at < c .last → f c ≡ alongRun c) where
+module _ (f : Cursor → Cursor) (same : GoesAlong f) where
   -- a loop's turn that takes m steps
   pub stretch-turn : (c₀ : Cursor) (n : ℕ) (c d : Cursor) (out after : List ℕ) (i m : ℕ) → length out ≡ n → Stretch c i m out after
       → d ≡ steppedAs f c (m - 1 + 1) → Partly f c₀ n c out i → Partly f c₀ n d after (i + m)

@@ -33,7 +33,7 @@ rising-lt a B (l ∷ ls) (suc i) (suc j) r h k = rising-lt (suc l) B ls i j (r .
 -- ---- how many are below p, and whether p is one
 
 -- none, where all are above
-count-none : (a p B : ℕ) (ls : List ℕ) → p ≤ a → Rising a B ls → countBelow p ls ≡ 0
+pub count-none : (a p B : ℕ) (ls : List ℕ) → p ≤ a → Rising a B ls → countBelow p ls ≡ 0
 unfolding countBelow
 count-none a p B [] h r = refl
 count-none a p B (l ∷ ls) h r = let o = r .0 in rw (le-ltb l p (omega arith), zero-add) (count-none (suc l) p B ls (omega arith) (r .2))

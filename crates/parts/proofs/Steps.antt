@@ -1,6 +1,6 @@
 -- What a walk needs of a kind's step: sums of 32 bits, entries by their width, and a relation that each step keeps. Assumes nothing.
 use Prim.Native.Nat.{ℕ, zero, suc, _+_, _-_, _*_, _^_, _≤_, _<_}
-use mathlib.Core.Path.{_≡_, refl, ap₂}
+use mathlib.Core.Path.{_≡_, refl, ap₂, _∙_}
 use mathlib.Core.List.{List, [], _∷_}
 use native.Mathlib.Nat.{mod-eq-of-lt}
 use native.Mathlib.Omega.{arith}
@@ -22,9 +22,23 @@ pub add32-back : (a c e : ℕ) → a < 2 ^ 32 → add32 a 1 ≡ e → 1 ≤ c �
 unfolding add32
 add32-back a c e f h k n = omega arith
 
+-- ---- the ranks ahead
+
 -- the next rank
 abbrev pub upper : Cursor → ℕ
 upper c = add32 (c .rank) 1
+
+-- the ranks of the positions ls, which stand ahead of c, fit 32 bits
+abbrev pub RanksFit : Cursor → List ℕ → Type 0
+RanksFit c ls = upper c + length ls < 2 ^ 32
+
+module _ (c : Cursor) (p : ℕ) (ls : List ℕ) (h : RanksFit c (p ∷ ls)) where
+  pub upper-next : add32 (upper c) 1 ≡ suc (upper c)
+  upper-next = add32-small (upper c) 1 (omega arith) ∙ omega arith
+
+  -- one step further
+  pub ranks-rest : add32 (upper c) 1 + length ls < 2 ^ 32
+  ranks-rest = rw upper-next (omega arith)
 
 -- ---- an entry by its width
 
@@ -44,7 +58,7 @@ entry-other b v r h k = entry-none (v .width) (v .second + entrySize (v .width) 
 
 module _ (f : Cursor → Cursor) (Ahead : Cursor → List ℕ → Type 0)
     (turn : (c : Cursor) (p : ℕ) (ls : List ℕ) → Ahead c (p ∷ ls) → (f c .at ≡ p) × Ahead (f c) ls) where
-  pub walks : (ls : List ℕ) (c : Cursor) → Ahead c ls → walkedAs f (f c) (length ls) ≡ ls
+  pub kept-walk : (ls : List ℕ) (c : Cursor) → Ahead c ls → walkedAs f (f c) (length ls) ≡ ls
   unfolding walkedAs
-  walks [] c a = refl
-  walks (p ∷ ls) c a = let t = turn c p ls a in ap₂ (λ (x : ℕ) (xs : List ℕ). x ∷ xs) (t .0) (walks ls (f c) (t .1))
+  kept-walk [] c a = refl
+  kept-walk (p ∷ ls) c a = let t = turn c p ls a in ap₂ (λ (x : ℕ) (xs : List ℕ). x ∷ xs) (t .0) (kept-walk ls (f c) (t .1))

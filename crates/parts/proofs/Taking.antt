@@ -4,6 +4,7 @@ use mathlib.Core.Path.{_≡_, refl, sym, ap, ap₂, _∙_}
 use mathlib.Core.Bool.{Bool, true, false, not}
 use mathlib.Core.List.{List, [], _∷_, _++_}
 use native.Mathlib.Nat.{add-zero}
+use native.Mathlib.Numerals.{add-one}
 use native.Mathlib.Omega.{arith}
 use lib.ListN.{length, length-append}
 use lib.Dec.{eqb}
@@ -36,6 +37,11 @@ ends-none e p h = sym (if-zero (e .rank) false (not (eqb p (e .last + 1))) h)
 pub ends-later : (e : Encoder) (p : ℕ) → (e .rank ≡ 0 → ⊥) → not (eqb p (e .last + 1)) ≡ runEnds e p
 unfolding runEnds
 ends-later e p h = sym (if-more (e .rank) false (not (eqb p (e .last + 1))) h)
+
+-- after the first position
+pub run-ends : (e : Encoder) (r p : ℕ) → e .rank ≡ suc r → runEnds e p ≡ not (eqb p (suc (e .last)))
+unfolding runEnds
+run-ends e r p h = if-suc (e .rank) r false (not (eqb p (e .last + 1))) h ∙ ap (λ (n : ℕ). not (eqb p n)) (add-one (e .last))
 
 pub left-first : (l n : ℕ) → n ≡ 0 → l - 1 ≡ leftAfter l n
 unfolding leftAfter

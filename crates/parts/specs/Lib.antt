@@ -1,6 +1,7 @@
 pub mod Holds
 pub mod Found
 pub mod Cursor
+pub mod Walks
 pub mod Stretch
 pub mod Encoder
 pub mod Ready

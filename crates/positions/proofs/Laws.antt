@@ -1,5 +1,5 @@
 -- The cursor walks the stored positions, and the coder puts them out. Assumes nothing.
-use Prim.Native.Nat.{ℕ, zero, suc, _+_, _-_, _*_, _/_, _^_, _≤_, _<_}
+use Prim.Native.Nat.{ℕ, zero, suc, _+_, _-_, _*_, _/_, _^_, _≤_}
 use mathlib.Core.Path.{_≡_, refl, sym, ap, _∙_}
 use mathlib.Core.Bool.{true, false}
 use mathlib.Core.List.{List, [], _∷_, _++_}
@@ -18,11 +18,12 @@ use Rattle.laws.proofs.Bounds.{below-rising, below-widen}
 use Rattle.parts.specs.declared.Cursor.{Cursor}
 use Rattle.parts.specs.declared.Encoder.{Encoder}
 use Rattle.parts.specs.Holds.{Holds}
-use Rattle.parts.specs.Cursor.{add32, movedTo, before, walkedAs}
+use Rattle.parts.specs.Walks.{Walks}
+use Rattle.parts.specs.Cursor.{add32, movedTo, before}
 use Rattle.parts.specs.Encoder.{Coder, unchanged, begun, takenBy, endedBy, takenAllBy, firstsBy}
 use Rattle.parts.specs.Ready.{Next, moved}
 use Rattle.parts.specs.Codes.{sizesIn, PutOut, Codes}
-use Rattle.parts.proofs.Steps.{add32-small, upper, walks}
+use Rattle.parts.proofs.Steps.{upper, RanksFit, upper-next, ranks-rest, kept-walk}
 use Rattle.parts.proofs.Entries.{Entries, first-entry, rest-entries, all-entries}
 use Rattle.parts.proofs.Outright.{outright}
 use Rattle.parts.proofs.Taking.{taken-moved, no-seconds, same-fit, rank-all, first-all, second-all}
@@ -33,31 +34,37 @@ use Rattle.positions.proofs.Held.{there}
 
 -- ---- the cursor
 
-pub rank-next : (b : List ℕ) (v : View) (c : Cursor) → next b v c .rank ≡ add32 (c .rank) 1
-unfolding next movedTo
-rank-next b v c = refl
-
 record Ahead (b : List ℕ) (v : View) (c : Cursor) (ls : List ℕ) : Type 0 where
-  ranks : upper c + length ls < 2 ^ 32
+  ranks : RanksFit c ls
   entries : Entries b 4 (v .start) (upper c) ls
 
 turn : (b : List ℕ) (v : View) (c : Cursor) (p : ℕ) (ls : List ℕ) → Ahead b v c (p ∷ ls) → (next b v c .at ≡ p) × Ahead b v (next b v c) ls
 unfolding next movedTo
-turn b v c p ls a =
-    let n = a .ranks in
-    let r : add32 (upper c) 1 ≡ suc (upper c) = add32-small (upper c) 1 (omega arith) ∙ omega arith in
-    (first-entry b 4 (v .start) (upper c) p ls (a .entries), record { ranks = rw r (omega arith); entries = rw r (rest-entries b 4 (v .start) (upper c) p ls (a .entries)) })
+turn b v c p ls a = (
+  first-entry b 4 (v .start) (upper c) p ls (a .entries),
+  record {
+    ranks = ranks-rest c p ls (a .ranks);
+    entries = rw (upper-next c p ls (a .ranks)) (rest-entries b 4 (v .start) (upper c) p ls (a .entries));
+  },
+)
 
-pub walk : (b : List ℕ) (v : View) (ls : List ℕ) → Holds (positionsKind (v .width) (v .step)) b v ls → walkedAs (next b v) (next b v before) (length ls) ≡ ls
+-- before rank 0 all stand ahead
+begin : (b : List ℕ) (v : View) (ls : List ℕ) → Holds (positionsKind (v .width) (v .step)) b v ls → Ahead b v before ls
 unfolding positionsKind positionParts add32
-walk b v ls h =
+begin b v ls h =
     let m = h .counted .cells-most in
     let n = h .size in
     let w = h .counted .words-most in
     let t = there b v (h .counted) in
     let four : Below (256 ^ 4) ls = below-widen (v .cells) (256 ^ 4) ls (omega arith) (below-rising 0 (v .cells) ls (h .rising)) in
-    walks (next b v) (Ahead b v) (turn b v) ls before
-    (record { ranks = omega arith; entries = all-entries b 4 (v .start) (4 * v .firsts) ls (omega arith) four (h .first) })
+    record { ranks = omega arith; entries = all-entries b 4 (v .start) (4 * v .firsts) ls (omega arith) four (h .first) }
+
+pub walks : Walks positionsKind next
+walks =
+    record {
+      rank = λ b v c. unfold next movedTo in refl;
+      walk = λ b v ls h. kept-walk (next b v) (Ahead b v) (turn b v) ls before (begin b v ls h);
+    }
 
 -- ---- the coder
 

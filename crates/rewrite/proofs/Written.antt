@@ -9,9 +9,8 @@ use lib.Seq.{length-take-le, split-at, set-split, take-at, drop-at, getD-at, set
 use borrow.Author.Tests.{eq-eqb, ne-eqb, lt-ltb}
 use Rattle.format.specs.Stored.{storedFrom, stored, kept, rankAt}
 use Rattle.laws.proofs.Stored.{Rising, rising-stored, length-stored, stored-append, kept-append}
-use Rattle.laws.proofs.Positions.{rising-at}
 use Rattle.parts.specs.Found.{countBelow}
-use Rattle.parts.proofs.Places.{count-at}
+use Rattle.parts.proofs.Places.{count-none}
 
 -- ---- how many are below
 
@@ -24,9 +23,6 @@ count-all : (a p : ℕ) (ls : List ℕ) → Rising a p ls → countBelow p ls �
 unfolding countBelow
 count-all a p [] r = refl
 count-all a p (l ∷ ls) r = let later = count-all (suc l) p ls (r .2) in rw (lt-ltb l p (r .1)) (omega arith)
-
-count-none : (a p B : ℕ) (ls : List ℕ) → p ≤ a → Rising a B ls → countBelow p ls ≡ 0
-count-none a p B ls h r = count-at p B a ls 0 r (omega arith) (λ i k. absurd (omega arith)) (λ k. let g = rising-at a B ls 0 r k in omega arith)
 
 -- ---- a list with a middle: fs, then perhaps one element, then rs
 

@@ -3,7 +3,6 @@ use Prim.Native.Nat.{ℕ, suc, _+_, _-_, _*_, _/_, _≤_}
 use mathlib.Core.Path.{_≡_, refl, sym, ap, ap₂, _∙_}
 use mathlib.Core.Bool.{Bool, true, false, not}
 use mathlib.Core.List.{List, [], _∷_, _++_, append-nil}
-use native.Mathlib.Numerals.{add-one}
 use native.Mathlib.Omega.{arith}
 use lib.ListN.{length}
 use lib.Dec.{eqb}
@@ -18,13 +17,9 @@ use Rattle.parts.specs.declared.Encoder.{Encoder}
 use Rattle.parts.specs.Encoder.{begun, unchanged, runEnds, takenBy, takenAllBy, endedBy, firstsBy, secondsBy}
 use Rattle.parts.specs.Codes.{Codes, sizesIn}
 use Rattle.parts.proofs.Outright.{outright}
-use Rattle.parts.proofs.Taking.{if-suc, no-seconds, same-fit, rank-all, first-all, second-all}
+use Rattle.parts.proofs.Taking.{if-suc, run-ends, no-seconds, same-fit, rank-all, first-all, second-all}
 use Rattle.runs.specs.Coding.{runPair, runsCoder, coder}
 use Rattle.runs.proofs.Adds.{keeps}
-
-run-ends : (e : Encoder) (r p : ℕ) → e .rank ≡ suc r → runEnds e p ≡ not (eqb p (suc (e .last)))
-unfolding runEnds
-run-ends e r p h = if-suc (e .rank) r false (not (eqb p (e .last + 1))) h ∙ ap (λ (n : ℕ). not (eqb p n)) (add-one (e .last))
 
 run-pair : (e : Encoder) (r : ℕ) → e .rank ≡ suc r → runPair e ≡ pair (e .last) (e .last - r)
 unfolding runPair

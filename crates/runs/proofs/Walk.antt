@@ -3,7 +3,6 @@ use Prim.Native.Nat.{ℕ, suc, _+_, _-_, _*_, _^_, _≤_, _<_}
 use mathlib.Core.Path.{_≡_, refl, _∙_, subst, subst₂}
 use mathlib.Core.List.{List, [], _∷_}
 use native.Mathlib.Omega.{arith}
-use lib.ListN.{length}
 use lib.Dec.{ltb}
 use borrow.Author.Tests.{ltb-true, ltb-false, lt-ltb}
 use Rattle.format.specs.declared.View.{View}
@@ -12,20 +11,17 @@ use Rattle.laws.proofs.Tools.{cases}
 use Rattle.laws.proofs.Ranks.{InOrder, in-order}
 use Rattle.wire.specs.Wire.{pairAt}
 use Rattle.parts.specs.declared.Cursor.{Cursor}
-use Rattle.parts.specs.Cursor.{add32, alongRun, before, walkedAs}
+use Rattle.parts.specs.Cursor.{add32, alongRun, before}
 use Rattle.parts.specs.Holds.{Holds}
-use Rattle.parts.proofs.Steps.{add32-small, upper, walks}
+use Rattle.parts.specs.Walks.{Walks, StepsAlong}
+use Rattle.parts.proofs.Steps.{add32-small, upper, kept-walk}
 use Rattle.parts.proofs.Entries.{Entries, first-pair, rest-pairs}
 use Rattle.parts.proofs.RunWalk.{Fit, Along, along-run, none-left, enter-run, all-fit, all-along}
 use Rattle.runs.specs.Steps.{entered, next}
 use Rattle.runs.proofs.Body.{held}
 
-pub rank-next : (b : List ℕ) (v : View) (c : Cursor) → next b v c .rank ≡ add32 (c .rank) 1
-unfolding next alongRun entered
-rank-next b v c = cases (ltb (c .at) (c .last)) (λ t. rw t) (λ t. rw t)
-
 -- along a run
-pub next-along : (b : List ℕ) (v : View) (c : Cursor) → c .at < c .last → next b v c ≡ alongRun c
+pub next-along : StepsAlong next
 unfolding next
 next-along b v c h = rw (lt-ltb (c .at) (c .last) h)
 
@@ -79,12 +75,11 @@ module _ (b : List ℕ) (w : View) (B : ℕ) (small : B < 2 ^ 32) (c : Cursor) (
       rw t (y .0, record { e = a .e; v = a .v; rs = a .rs; order = a .order; fit = a .fit; along = y .1; entries = unfold alongRun in a .entries }))
       (λ t. rw t (enters (a .e) (a .v) (a .rs) (ltb-false (c .at) (c .last) t) (a .order) (a .fit) (a .along) (a .entries)))
 
-pub walk : (b : List ℕ) (v : View) (ls : List ℕ) → Holds (runsKind (v .width) (v .step)) b v ls → walkedAs (next b v) (next b v before) (length ls) ≡ ls
+-- before rank 0 all stand ahead
+begin : (b : List ℕ) (v : View) (ls : List ℕ) → Holds (runsKind (v .width) (v .step)) b v ls → Ahead b v (v .cells) before ls
 unfolding spans
-walk b v ls h =
-    let m = h .counted .cells-most in
-    walks (next b v) (Ahead b v (v .cells)) (turn b v (v .cells) (omega arith)) ls before
-    (record {
+begin b v ls h =
+    record {
       e = 0;
       v = 0;
       rs = runs ls;
@@ -92,4 +87,13 @@ walk b v ls h =
       fit = all-fit (v .cells) ls (h .rising);
       along = all-along (v .cells) ls (h .rising);
       entries = held b v ls h;
-    })
+    }
+
+pub walks : Walks runsKind next
+walks =
+    record {
+      rank = λ b v c. unfold next alongRun entered in cases (ltb (c .at) (c .last)) (λ t. rw t) (λ t. rw t);
+      walk = λ b v ls h.
+          let m = h .counted .cells-most in
+          kept-walk (next b v) (Ahead b v (v .cells)) (turn b v (v .cells) (omega arith)) ls before (begin b v ls h);
+    }

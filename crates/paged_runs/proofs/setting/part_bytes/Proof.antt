@@ -2,12 +2,12 @@
 use native.Mathlib.Omega.{arith}
 use borrow.Author.Needs.{needs}
 use Rattle.format.specs.PagedRuns.{pagesKind}
-use Rattle.paged_runs.proofs.Held.{allowed-step}
+use Rattle.paged_runs.proofs.Allowed.{page-step}
 use Rattle.paged_runs.proofs.setting.part_bytes.Statement.{statement}
 use Rattle.paged_runs.proofs.setting.part_bytes.Tie as tie
 
 counts-right-requires : tie.Need-counts-right-requires
-counts-right-requires c κs = let s = allowed-step _ _ (c .pre .0) in (omega arith, s .0, s .1)
+counts-right-requires c κs = let s = page-step _ _ (c .pre .0) in (omega arith, s .0, s .1)
 
 returns : tie.Need-returns
 unfolding pagesKind
