@@ -1,6 +1,6 @@
 -- The kinds whose sizes follow from a count: of the ranks, or of the runs. Assumes nothing.
 use Prim.Native.Nat.{ℕ, suc, _+_, _-_, _*_, _/_, _≤_, _<_}
-use mathlib.Core.Path.{_≡_, refl, sym, ap, _∙_}
+use mathlib.Core.Path.{_≡_, refl, sym, ap, subst, _∙_}
 use mathlib.Core.Logic.{_⊎_, inl, inr, ⊎-elim}
 use mathlib.Core.Bool.{Bool, true, false}
 use mathlib.Core.List.{List}
@@ -18,7 +18,7 @@ use Rattle.format.specs.PagedRuns.{upperEntries, pagesKind, pagedParts}
 use Rattle.laws.proofs.Tools.{both-true}
 use Rattle.laws.proofs.Stored.{Rising}
 use Rattle.laws.proofs.Bounds.{length-spansFrom}
-use Rattle.laws.proofs.Settings.{setting, by-kind}
+use Rattle.laws.proofs.Settings.{setting}
 use Rattle.laws.proofs.Parts.{Known, known}
 use Rattle.parts.specs.declared.Cursor.{Cursor}
 use Rattle.parts.specs.declared.Sizes.{Sizes}
@@ -102,30 +102,30 @@ module _ (B : ℕ) (ls : List ℕ) (most : B ≤ 16777216) (rise : Rising 0 B ls
   abbrev Following : Setting → Type 0
   Following s = ByCount s ls n m → Follows s B ls n m
 
-  runs-follow : Following (setting 1 0 0)
+  runs-follow : (w l : ℕ) → Following (setting 1 w l)
   unfolding countedBy codec coder runsKind runParts runsCoder sizesIn
-  runs-follow h =
-      let k = known B ls most rise (setting 1 0 0) (h .allowed) refl in
+  runs-follow w l h =
+      let k = known B ls most rise (setting 1 w l) (h .allowed) refl in
       let r = h .runs (inl refl) in
       record {
         fits = refl;
         sizes = same-sizes (h .ranks) (eight m (length (runs ls)) r) refl (ap (λ (x : ℕ). 8 * x) r ∙ sym (k .first-size)) refl;
       }
 
-  positions-follow : Following (setting 2 0 0)
+  positions-follow : (w l : ℕ) → Following (setting 2 w l)
   unfolding countedBy codec coder positionsKind positionParts positions.coder sizesIn
-  positions-follow h =
-      let k = known B ls most rise (setting 2 0 0) (h .allowed) refl in
+  positions-follow w l h =
+      let k = known B ls most rise (setting 2 w l) (h .allowed) refl in
       let r = h .ranks in
       record {
         fits = refl;
         sizes = same-sizes r (four n (length ls) r) refl (ap (λ (x : ℕ). 4 * x) r ∙ sym (k .first-size)) refl;
       }
 
-  pages-follow : (b : ℕ) → Following (setting 5 0 b)
+  pages-follow : (w b : ℕ) → Following (setting 5 w b)
   unfolding countedBy codec coder pagesKind pagedParts paged.coder paged.pagesCoder sizesIn
-  pages-follow b h =
-      let k = known B ls most rise (setting 5 0 b) (h .allowed) refl in
+  pages-follow w b h =
+      let k = known B ls most rise (setting 5 w b) (h .allowed) refl in
       let xs = spans (runs ls) in
       let r : m ≡ length xs = h .runs (inr refl) ∙ sym (length-spans-runs ls) in
       let q = eight m (length xs) r in
@@ -141,19 +141,12 @@ module _ (B : ℕ) (ls : List ℕ) (most : B ≤ 16777216) (rise : Rising 0 B ls
       length-spans-runs : (ls : List ℕ) → length (spans (runs ls)) ≡ length (runs ls)
       length-spans-runs ls = unfold spans in length-spansFrom 0 0 (runs ls)
 
-  never : (k w l : ℕ) → (k ≡ 2 → ⊥) → (k ≡ 1 → ⊥) → (k ≡ 5 → ⊥) → Following (setting k w l)
-  never k w l f g i h = absurd (⊎-elim f (λ s. ⊎-elim g i s) (h .kind))
-
   pub follows : (s : Setting) → ByCount s ls n m → Follows s B ls n m
   follows s h =
-      by-kind Following
-      (record {
-        runs = runs-follow;
-        positions = positions-follow;
-        based = λ w l w1 w2 l1 l2. never 3 w l (λ x. omega arith) (λ x. omega arith) (λ x. omega arith);
-        jumps = λ w w1 w2. never 4 w 0 (λ x. omega arith) (λ x. omega arith) (λ x. omega arith);
-        paged = λ b b1 b2. pages-follow b;
-      }) s (h .allowed) h
+      ⊎-elim (λ e. of 2 e positions-follow) (λ r. ⊎-elim (λ e. of 1 e runs-follow) (λ e. of 5 e pages-follow) r) (h .kind)
+    where
+      of : (k : ℕ) → s .kind ≡ k → ((w l : ℕ) → Following (setting k w l)) → Follows s B ls n m
+      of k e f = subst (λ (x : ℕ). Following (setting x (s .width) (s .step))) (sym e) (f (s .width) (s .step)) h
 
 -- no number of it is large
 module _ (k n m : ℕ) (a : n ≤ 16777216) (b : m ≤ 16777216) where
