@@ -4,17 +4,8 @@ use borrow.Author.Needs.{needs}
 use Rattle.wire.proofs.entry_size.Statement.{statement}
 use Rattle.wire.proofs.entry_size.Tie as tie
 
--- src/lib.rt:71:1
-returns : tie.Need-returns
-returns c = search needs
-
--- src/lib.rt:71:1
-returns-2 : tie.Need-returns-2
-returns-2 c = search needs
-
--- src/lib.rt:71:1
 returns-3 : tie.Need-returns-3
 returns-3 c = (size-none _ (c .match .rest .0 .1) (c .match .rest .1), omega arith)
 
 pub entry-size-spec : {M : Type 1} → statement M
-entry-size-spec = tie.close (tie.spec returns returns-2 returns-3)
+entry-size-spec = tie.close (tie.spec (λ c. search needs) (λ c. search needs) returns-3)

@@ -5,25 +5,14 @@ use borrow.Author.Needs.{needs}
 use Rattle.wire.proofs.load_u16.Statement.{statement}
 use Rattle.wire.proofs.load_u16.Tie as tie
 
--- src/lib.rt:50:9
 returns : tie.Need-returns
 returns c = (sym (whole-past 2 _ _ (omega arith)), omega arith)
 
--- src/lib.rt:52:8
-sub-if2 : tie.Need-sub-if2
-sub-if2 c = search needs
-
--- src/lib.rt:53:9
 returns-2 : tie.Need-returns-2
 returns-2 c = (sym (whole-past 2 _ _ (omega arith)), omega arith)
 
--- src/lib.rt:55:5
-get-u16-requires : tie.Need-get-u16-requires
-get-u16-requires c κs = search needs
-
--- src/lib.rt:46:1
 returns-3 : tie.Need-returns-3
 returns-3 c = (c .get-u16 .ensures .0 ∙ sym (whole-there 2 _ _ (omega arith)), c .get-u16 .ensures .1)
 
 pub load-u16-spec : {M : Type 1} → statement M
-load-u16-spec = tie.close (tie.spec returns sub-if2 returns-2 get-u16-requires returns-3)
+load-u16-spec = tie.close (tie.spec returns (λ c. search needs) returns-2 (λ c κs. search needs) returns-3)

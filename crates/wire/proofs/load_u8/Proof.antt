@@ -5,17 +5,11 @@ use borrow.Author.Needs.{needs}
 use Rattle.wire.proofs.load_u8.Statement.{statement}
 use Rattle.wire.proofs.load_u8.Tie as tie
 
--- src/lib.rt:43:23
-get-u8-requires : tie.Need-get-u8-requires
-get-u8-requires c κs = search needs
-
--- src/lib.rt:40:1
 returns : tie.Need-returns
 returns c = (c .get-u8 .ensures .0 ∙ sym (whole-there 1 _ _ (omega arith)), c .get-u8 .ensures .1)
 
--- src/lib.rt:40:1
 returns-2 : tie.Need-returns-2
 returns-2 c = (sym (whole-past 1 _ _ (omega arith)), omega arith)
 
 pub load-u8-spec : {M : Type 1} → statement M
-load-u8-spec = tie.close (tie.spec get-u8-requires returns returns-2)
+load-u8-spec = tie.close (tie.spec (λ c κs. search needs) returns returns-2)

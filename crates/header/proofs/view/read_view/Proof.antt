@@ -3,21 +3,6 @@ use borrow.Author.Needs.{needs}
 use Rattle.header.proofs.view.read_view.Statement.{statement}
 use Rattle.header.proofs.view.read_view.Tie as tie
 
-read-setting-requires : tie.Need-read-setting-requires
-read-setting-requires c κs = search needs
-
-read-dimensions-requires : tie.Need-read-dimensions-requires
-read-dimensions-requires c κs = search needs
-
-cell-count-requires : tie.Need-cell-count-requires
-cell-count-requires c κs = search needs
-
-get-u32-requires : tie.Need-get-u32-requires
-get-u32-requires c κs = search needs
-
-read-counts-requires : tie.Need-read-counts-requires
-read-counts-requires c κs = search needs
-
 returns : tie.Need-returns
 returns c =
     view-fields _
@@ -31,9 +16,9 @@ pub read-view-spec : {M : Type 1} → statement M
 read-view-spec =
     tie.close
     (tie.spec
-    read-setting-requires
-    read-dimensions-requires
-    cell-count-requires
-    get-u32-requires
-    read-counts-requires
+    (λ c κs. search needs)
+    (λ c κs. search needs)
+    (λ c κs. search needs)
+    (λ c κs. search needs)
+    (λ c κs. search needs)
     returns)

@@ -3,12 +3,6 @@ use borrow.Author.Needs.{needs}
 use Rattle.parts.proofs.encode.left_after.Statement.{statement}
 use Rattle.parts.proofs.encode.left_after.Tie as tie
 
-sub-result : tie.Need-sub-result
-sub-result c = search needs
-
-sub-result-2 : tie.Need-sub-result-2
-sub-result-2 c = search needs
-
 returns : tie.Need-returns
 returns c = left-first (c .before .args .l) (c .before .args .left) (c .if1 .taken)
 
@@ -16,4 +10,4 @@ returns-2 : tie.Need-returns-2
 returns-2 c = left-next (c .before .args .l) (c .before .args .left) (c .if1 .left)
 
 pub left-after-spec : {M : Type 1} → statement M
-left-after-spec = tie.close (tie.spec sub-result sub-result-2 returns returns-2)
+left-after-spec = tie.close (tie.spec (λ c. search needs) (λ c. search needs) returns returns-2)

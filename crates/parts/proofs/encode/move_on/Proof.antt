@@ -4,12 +4,9 @@ use borrow.Author.Needs.{needs}
 use Rattle.parts.proofs.encode.move_on.Statement.{statement}
 use Rattle.parts.proofs.encode.move_on.Tie as tie
 
-add-rank : tie.Need-add-rank
-add-rank c = search needs
-
 returns : tie.Need-returns
 unfolding moved
 returns c = refl
 
 pub move-on-spec : {M : Type 1} → statement M
-move-on-spec = tie.close (tie.spec add-rank returns)
+move-on-spec = tie.close (tie.spec (λ c. search needs) returns)

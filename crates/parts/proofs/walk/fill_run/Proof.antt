@@ -5,19 +5,10 @@ use borrow.Author.Needs.{needs}
 use Rattle.parts.proofs.walk.fill_run.Statement.{statement}
 use Rattle.parts.proofs.walk.fill_run.Tie as tie
 
-sub-left : tie.Need-sub-left
-sub-left c = search needs
-
-cells-ahead-requires : tie.Need-cells-ahead-requires
-cells-ahead-requires c κs = search needs
-
 fill-from-requires : tie.Need-fill-from-requires
 fill-from-requires c κs =
     let h = c .before .if2 .taken in
     omega arith
-
-same-length : tie.Need-same-length
-same-length c = search needs
 
 returns : tie.Need-returns
 returns c =
@@ -32,24 +23,12 @@ returns c =
       filled = fill-less _ _ _ _ _ _ h (c .before .before .fill-from .ensures);
     }
 
-fill-from-requires-2 : tie.Need-fill-from-requires-2
-fill-from-requires-2 c κs = search needs
-
-same-length-2 : tie.Need-same-length-2
-same-length-2 c = search needs
-
 returns-2 : tie.Need-returns-2
 returns-2 c =
     let e = c .before .before .before .before .before .before .cells-ahead .ensures in
     let o = c .before .before .before .before .before .before .before .before .pre in
     let h = c .before .before .before .before .if3 .taken in
     record { some = omega arith; room = omega arith; inside = omega arith; small = omega arith; filled = c .before .before .fill-from2 .ensures }
-
-fill-from-requires-3 : tie.Need-fill-from-requires-3
-fill-from-requires-3 c κs = search needs
-
-same-length-3 : tie.Need-same-length-3
-same-length-3 c = search needs
 
 returns-3 : tie.Need-returns-3
 returns-3 c =
@@ -61,14 +40,14 @@ pub fill-run-spec : {M : Type 1} → statement M
 fill-run-spec =
     tie.close
     (tie.spec
-    sub-left
-    cells-ahead-requires
+    (λ c. search needs)
+    (λ c κs. search needs)
     fill-from-requires
-    same-length
+    (λ c. search needs)
     returns
-    fill-from-requires-2
-    same-length-2
+    (λ c κs. search needs)
+    (λ c. search needs)
     returns-2
-    fill-from-requires-3
-    same-length-3
+    (λ c κs. search needs)
+    (λ c. search needs)
     returns-3)

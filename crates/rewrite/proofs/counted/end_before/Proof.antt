@@ -9,9 +9,6 @@ use Rattle.rewrite.proofs.counted.end_before.Tie as tie
 returns : tie.Need-returns
 returns c = end-none (c .before .before .args .r) (positionsOf (c .before .before .args .file .now)) (c .if1 .taken)
 
-sub-t6 : tie.Need-sub-t6
-sub-t6 c = search needs
-
 stored-position-requires : tie.Need-stored-position-requires
 stored-position-requires c κs = (c .before .before .pre .0, let h = c .before .before .pre .1 in omega (arith, c .if1 .left))
 
@@ -27,4 +24,4 @@ returns-2 c =
     end-there (g .file .now) (g .v) (p .pre .0) (g .r - 1) (omega (arith, l)) (g .r) _ (omega (arith, l)) (c .before .stored-position .ensures .0)
 
 pub end-before-spec : {M : Type 1} → statement M
-end-before-spec = tie.close (tie.spec returns sub-t6 stored-position-requires add-result returns-2)
+end-before-spec = tie.close (tie.spec returns (λ c. search needs) stored-position-requires add-result returns-2)

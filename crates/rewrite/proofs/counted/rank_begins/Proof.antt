@@ -10,11 +10,8 @@ returns c = first-none (c .before .before .before .args .file .now) (c .before .
 stored-position-requires : tie.Need-stored-position-requires
 stored-position-requires c κs = (c .before .before .before .pre .0, lt-of-le-ne (c .before .before .before .pre .1) (c .if1 .left))
 
-run-begins-requires : tie.Need-run-begins-requires
-run-begins-requires c κs = search needs
-
 returns-2 : tie.Need-returns-2
 returns-2 c = first-there (c .before .before .before .before .before .args .file .now) (c .before .before .before .before .before .args .v) (c .before .before .before .before .before .pre .0) (c .before .before .before .before .before .args .r) (lt-of-le-ne (c .before .before .before .before .before .pre .1) (c .before .before .if1 .left)) (c .before .before .before .before .before .args .end) _ _ (c .before .stored-position .ensures .0) (c .run-begins .ensures)
 
 pub rank-begins-spec : {M : Type 1} → statement M
-rank-begins-spec = tie.close (tie.spec returns stored-position-requires run-begins-requires returns-2)
+rank-begins-spec = tie.close (tie.spec returns stored-position-requires (λ c κs. search needs) returns-2)

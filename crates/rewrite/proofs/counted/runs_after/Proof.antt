@@ -14,9 +14,6 @@ runs-lost-requires c κs = (c .before .before .pre .0, c .before .before .pre .1
 runs-joined-requires : tie.Need-runs-joined-requires
 runs-joined-requires c κs = (c .before .before .before .pre .0, ranks-there (c .before .before .before .args .file .now) (c .before .before .before .args .v) (c .before .before .before .pre .0) (c .before .before .before .args .x) (c .before .before .before .pre .1) .1, λ e. put-small (c .before .before .before .args .file .now) (c .before .before .before .args .v) (c .before .before .before .pre .0) (c .before .before .before .args .x) (c .before .before .before .pre .1) e)
 
-run-count-requires : tie.Need-run-count-requires
-run-count-requires c κs = search needs
-
 add-result : tie.Need-add-result
 add-result c =
     let g = c .before .before .before .before .before .args in
@@ -54,4 +51,4 @@ returns c =
     (omega arith, omega arith)
 
 pub runs-after-spec : {M : Type 1} → statement M
-runs-after-spec = tie.close (tie.spec end-before-requires runs-lost-requires runs-joined-requires run-count-requires add-result sub-result returns)
+runs-after-spec = tie.close (tie.spec end-before-requires runs-lost-requires runs-joined-requires (λ c κs. search needs) add-result sub-result returns)

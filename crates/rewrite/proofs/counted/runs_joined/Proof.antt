@@ -6,17 +6,11 @@ use borrow.Author.Needs.{needs}
 use Rattle.rewrite.proofs.counted.runs_joined.Statement.{statement}
 use Rattle.rewrite.proofs.counted.runs_joined.Tie as tie
 
-run-begins-requires : tie.Need-run-begins-requires
-run-begins-requires c κs = search needs
-
 add-rank-begins : tie.Need-add-rank-begins
 add-rank-begins c = let h = c .before .before .before .pre .2 (c .before .if1 .taken) in omega arith
 
 rank-begins-requires : tie.Need-rank-begins-requires
 rank-begins-requires c κs = (c .before .before .before .pre .0, c .before .before .before .pre .1)
-
-add-result : tie.Need-add-result
-add-result c = search needs
 
 returns : tie.Need-returns
 returns c =
@@ -35,4 +29,4 @@ returns-2 c =
     joint-none (g .end) (g .p) _ (g .there) (drop (g .after) (positionsOf (g .file .now))) (c .before .if1 .left) (y .0) (y .1)
 
 pub runs-joined-spec : {M : Type 1} → statement M
-runs-joined-spec = tie.close (tie.spec run-begins-requires add-rank-begins rank-begins-requires add-result returns rank-begins-requires-2 returns-2)
+runs-joined-spec = tie.close (tie.spec (λ c κs. search needs) add-rank-begins rank-begins-requires (λ c. search needs) returns rank-begins-requires-2 returns-2)

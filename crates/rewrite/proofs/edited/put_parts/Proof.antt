@@ -42,9 +42,6 @@ all-bytes c =
 start-requires : tie.Need-start-requires
 start-requires c κs = let p = c .before .before in allowed (p .args .file .now) (p .args .v) (p .pre .0)
 
-begin-requires : tie.Need-begin-requires
-begin-requires c κs = search needs
-
 put-ranks-requires : tie.Need-put-ranks-requires
 put-ranks-requires c κs =
     let a = c .before .before .before .before .before .args in
@@ -109,7 +106,7 @@ put-parts-spec =
     tie.close
     (tie.spec
     start-requires
-    begin-requires
+    (λ c κs. search needs)
     put-ranks-requires
     put-added-requires
     sub-skip

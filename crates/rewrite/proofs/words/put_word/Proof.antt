@@ -14,12 +14,6 @@ put-u32-requires c κs =
     let h = rw (c .before .if1 .taken) at (c .before .before .before .pre) in
     omega arith
 
-add-result : tie.Need-add-result
-add-result c = search needs
-
-same-length : tie.Need-same-length
-same-length c = search needs
-
 returns : tie.Need-returns
 returns c =
     let a = c .before .before .before .before .before .before .args in
@@ -31,4 +25,4 @@ returns-2 c =
     rw (c .if1 .left) (sym (add-zero (a .at)) ∙ ap (λ (n : ℕ). a .at + n) (sym none-size), sym (put-none (a .dst .now) (a .at)))
 
 pub put-word-spec : {M : Type 1} → statement M
-put-word-spec = tie.close (tie.spec put-u32-requires add-result same-length returns returns-2)
+put-word-spec = tie.close (tie.spec put-u32-requires (λ c. search needs) (λ c. search needs) returns returns-2)
