@@ -20,6 +20,7 @@ use Rattle.format.specs.File.{headerLength, header, layout}
 use Rattle.format.specs.Calls.{outNumber, settingNumber, makeNumber, Made}
 use Rattle.laws.proofs.Tools.{refuse-zero}
 use Rattle.laws.proofs.Limits.{small-dims}
+use Rattle.laws.proofs.Stored.{rising}
 use Rattle.laws.proofs.Calls.{setting-zero}
 use Rattle.stores.specs.Put.{put}
 use Rattle.stores.proofs.Laws.{length-put}
@@ -29,7 +30,7 @@ use Rattle.kinds.specs.declared.Measured.{Measured}
 use Rattle.kinds.specs.Coding.{firsts, seconds, derived}
 use Rattle.layout.specs.Laid.{countsIn, Fitting, Measures, outOf, Goes}
 use Rattle.layout.proofs.Measuring.{fitting}
-use Rattle.layout.proofs.WholeFile.{Derivable, rising, out-number, goes, laidOut, Laid, laid-out}
+use Rattle.layout.proofs.WholeFile.{Derivable, out-number, goes, laidOut, Laid, laid-out}
 use Rattle.checked.proofs.Number.{refuse-later, setting-later}
 use Rattle.header.proofs.CellCount.{count-none, count-some}
 use Rattle.archive.specs.Known.{pictureNumber}
@@ -62,7 +63,7 @@ picture-right s d n h =
     let a : dimensionsAllowed d ≡ true = not-false (dimensionsAllowed d) (u .0) in
     let e : n ≡ cells d = eqb-true n (cells d) (not-false (eqb n (cells d)) (w .0)) in
     let m = small-dims d a in
-    record { setting = t .0; dims = a; size = e; four = m .four; few = omega (arith, m .most) }
+    record { setting = t .0; dims = a; size = e; four = m .extents .four; few = omega (arith, m .most) }
 
 -- ---- the numbers, as the code finds them
 

@@ -26,22 +26,11 @@ use Rattle.parts.specs.Encoder.{begun}
 use Rattle.parts.proofs.Seen.{seen}
 use Rattle.kinds.specs.declared.Measured.{Measured}
 use Rattle.kinds.specs.Coding.{firsts, seconds, derived, Apart}
-use Rattle.layout.specs.Laid.{countsIn, Fitting, Measures, outOf, Goes}
-use Rattle.layout.proofs.Measuring.{fitting}
-use Rattle.layout.proofs.WholeFile.{laidOut, Laid, laid-out, rising, out-number, goes}
+use Rattle.layout.specs.Laid.{countsIn, Measures, outOf, Goes}
+use Rattle.layout.proofs.WholeFile.{laidOut, Laid, laid-out, out-number, goes}
 use Rattle.rewrite.specs.declared.Edit.{Edit}
 use Rattle.rewrite.specs.Edit.{edited, overlaid, EditOf}
 use Rattle.archive.specs.Recoded.{wordsAfter, Recodes, Recoded}
-
--- an accepted file has a header
-pub file-long : (b : List ℕ) (v : View) → ViewOf b v → headerLength ≤ length b
-file-long b v o =
-    let h = seen b v o .header in
-    let l = h .long in
-    let p = h .behind in
-    let s = h .counted .second in
-    let t = h .start in
-    omega arith
 
 -- ---- the words after an edit
 
@@ -63,7 +52,7 @@ module _ (b : List ℕ) (v : View) (o : ViewOf b v) (x : Edit) (w : ℕ) where
   ws = wordsAfter b x w
 
   four : length (dimensionsOf b .extents) ≡ mostDimensions
-  four = small-dims (dimensionsOf b) (seen b v o .file .dims) .four
+  four = small-dims (dimensionsOf b) (seen b v o .file .dims) .extents .four
 
   size : cells (dimensionsOf b) ≡ length ws
   unfolding wordsAfter placed
@@ -80,9 +69,6 @@ module _ (b : List ℕ) (v : View) (o : ViewOf b v) (x : Edit) (w : ℕ) (r : Re
   by-words =
       let n : v .cells ≡ length (ws b v o x w) = seen b v o .header .cells ∙ size b v o x w in
       subst (λ (t : List ℕ). Measures s (length (ws b v o x w)) t m) (sym (r .positions)) (rw n at k)
-
-  pub recode-fitting : m .fits ≡ true → Fitting (m .sizes)
-  recode-fitting = fitting s a (length (ws b v o x w)) (stored (emptyOf b) (ws b v o x w)) (few b v o x w) (rising (emptyOf b) (ws b v o x w)) m by-words
 
   pub recode-number : (room n : ℕ) → n ≡ outOf m room → n ≡ outNumber s (dimensionsOf b) (emptyOf b) (wordsAfter b x w) room
   recode-number room n f = f ∙ out-number s a (dimensionsOf b) (four b v o x w) (emptyOf b) (ws b v o x w) (size b v o x w) (few b v o x w) m by-words room

@@ -71,11 +71,8 @@ module _ (b : List ℕ) (v : View) (o : ViewOf b v) where
   pub words-few : v .words ≤ 16777216
   words-few = let n = known .header .counted in omega (arith, n .words-most, n .cells-most)
 
-  length-positions : length (positionsOf b) ≡ v .words
-  length-positions = known .holds .size
-
   pub passed-at : (p r : ℕ) → r < v .words → getD (positionsOf b) r 0 < p → Below p (take (r + 1) (positionsOf b))
-  passed-at p r n h = rw (add-one r) (passed-through 0 (v .cells) p r (positionsOf b) (known .holds .rising) (rw length-positions n) h)
+  passed-at p r n h = rw (add-one r) (passed-through 0 (v .cells) p r (positionsOf b) (known .holds .rising) (rw (known .holds .size) n) h)
 
   from-rank : (c : Cursor) (r : ℕ) → c .rank ≡ r → Ahead b v c r → Ahead b v c (c .rank)
   from-rank c r z w = subst (Ahead b v c) (sym z) w
@@ -104,13 +101,13 @@ module _ (b : List ℕ) (v : View) (o : ViewOf b v) where
     pub sought-none : p < v .cells → v .words ≤ c .rank → RankSearched b v p empty
     unfolding rankAmong
     sought-none k h =
-        let n : length (positionsOf b) ≤ c .rank = rw length-positions h in
+        let n : length (positionsOf b) ≤ c .rank = rw (known .holds .size) h in
         record { right = λ z. sym (left k ∙ rw (drop-of-length-le (positionsOf b) n)); free = Free.none }
 
     module _ (more : c .rank < v .words) where
       next-there : drop (c .rank) (positionsOf b) ≡ c .at ∷ drop (suc (c .rank)) (positionsOf b)
       next-there =
-          drop-cons (positionsOf b) (c .rank) 0 (rw length-positions more)
+          drop-cons (positionsOf b) (c .rank) 0 (rw (known .holds .size) more)
           ∙ ap (λ (x : ℕ). x ∷ drop (suc (c .rank)) (positionsOf b)) (sym (y .at more))
 
       pub sought-here : p < v .cells → c .at ≡ p → RankSearched b v p (given (c .rank))

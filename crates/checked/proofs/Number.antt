@@ -14,7 +14,7 @@ use Rattle.format.specs.Signals.{SHORT, KIND, SETTING, EXTENT, COUNTS, BODY, re
 use Rattle.format.specs.Bytes.{field}
 use Rattle.format.specs.Picture.{mostCells, dimensionsAllowed}
 use Rattle.format.specs.Kinds.{codec, kindAllowed, settingAllowed}
-use Rattle.format.specs.File.{headerLength}
+use Rattle.format.specs.File.{headerLength, WholeHeader}
 use Rattle.format.specs.Calls.{settingNumber}
 use Rattle.format.specs.Accepted.{settingOf, dimensionsOf, lengthField, secondAt, wordsAt, endAt, countsRight, bodyRight, headerNumber, checkNumber}
 use Rattle.format.specs.Opened.{viewOf}
@@ -55,7 +55,7 @@ setting-same : (b : List ℕ) → settingIn (viewOf b) ≡ settingOf b
 unfolding viewOf
 setting-same b = refl
 
-module _ (b : List ℕ) (v : View) (long : headerLength ≤ length b) (e : v ≡ viewOf b) where
+module _ (b : List ℕ) (v : View) (long : WholeHeader b) (e : v ≡ viewOf b) where
   number-parts : headerNumber b ≡ orElse (settingNumber (settingIn v) 0) (after-setting b)
   unfolding headerNumber settingNumber after-setting
   number-parts = rw (le-ltb (length b) headerLength long, e, setting-same b) (setting-later (settingOf b) 0 (after-setting b))
@@ -127,9 +127,9 @@ module _ (b : List ℕ) (v : View) (e : v ≡ viewOf b) (d : dimensionsAllowed (
 -- ---- the verdict
 
 module _ (b : List ℕ) (v : View) where
-  pub judged-short : length b < headerLength → Judged b SHORT v
+  pub judged-short : (WholeHeader b → ⊥) → Judged b SHORT v
   unfolding checkNumber headerNumber
-  judged-short h = record { number = rw (lt-ltb (length b) headerLength h); view = λ z. absurd (omega arith) }
+  judged-short h = record { number = rw (lt-ltb (length b) headerLength (omega arith)); view = λ z. absurd (omega arith) }
 
   pub judged-header : (n : ℕ) → n ≡ headerNumber b → (n ≡ 0 → ⊥) → Judged b n v
   unfolding checkNumber

@@ -7,6 +7,7 @@ use format::signals::COUNTS;
 use format::signals::EXTENT;
 use format::signals::SHORT;
 use header::view::read_view;
+use header::view::whole_header;
 use kinds::parts_of::part_bytes;
 use kinds::parts_of::parts_right;
 use kinds::setting::setting_number;
@@ -15,8 +16,7 @@ use words::words_right;
 ghost use mathlib.Core.Path.{_≡_};
 ghost use mathlib.Core.Bool.{true};
 ghost use Prim.Native.Nat.{_≤_};
-ghost use lib.ListN.{length};
-ghost use Rattle.format.specs.File.{headerLength};
+ghost use Rattle.format.specs.File.{WholeHeader};
 ghost use Rattle.format.specs.Picture.{dimensionsAllowed};
 ghost use Rattle.format.specs.Accepted.{dimensionsOf, countsRight, headerNumber};
 ghost use Rattle.format.specs.Opened.{viewOf, noView};
@@ -50,7 +50,7 @@ pub fn no_view() -> View
 
 // The offsets and the length are those of parts with so many bytes, and the bytes lent are as many as the length.
 fn places_right(file: &[u8], v: View, first: usize, second: usize) -> bool
-    requires { ⌜ (headerLength ≤ length (now file)) × (first ≤ 1099511627776) × (second ≤ 1099511627776) ⌝ }
+    requires { ⌜ WholeHeader (now file) × (first ≤ 1099511627776) × (second ≤ 1099511627776) ⌝ }
     ensures { λ r. ⌜ r ≡ placesRight (now (file .entry)) v first second ⌝ }
 {
     let words = HEADER + first + second;
@@ -64,7 +64,7 @@ fn places_right(file: &[u8], v: View, first: usize, second: usize) -> bool
 
 // 5 does not apply: N is at most cells, and counts, offsets and length are the layout's.
 fn counts_right(file: &[u8], v: View) -> bool
-    requires { ⌜ (headerLength ≤ length (now file)) × (v ≡ viewOf (now file)) × (kindOf v .allowed ≡ true) × (dimensionsAllowed (dimensionsOf (now file)) ≡ true) ⌝ }
+    requires { ⌜ WholeHeader (now file) × (v ≡ viewOf (now file)) × (kindOf v .allowed ≡ true) × (dimensionsAllowed (dimensionsOf (now file)) ≡ true) ⌝ }
     ensures { λ r. ⌜ r ≡ countsRight (now (file .entry)) ⌝ }
 {
     if v.cells < v.words {
@@ -79,7 +79,7 @@ fn counts_right(file: &[u8], v: View) -> bool
 
 // The number of a header whose numbers have been read: 0, or the first of 2 to 5 that applies.
 fn header_number(file: &[u8], v: View) -> u32
-    requires { ⌜ (headerLength ≤ length (now file)) × (v ≡ viewOf (now file)) ⌝ }
+    requires { ⌜ WholeHeader (now file) × (v ≡ viewOf (now file)) ⌝ }
     ensures { λ r. ⌜ r ≡ headerNumber (now (file .entry)) ⌝ }
 {
     let setting = Setting {
@@ -115,7 +115,7 @@ fn body_number(file: &[u8], v: View) -> u32
 pub fn check(file: &[u8]) -> Verdict
     ensures { λ r. ⌜ Judged (now (file .entry)) (r .number) (r .view) ⌝ }
 {
-    if file.len() < HEADER {
+    if !whole_header(file) {
         return Verdict {
             number: SHORT,
             view: no_view(),

@@ -1,13 +1,11 @@
 -- What a search over the header's own counts answers, on accepted and on other bytes. Assumes nothing.
-use Prim.Native.Nat.{ℕ, _≤_, _<_}
+use Prim.Native.Nat.{ℕ}
 use mathlib.Core.Path.{_≡_, refl}
 use mathlib.Core.List.{List}
-use native.Mathlib.Omega.{arith}
-use lib.ListN.{length}
 use Rattle.format.specs.declared.View.{View}
 use Rattle.format.specs.Signals.{BEYOND}
 use Rattle.format.specs.Answers.{Answer, refused}
-use Rattle.format.specs.File.{headerLength}
+use Rattle.format.specs.File.{WholeHeader}
 use Rattle.format.specs.Accepted.{checkNumber}
 use Rattle.format.specs.Opened.{viewOf}
 use Rattle.laws.proofs.Acceptance.{accepted, header-right}
@@ -16,17 +14,13 @@ use Rattle.search.specs.Searched.{CellSearched, RankSearched, PositionSearched}
 use Rattle.archive.proofs.Answers.{cell-found, rank-found, position-found}
 use Rattle.exports.specs.Unchecked.{Unchecked, cellUnchecked, rankUnchecked, positionUnchecked}
 
--- an accepted file has a header
-long : (b : List ℕ) → checkNumber b ≡ 0 → headerLength ≤ length b
-long b h = header-right b (accepted b h .header) .long
-
--- fewer bytes than a header
-pub short-refused : (b : List ℕ) (direct : Answer) (InRange : Answer → Type 0) → length b < headerLength → InRange (refused BEYOND)
+-- bytes without a whole header
+pub short-refused : (b : List ℕ) (direct : Answer) (InRange : Answer → Type 0) → (WholeHeader b → ⊥) → InRange (refused BEYOND)
     → Unchecked b direct InRange (refused BEYOND)
 short-refused b direct InRange s r =
-    record { right = λ h. absurd (let l = long b h in omega arith); short = λ l. refl; free = r }
+    record { right = λ h. absurd (s (header-right b (accepted b h .header) .long)); short = λ l. refl; free = r }
 
-module _ (b : List ℕ) (v : View) (e : v ≡ viewOf b) (l : headerLength ≤ length b) (p : ℕ) (a : Answer) where
+module _ (b : List ℕ) (v : View) (e : v ≡ viewOf b) (l : WholeHeader b) (p : ℕ) (a : Answer) where
   judged : Judged b (checkNumber b) v
   judged = record { number = refl; view = λ h. record { accepted = h; view = e } }
 
@@ -34,7 +28,7 @@ module _ (b : List ℕ) (v : View) (e : v ≡ viewOf b) (l : headerLength ≤ le
   cell-unchecked c =
       record {
         right = λ h. cell-found b (checkNumber b) v judged p h a c .said;
-        short = λ s. absurd (omega arith);
+        short = λ s. absurd (s l);
         free = c .free;
       }
 
@@ -43,7 +37,7 @@ module _ (b : List ℕ) (v : View) (e : v ≡ viewOf b) (l : headerLength ≤ le
   rank-unchecked c =
       record {
         right = λ h. rank-found b (checkNumber b) v judged p h a c .said;
-        short = λ s. absurd (omega arith);
+        short = λ s. absurd (s l);
         free = rw e at (c .free);
       }
 
@@ -51,6 +45,6 @@ module _ (b : List ℕ) (v : View) (e : v ≡ viewOf b) (l : headerLength ≤ le
   position-unchecked c =
       record {
         right = λ h. position-found b (checkNumber b) v judged p h a c .said;
-        short = λ s. absurd (omega arith);
+        short = λ s. absurd (s l);
         free = rw e at (c .free);
       }

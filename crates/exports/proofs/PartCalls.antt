@@ -8,7 +8,6 @@ use borrow.Author.Tests.{lt-ltb, le-ltb}
 use Rattle.format.specs.Tools.{Below}
 use Rattle.format.specs.Bytes.{field}
 use Rattle.format.specs.Answers.{Answer, given, answered}
-use Rattle.format.specs.File.{headerLength}
 use Rattle.format.specs.Accepted.{lengthField, checkNumber}
 use Rattle.format.specs.Opened.{viewOf}
 use Rattle.format.specs.RankRange.{ranksNumber, ranksFrom}
@@ -49,12 +48,8 @@ module _ (b : List ℕ) (a c n : ℕ) (number : n ≡ ranksNumber b a c) where
     own : Judged b (checkNumber b) (viewOf b)
     own = record { number = refl; view = λ h. record { accepted = h; view = refl } }
 
-    there : Ranged b (viewOf b) a c
+    pub there : Ranged b (viewOf b) a c
     there = ranged b (checkNumber b) (viewOf b) own a c (range-file b (checkNumber b) (viewOf b) own a c ∙ sym number ∙ z)
-
-    -- an accepted file has a header
-    pub header-there : headerLength ≤ length b
-    header-there = header-right b (accepted b (there .view .accepted) .header) .long
 
     pub ranks-small : Below 256 b → viewOf b .place + 4 * a < 2 ^ 32
     ranks-small small =

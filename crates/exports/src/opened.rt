@@ -4,11 +4,11 @@ use crate::code::cell_code;
 use crate::code::code_and_value;
 use crate::code::position_code;
 use crate::code::rank_code;
-use format::HEADER;
 use format::Position;
 use format::Rank;
 use format::signals::BEYOND;
 use header::view::read_view;
+use header::view::whole_header;
 use search::cell_in;
 use search::position_in;
 use search::rank_in;
@@ -20,7 +20,7 @@ ghost use Rattle.exports.specs.Unchecked.{cellUnchecked, rankUnchecked, 
 pub extern "C" fn ra_opened_cell(file: &[u8], place: u32) -> u64
     ensures { λ r. ⌜ Coded (cellUnchecked (now (file .entry)) place) r ⌝ }
 {
-    if file.len() < HEADER {
+    if !whole_header(file) {
         return code_and_value(BEYOND, 0);
     }
     cell_code(cell_in(file, read_view(file), Position(place)))
@@ -31,7 +31,7 @@ pub extern "C" fn ra_opened_cell(file: &[u8], place: u32) -> u64
 pub extern "C" fn ra_opened_rank(file: &[u8], place: u32) -> u64
     ensures { λ r. ⌜ Coded (rankUnchecked (now (file .entry)) place) r ⌝ }
 {
-    if file.len() < HEADER {
+    if !whole_header(file) {
         return code_and_value(BEYOND, 0);
     }
     rank_code(rank_in(file, read_view(file), Position(place)))
@@ -42,7 +42,7 @@ pub extern "C" fn ra_opened_rank(file: &[u8], place: u32) -> u64
 pub extern "C" fn ra_opened_position(file: &[u8], number: u32) -> u64
     ensures { λ r. ⌜ Coded (positionUnchecked (now (file .entry)) number) r ⌝ }
 {
-    if file.len() < HEADER {
+    if !whole_header(file) {
         return code_and_value(BEYOND, 0);
     }
     position_code(position_in(file, read_view(file), Rank(number)))

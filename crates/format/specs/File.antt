@@ -1,5 +1,5 @@
 -- The file of a picture in a setting (document 01, "The file"). Assumes nothing.
-use Prim.Native.Nat.{ℕ, _+_, _*_, _^_, _<_}
+use Prim.Native.Nat.{ℕ, _+_, _*_, _^_, _≤_, _<_}
 use mathlib.Core.Path.{_≡_}
 use mathlib.Core.Bool.{true, false}
 use mathlib.Core.List.{List, [], _∷_, _++_}
@@ -16,6 +16,10 @@ use Rattle.format.specs.Kinds.{codec, settingAllowed}
 -- the header's length; the first part begins there
 abbrev pub headerLength : ℕ
 headerLength = 52
+
+-- the bytes have a whole header
+abbrev pub WholeHeader : List ℕ → Type 0
+WholeHeader b = headerLength ≤ length b
 
 -- the counts that the header tells: N, the entries of each part, and the bytes of each part
 pub record Counts : Type 0 where

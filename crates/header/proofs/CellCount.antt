@@ -13,7 +13,7 @@ use borrow.Author.Tests.{eqb-true, ne-eqb, leb-true, leb-false, le-leb, lt-leb}
 use Rattle.format.specs.declared.Dimensions.{Dimensions}
 use Rattle.format.specs.Tools.{pick, both, within, every}
 use Rattle.format.specs.Picture.{mostDimensions, mostCells, product, cells, dimensionsAllowed}
-use Rattle.laws.proofs.Tools.{cases, both-true}
+use Rattle.laws.proofs.Tools.{cases, both-true, both-false}
 use Rattle.header.specs.CellCount.{extentAllowed, countFrom}
 
 -- ---- the whole
@@ -41,10 +41,6 @@ product-least n [] h = le-refl 1
 product-least n (e ∷ es) h =
     let t = both-true (extentAllowed n e) (allowedFrom (n - 1) es) (sym (allowed-cons n e es) ∙ h) in
     one-le-mul (extent-least n e (t .0)) (product-least (n - 1) es (t .1))
-
-both-false : (a : Bool) → both a false ≡ false
-both-false true = refl
-both-false false = refl
 
 pub count-is : (n c : ℕ) (es : List ℕ) → c ≤ mostCells
     → countFrom n c es ≡ pick (both (allowedFrom n es) (leb (c * product es) mostCells)) (c * product es) 0

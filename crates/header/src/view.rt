@@ -1,17 +1,16 @@
 // The header's fields, read once into numbers (document 01, "The file").
 use super::extents::cell_count;
 use format::Dimensions;
+use format::HEADER;
 use format::Setting;
 use format::View;
 use wire::get_u8;
 use wire::get_u32;
 ghost use mathlib.Core.Path.{_≡_};
-ghost use Prim.Native.Nat.{_≤_};
-ghost use lib.ListN.{length};
-ghost use Rattle.format.specs.File.{headerLength};
+ghost use Rattle.format.specs.File.{WholeHeader};
 ghost use Rattle.format.specs.Accepted.{settingOf, dimensionsOf};
 ghost use Rattle.format.specs.Opened.{viewOf};
-ghost use Rattle.header.specs.Fields.{countsIn};
+ghost use Rattle.header.specs.Fields.{countsIn, Whole};
 
 // N, the entry counts of the first and second part, and the offsets of first part, second part and stored words.
 struct Counts {
@@ -23,9 +22,16 @@ struct Counts {
     place: u32,
 }
 
+// Whether the bytes have a whole header.
+pub fn whole_header(file: &[u8]) -> bool
+    ensures { λ r. ⌜ Whole (now (file .entry)) r ⌝ }
+{
+    HEADER <= file.len()
+}
+
 // Kind, width and step.
 pub fn read_setting(file: &[u8]) -> Setting
-    requires { ⌜ headerLength ≤ length (now file) ⌝ }
+    requires { ⌜ WholeHeader (now file) ⌝ }
     ensures { λ r. ⌜ r ≡ settingOf (now (file .entry)) ⌝ }
 {
     Setting {
@@ -37,7 +43,7 @@ pub fn read_setting(file: &[u8]) -> Setting
 
 // The dimension count and the extents.
 pub fn read_dimensions(file: &[u8]) -> Dimensions
-    requires { ⌜ headerLength ≤ length (now file) ⌝ }
+    requires { ⌜ WholeHeader (now file) ⌝ }
     ensures { λ r. ⌜ r ≡ dimensionsOf (now (file .entry)) ⌝ }
 {
     Dimensions {
@@ -53,7 +59,7 @@ pub fn read_dimensions(file: &[u8]) -> Dimensions
 
 // The counts and offsets.
 fn read_counts(file: &[u8]) -> Counts
-    requires { ⌜ headerLength ≤ length (now file) ⌝ }
+    requires { ⌜ WholeHeader (now file) ⌝ }
     ensures { λ r. ⌜ r ≡ countsIn (now (file .entry)) ⌝ }
 {
     Counts {
@@ -68,7 +74,7 @@ fn read_counts(file: &[u8]) -> Counts
 
 // The header's numbers; no cells where the dimensions are not a picture's.
 pub fn read_view(file: &[u8]) -> View
-    requires { ⌜ headerLength ≤ length (now file) ⌝ }
+    requires { ⌜ WholeHeader (now file) ⌝ }
     ensures { λ r. ⌜ r ≡ viewOf (now (file .entry)) ⌝ }
 {
     let setting = read_setting(file);

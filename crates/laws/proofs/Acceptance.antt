@@ -22,18 +22,10 @@ use Rattle.laws.proofs.Stored.{rising-stored, length-placed, below-plac
 use Rattle.laws.proofs.Tools.{cases, both-true, not-false, refuse-zero, refuse-most, orElse-zero, orElse-small, same-true}
 use Rattle.laws.proofs.Limits.{small-dims}
 use Rattle.laws.proofs.Parts.{Known, known}
-use Rattle.laws.proofs.Files.{picture-accepted, setting-back, dims-back, empty-back}
+use Rattle.laws.proofs.Files.{HeaderRight, picture-accepted, setting-back, dims-back, empty-back}
 use Rattle.laws.proofs.Bytes.{below-append, below-drop, below-bytesOf, number-small, below-numbersOf}
 
 -- ---- the numbers, taken apart
-
--- none of 1 to 5 applies
-pub record HeaderRight (b : List ℕ) : Type 0 where
-  pub long : headerLength ≤ length b
-  pub kind : kindAllowed (settingOf b) ≡ true
-  pub setting : settingAllowed (settingOf b) ≡ true
-  pub dims : dimensionsAllowed (dimensionsOf b) ≡ true
-  pub counts : countsRight b ≡ true
 
 pub header-right : (b : List ℕ) → headerNumber b ≡ 0 → HeaderRight b
 unfolding headerNumber

@@ -14,7 +14,7 @@ use Rattle.format.specs.Bytes.{field, number}
 use Rattle.format.specs.declared.Dimensions.{Dimensions}
 use Rattle.format.specs.Picture.{cells, dimensionsAllowed}
 use Rattle.format.specs.Stored.{stored}
-use Rattle.format.specs.File.{headerLength, layout, HasFile}
+use Rattle.format.specs.File.{WholeHeader, layout, HasFile}
 use Rattle.format.specs.Accepted.{lengthField}
 use Rattle.format.specs.declared.Setting.{Setting}
 use Rattle.format.specs.Kinds.{codec, kindAllowed, settingAllowed}
@@ -23,9 +23,9 @@ use Rattle.format.specs.Calls.{outNumber, settingNumber, makeNumber, writeSigna
 use Rattle.format.specs.Lookups.{cellIn, rankIn, positionIn, cellAnswer, rankAnswer, positionAnswer}
 use Rattle.format.specs.Demand3.{fileIn}
 use Rattle.laws.proofs.Tools.{refuse-zero, not-false}
-use Rattle.laws.proofs.Files.{setting-back, dims-back, empty-back, words-back, picture-accepted, length-field, header-there}
+use Rattle.laws.proofs.Files.{setting-back, dims-back, empty-back, words-back, picture-accepted, length-field, file-right}
 
-field-front : (b more : List ℕ) → headerLength ≤ length b → lengthField (b ++ more) ≡ lengthField b
+field-front : (b more : List ℕ) → WholeHeader b → lengthField (b ++ more) ≡ lengthField b
 unfolding field lengthField
 field-front b more h =
     let k1 : 48 ≤ length b = omega arith in
@@ -68,7 +68,7 @@ module _ (s : Setting) (d : Dimensions) (E : ℕ) (ws b : List ℕ) (h : HasFile
   -- the file at the front of a destination
   pub file-in : (more : List ℕ) → fileIn (b ++ more) ≡ b
   unfolding fileIn
-  file-in more = rw (field-front b more (header-there s d E ws b h), length-field s d E ws b h) (take-at b more (length b) refl)
+  file-in more = rw (field-front b more (file-right s d E ws b h .long), length-field s d E ws b h) (take-at b more (length b) refl)
 
 -- ---- an accepted call: the picture afterwards has its file
 

@@ -17,11 +17,12 @@ use Rattle.format.specs.Picture.{cells}
 use Rattle.format.specs.Stored.{stored, kept, placed}
 use Rattle.format.specs.declared.Setting.{Setting}
 use Rattle.format.specs.Kinds.{codec}
-use Rattle.format.specs.File.{headerLength, Counts, countsOf, header, fileFrom, layout, HasFile}
+use Rattle.format.specs.File.{headerLength, WholeHeader, Counts, countsOf, header, fileFrom, layout, HasFile}
 use Rattle.format.specs.Accepted.{settingOf, dimensionsOf, emptyOf, wordsCount, firstCount, secondCount, firstOffset, secondOffset, wordsOffset, lengthField, secondAt, wordsAt, endAt, countsRight, positionsOf, keptOf, wordsOf, bodyRight}
-use Rattle.laws.proofs.Stored.{Rising, stored-placed, Apart, rising-stored, length-stored}
+use Rattle.laws.proofs.Stored.{Rising, stored-placed, Apart, rising-stored, stored-kept}
 use Rattle.laws.proofs.Tools.{cases, both-true, same-refl}
 use Rattle.laws.proofs.Bytes.{below-drop}
+use Rattle.laws.proofs.Header.{Offsets}
 use Rattle.laws.proofs.Files.{positions-back, setting-back, dims-back, empty-back, kept-back, first-count-back, second-count-back, words-count-back, from-first, from-second, first-size-back, second-size-back}
 
 -- ---- bytes back: a list of bytes is what its numbers give
@@ -45,12 +46,9 @@ bytesOf-numbersOf w (suc n) b s h =
     let e : w * suc n ≡ w + w * n = omega arith in
     rw (bytes-number w b s (omega arith), bytesOf-numbersOf w n (drop w b) (below-drop 256 w b s) k, e, take-add w (w * n) b)
 
--- the header again from what is read of it
-pub record Same (b : List ℕ) : Type 0 where
-  pub first-at : firstOffset b ≡ headerLength
-  pub second-at : secondOffset b ≡ secondAt b
-  pub words-at : wordsOffset b ≡ wordsAt b
-  pub end : lengthField b ≡ endAt b
+-- the header again from what is read of it: its offsets are those of its counts
+abbrev pub Same : List ℕ → Type 0
+Same b = Offsets (secondAt b) (wordsAt b) (endAt b) b
 
 read-counts : List ℕ → Counts
 read-counts b =
@@ -76,7 +74,7 @@ tail-fields : (a b c d : ℕ) {x y z u x′ y′ z′ u′ : ℕ} → x ≡ x′
     → bytesOf 4 (a ∷ b ∷ c ∷ d ∷ x ∷ y ∷ z ∷ u ∷ []) ≡ bytesOf 4 (a ∷ b ∷ c ∷ d ∷ x′ ∷ y′ ∷ z′ ∷ u′ ∷ [])
 tail-fields a b c d p q r t = cc
 
-header-back : (b : List ℕ) → Below 256 b → headerLength ≤ length b → Same b → header (settingOf b) (dimensionsOf b) (emptyOf b) (read-counts b) ≡ take headerLength b
+header-back : (b : List ℕ) → Below 256 b → WholeHeader b → Same b → header (settingOf b) (dimensionsOf b) (emptyOf b) (read-counts b) ≡ take headerLength b
 unfolding header read-counts settingOf dimensionsOf emptyOf wordsCount firstCount secondCount firstOffset secondOffset wordsOffset lengthField secondAt wordsAt endAt
 header-back b s h e =
     let g1 : bytesOf 1 (field 1 0 b ∷ field 1 1 b ∷ field 1 2 b ∷ field 1 3 b ∷ []) ≡ take 4 b
@@ -150,7 +148,7 @@ counts-path : {a b c d e a′ b′ c′ d′ e′ : ℕ} → a ≡ a′ → b �
     (record { words = a′; firstCount = b′; secondCount = c′; firstBytes = d′; secondBytes = e′ })
 counts-path p q r s t = cc
 
-module _ (b : List ℕ) (s : Below 256 b) (h : headerLength ≤ length b) (k : CountsBy b) (y : BodyBy b) where
+module _ (b : List ℕ) (s : Below 256 b) (h : WholeHeader b) (k : CountsBy b) (y : BodyBy b) where
   ends : length b ≡ headerLength + codec (settingOf b) .firstBytes (firstCount b) (secondCount b) + codec (settingOf b) .secondBytes (firstCount b) (secondCount b) + 4 * wordsCount b
   unfolding endAt wordsAt secondAt
   ends = k .size
@@ -215,7 +213,7 @@ by-body s d E ws b h =
     record {
       rising = rw (p, z) (rising-stored E 0 (cells d) ws (omega (arith, h .size, zero-add (length ws))));
       apart = rw (o, v) (apart-kept E ws);
-      size = rw (p, words-count-back s d E ws b h) (length-stored E 0 ws);
+      size = rw (p, words-count-back s d E ws b h) (stored-kept E ws);
       fits = rw (q, p) (h .fits);
       first-count = rw (q, p, z, c1);
       second-count = rw (q, p, z, c2);

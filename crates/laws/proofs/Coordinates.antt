@@ -67,7 +67,7 @@ pub coordinates-of-position : (d : Dimensions) (cs : List ℕ) → dimensionsAll
 unfolding inside coordinatesAt positionAt
 coordinates-of-position d cs a h =
     let t = both-true (eqb (length cs) mostDimensions) (insideExtents (d .extents) cs) h in
-    coordinates-back (d .extents) cs (eqb-true (length cs) mostDimensions (t .0) ∙ sym (small-dims d a .four)) (t .1)
+    coordinates-back (d .extents) cs (eqb-true (length cs) mostDimensions (t .0) ∙ sym (small-dims d a .extents .four)) (t .1)
 
 -- the position of the coordinates of a position
 pub position-of-coordinates : (d : Dimensions) (p : ℕ) → p < cells d → positionAt d (coordinatesAt d p) ≡ p
@@ -97,4 +97,4 @@ pub coordinates-inside : (d : Dimensions) (p : ℕ) → dimensionsAllowed d ≡ 
 unfolding inside coordinatesAt cells
 coordinates-inside d p a h =
     both-make (eqb (length (coordinatesAt d p)) mostDimensions) (insideExtents (d .extents) (coordinatesAt d p))
-    (eq-eqb _ mostDimensions (length-coordinates (d .extents) p ∙ small-dims d a .four)) (inside-coordinates (d .extents) p h)
+    (eq-eqb _ mostDimensions (length-coordinates (d .extents) p ∙ small-dims d a .extents .four)) (inside-coordinates (d .extents) p h)

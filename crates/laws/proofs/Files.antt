@@ -1,13 +1,13 @@
 -- The file of a picture: its header, parts and words are read back, and it is accepted. Assumes nothing.
 use Prim.Native.Nat.{ℕ, _+_, _*_, _^_, _≤_}
 use mathlib.Core.Path.{_≡_, refl, sym, _∙_, subst, ap}
-use mathlib.Core.Bool.{true, false}
+use mathlib.Core.Bool.{true}
 use mathlib.Core.List.{List, [], _++_, append-assoc, append-nil}
 use native.Mathlib.Nat.{zero-add}
 use native.Mathlib.Omega.{arith}
 use lib.ListN.{length, drop, length-append}
 use lib.Seq.{drop-at, drop-drop}
-use lib.Dec.{eqb, leb, ltb}
+use lib.Dec.{eqb, leb}
 use borrow.Author.Tests.{eq-eqb, le-leb, le-ltb}
 use Rattle.format.specs.Bytes.{bytesOf, numbersOf}
 use Rattle.format.specs.declared.Dimensions.{Dimensions}
@@ -15,15 +15,23 @@ use Rattle.format.specs.Picture.{cells, dimensionsAllowed}
 use Rattle.format.specs.Stored.{stored, kept, placed}
 use Rattle.format.specs.declared.Setting.{Setting}
 use Rattle.format.specs.Kinds.{codec, kindAllowed, settingAllowed}
-use Rattle.format.specs.File.{headerLength, Counts, countsOf, header, fileFrom, layout, HasFile}
+use Rattle.format.specs.File.{headerLength, WholeHeader, Counts, countsOf, header, fileFrom, layout, HasFile}
 use Rattle.format.specs.Accepted.{settingOf, dimensionsOf, emptyOf, wordsCount, firstCount, secondCount, firstOffset, secondOffset, wordsOffset, lengthField, secondAt, wordsAt, endAt, countsRight, positionsOf, keptOf, wordsOf, bodyRight, headerNumber, checkNumber}
-use Rattle.laws.proofs.Stored.{Rising, rising-stored, length-stored, length-kept-le, placed-stored, below-kept}
+use Rattle.laws.proofs.Stored.{Rising, rising-stored, stored-kept, length-kept-le, placed-stored, below-kept}
 use Rattle.laws.proofs.Tools.{both-make, same-refl}
 use Rattle.laws.proofs.Bytes.{length-bytesOf, numbersOf-bytesOf}
 use Rattle.laws.proofs.Settings.{setting, small-setting}
 use Rattle.laws.proofs.Parts.{Known, known}
 use Rattle.laws.proofs.Header.{Small, Read, read-header}
 use Rattle.laws.proofs.Limits.{small-dims}
+
+-- none of 1 to 5 applies
+pub record HeaderRight (b : List ℕ) : Type 0 where
+  pub long : WholeHeader b
+  pub kind : kindAllowed (settingOf b) ≡ true
+  pub setting : settingAllowed (settingOf b) ≡ true
+  pub dims : dimensionsAllowed (dimensionsOf b) ≡ true
+  pub counts : countsRight b ≡ true
 
 module _ (s : Setting) (d : Dimensions) (E : ℕ) (ws b : List ℕ) (h : HasFile s d E ws b) where
   -- the two parts' bytes
@@ -43,10 +51,6 @@ module _ (s : Setting) (d : Dimensions) (E : ℕ) (ws b : List ℕ) (h : HasFile
   unfolding stored
   rising = rising-stored E 0 (cells d) ws (omega (arith, h .size, zero-add (length ws)))
 
-  same-length : length (stored E ws) ≡ length (kept E ws)
-  unfolding stored
-  same-length = length-stored E 0 ws
-
   kn : Known (codec s) (cells d) (stored E ws)
   kn = known (cells d) (stored E ws) (small-dims d (h .dims) .most) rising s (h .setting) (h .fits)
 
@@ -59,7 +63,7 @@ module _ (s : Setting) (d : Dimensions) (E : ℕ) (ws b : List ℕ) (h : HasFile
       let k2 = kn .second-most in
       let k3 = kn .firsts in
       let k4 = kn .seconds in
-      let e = same-length in
+      let e = stored-kept E ws in
       let n = length-kept-le E ws in
       let z = h .size in
       let m = c .most in
@@ -68,7 +72,6 @@ module _ (s : Setting) (d : Dimensions) (E : ℕ) (ws b : List ℕ) (h : HasFile
         width = a .width;
         step = a .step;
         count = omega arith;
-        four = c .four;
         extents = c .extents;
         empty = h .empty;
         words = omega arith;
@@ -156,34 +159,27 @@ module _ (s : Setting) (d : Dimensions) (E : ℕ) (ws b : List ℕ) (h : HasFile
   unfolding body
   length-body = simp (length-append, length-bytesOf) (omega arith)
 
-  long : ltb (length b) headerLength ≡ false
-  long = le-ltb (length b) headerLength (omega (arith, rd .size))
-
-  kind-right : kindAllowed (settingOf b) ≡ true
-  unfolding kindAllowed
-  kind-right =
+  pub file-right : HeaderRight b
+  unfolding kindAllowed countsRight counts
+  file-right =
       let a = small-setting s (h .setting) in
-      rw (rd .setting) (both-make (leb 1 (s .kind)) (leb (s .kind) 5) (le-leb 1 (s .kind) (a .kind-least)) (le-leb (s .kind) 5 (a .kind)))
-
-  setting-right : settingAllowed (settingOf b) ≡ true
-  setting-right = rw (rd .setting) (h .setting)
-
-  dims-right : dimensionsAllowed (dimensionsOf b) ≡ true
-  dims-right = rw (rd .dims) (h .dims)
-
-  counts-right : countsRight b ≡ true
-  unfolding countsRight counts
-  counts-right =
       let n : length (kept E ws) ≤ cells d = omega (arith, length-kept-le E ws, h .size) in
       let e1 : leb (wordsCount b) (cells (dimensionsOf b)) ≡ true = rw (rd .words, rd .dims) (le-leb (length (kept E ws)) (cells d) n) in
       let e2 : codec (settingOf b) .counts (cells (dimensionsOf b)) (wordsCount b) (firstCount b) (secondCount b) ≡ true
-      = rw (rd .setting, rd .dims, rd .words, rd .first, rd .second, ← same-length) (kn .allowed) in
-      let e3 : eqb (firstOffset b) headerLength ≡ true = eq-eqb (firstOffset b) headerLength (rd .first-at) in
-      let e4 : eqb (secondOffset b) (secondAt b) ≡ true = eq-eqb (secondOffset b) (secondAt b) (rd .second-at ∙ sym second-starts) in
-      let e5 : eqb (wordsOffset b) (wordsAt b) ≡ true = eq-eqb (wordsOffset b) (wordsAt b) (rd .words-at ∙ sym words-start) in
-      let e6 : eqb (lengthField b) (endAt b) ≡ true = eq-eqb (lengthField b) (endAt b) (rd .end ∙ sym ends) in
+      = rw (rd .setting, rd .dims, rd .words, rd .first, rd .second, ← stored-kept E ws) (kn .allowed) in
+      let o = rd .offsets in
+      let e3 : eqb (firstOffset b) headerLength ≡ true = eq-eqb (firstOffset b) headerLength (o .first-at) in
+      let e4 : eqb (secondOffset b) (secondAt b) ≡ true = eq-eqb (secondOffset b) (secondAt b) (o .second-at ∙ sym second-starts) in
+      let e5 : eqb (wordsOffset b) (wordsAt b) ≡ true = eq-eqb (wordsOffset b) (wordsAt b) (o .words-at ∙ sym words-start) in
+      let e6 : eqb (lengthField b) (endAt b) ≡ true = eq-eqb (lengthField b) (endAt b) (o .end ∙ sym ends) in
       let e7 : eqb (length b) (endAt b) ≡ true = eq-eqb (length b) (endAt b) (omega (arith, rd .size, length-body, ends)) in
-      rw (e1, e2, e3, e4, e5, e6, e7)
+      record {
+        long = omega (arith, rd .size);
+        kind = rw (rd .setting) (both-make (leb 1 (s .kind)) (leb (s .kind) 5) (le-leb 1 (s .kind) (a .kind-least)) (le-leb (s .kind) 5 (a .kind)));
+        setting = rw (rd .setting) (h .setting);
+        dims = rw (rd .dims) (h .dims);
+        counts = rw (e1, e2, e3, e4, e5, e6, e7);
+      }
 
   body-right : bodyRight b ≡ true
   unfolding bodyRight
@@ -192,15 +188,14 @@ module _ (s : Setting) (d : Dimensions) (E : ℕ) (ws b : List ℕ) (h : HasFile
   -- the file's length stands in its field
   pub length-field : lengthField b ≡ length b
   unfolding counts
-  length-field = omega (arith, rd .end, rd .size, length-body)
-
-  pub header-there : headerLength ≤ length b
-  header-there = omega (arith, rd .size)
+  length-field = omega (arith, rd .offsets .end, rd .size, length-body)
 
   -- a picture's file is accepted
   pub picture-accepted : checkNumber b ≡ 0
   unfolding checkNumber headerNumber
-  picture-accepted = rw (long, kind-right, setting-right, dims-right, counts-right, body-right)
+  picture-accepted =
+      let r = file-right in
+      rw (le-ltb (length b) headerLength (r .long), r .kind, r .setting, r .dims, r .counts, body-right)
 
 -- ---- expand of the layout is the words, and the layout is injective in the words
 

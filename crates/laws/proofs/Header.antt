@@ -4,13 +4,13 @@ use mathlib.Core.Path.{_≡_, refl}
 use mathlib.Core.List.{List, [], _∷_, _++_}
 use native.Mathlib.Omega.{arith}
 use lib.ListN.{length, drop}
-use Rattle.format.specs.Tools.{Below}
 use Rattle.format.specs.Bytes.{bytes, number, bytesOf, field, numbersOf}
 use Rattle.format.specs.declared.Dimensions.{Dimensions}
 use Rattle.format.specs.declared.Setting.{Setting}
 use Rattle.format.specs.File.{headerLength, Counts, header}
 use Rattle.format.specs.Accepted.{settingOf, dimensionsOf, emptyOf, wordsCount, firstCount, secondCount, firstOffset, secondOffset, wordsOffset, lengthField}
 use Rattle.laws.proofs.Bytes.{number-bytes}
+use Rattle.laws.proofs.Limits.{FourExtents}
 
 -- the header's numbers fit their fields
 pub record Small (s : Setting) (d : Dimensions) (E : ℕ) (n : Counts) : Type 0 where
@@ -18,13 +18,19 @@ pub record Small (s : Setting) (d : Dimensions) (E : ℕ) (n : Counts) : Type 0 
   pub width : s .width < 256
   pub step : s .step < 256
   pub count : d .count < 256
-  pub four : length (d .extents) ≡ 4
-  pub extents : Below (256 ^ 4) (d .extents)
+  pub extents : FourExtents d
   pub empty : E < 256 ^ 4
   pub words : n .words < 256 ^ 4
   pub first : n .firstCount < 256 ^ 4
   pub second : n .secondCount < 256 ^ 4
   pub total : headerLength + n .firstBytes + n .secondBytes + 4 * n .words < 256 ^ 4
+
+-- where first part, second part and words begin and the file ends, as the header says
+pub record Offsets (second words last : ℕ) (b : List ℕ) : Type 0 where
+  pub first-at : firstOffset b ≡ headerLength
+  pub second-at : secondOffset b ≡ second
+  pub words-at : wordsOffset b ≡ words
+  pub end : lengthField b ≡ last
 
 -- what is read of bytes that begin with a header
 pub record Read (s : Setting) (d : Dimensions) (E : ℕ) (n : Counts) (more b : List ℕ) : Type 0 where
@@ -34,10 +40,8 @@ pub record Read (s : Setting) (d : Dimensions) (E : ℕ) (n : Counts) (more b : 
   pub words : wordsCount b ≡ n .words
   pub first : firstCount b ≡ n .firstCount
   pub second : secondCount b ≡ n .secondCount
-  pub first-at : firstOffset b ≡ headerLength
-  pub second-at : secondOffset b ≡ headerLength + n .firstBytes
-  pub words-at : wordsOffset b ≡ headerLength + n .firstBytes + n .secondBytes
-  pub end : lengthField b ≡ headerLength + n .firstBytes + n .secondBytes + 4 * n .words
+  pub offsets : Offsets (headerLength + n .firstBytes) (headerLength + n .firstBytes + n .secondBytes)
+      (headerLength + n .firstBytes + n .secondBytes + 4 * n .words) b
   pub rest : drop headerLength b ≡ more
   pub size : length b ≡ headerLength + length more
 
@@ -55,20 +59,23 @@ read-four : (s : Setting) (c e0 e1 e2 e3 E : ℕ) (n : Counts) (more : List ℕ)
     → Read s (dims c (e0 ∷ e1 ∷ e2 ∷ e3 ∷ [])) E n more (header s (dims c (e0 ∷ e1 ∷ e2 ∷ e3 ∷ [])) E n ++ more)
 unfolding dims header bytesOf bytes field numbersOf settingOf dimensionsOf emptyOf wordsCount firstCount secondCount firstOffset secondOffset wordsOffset lengthField
 read-four s c e0 e1 e2 e3 E n more h =
+    let f = h .extents .small in
     record {
       setting = rw (number-bytes 1 (s .kind) (h .kind), number-bytes 1 (s .width) (h .width), number-bytes 1 (s .step) (h .step));
       dims =
           dims-path (number-bytes 1 c (h .count))
-          (four-path (number-bytes 4 e0 (h .extents .0)) (number-bytes 4 e1 (h .extents .1 .0)) (number-bytes 4 e2 (h .extents .1 .1 .0))
-          (number-bytes 4 e3 (h .extents .1 .1 .1 .0)));
+          (four-path (number-bytes 4 e0 (f .0)) (number-bytes 4 e1 (f .1 .0)) (number-bytes 4 e2 (f .1 .1 .0)) (number-bytes 4 e3 (f .1 .1 .1 .0)));
       empty = number-bytes 4 E (h .empty);
       words = number-bytes 4 (n .words) (h .words);
       first = number-bytes 4 (n .firstCount) (h .first);
       second = number-bytes 4 (n .secondCount) (h .second);
-      first-at = number-bytes 4 headerLength (omega arith);
-      second-at = number-bytes 4 (headerLength + n .firstBytes) (omega arith);
-      words-at = number-bytes 4 (headerLength + n .firstBytes + n .secondBytes) (omega arith);
-      end = number-bytes 4 (headerLength + n .firstBytes + n .secondBytes + 4 * n .words) (h .total);
+      offsets =
+          record {
+            first-at = number-bytes 4 headerLength (omega arith);
+            second-at = number-bytes 4 (headerLength + n .firstBytes) (omega arith);
+            words-at = number-bytes 4 (headerLength + n .firstBytes + n .secondBytes) (omega arith);
+            end = number-bytes 4 (headerLength + n .firstBytes + n .secondBytes + 4 * n .words) (h .total);
+          };
       rest = refl;
       size = omega arith;
     }

@@ -42,10 +42,14 @@ extent-most M (e ∷ es) h k =
     let m2 : product es ≤ e * product es = rw (mul-comm e (product es)) (le-mul-of-pos-right (product es) a) in
     (omega arith, extent-most M es (t .1) (omega arith))
 
+-- the extents fit the header's four fields
+pub record FourExtents (d : Dimensions) : Type 0 where
+  pub four : length (d .extents) ≡ 4
+  pub small : Below (256 ^ 4) (d .extents)
+
 pub record SmallDims (d : Dimensions) : Type 0 where
   pub count : d .count ≤ 4
-  pub four : length (d .extents) ≡ 4
-  pub extents : Below (256 ^ 4) (d .extents)
+  pub extents : FourExtents d
   pub most : cells d ≤ mostCells
 
 pub small-dims : (d : Dimensions) → dimensionsAllowed d ≡ true → SmallDims d
@@ -58,7 +62,10 @@ small-dims d h =
     let m = leb-true (product (d .extents)) mostCells (t4 .1) in
     record {
       count = within-true 1 4 (d .count) (t1 .0) .1;
-      four = eqb-true (length (d .extents)) 4 (t2 .0);
-      extents = extent-most (256 ^ 4) (d .extents) (every-take-drop (d .count) (d .extents) (t3 .0) (t4 .0)) (omega arith);
+      extents =
+          record {
+            four = eqb-true (length (d .extents)) 4 (t2 .0);
+            small = extent-most (256 ^ 4) (d .extents) (every-take-drop (d .count) (d .extents) (t3 .0) (t4 .0)) (omega arith);
+          };
       most = m;
     }

@@ -14,7 +14,7 @@ use Rattle.format.specs.Runs.{Run, Span, runAt, runsFrom, runs, spansFrom, span
 use Rattle.format.specs.PagedRuns.{plus, none, allCells, storedCells, positionAtPlace, Place, at, rankAtPlace, descent}
 use Rattle.format.specs.Answers.{empty, given}
 use Rattle.format.specs.Lookups.{rankIn, positionIn}
-use Rattle.laws.proofs.Stored.{Rising, rising-stored}
+use Rattle.laws.proofs.Stored.{Rising, rising}
 use Rattle.laws.proofs.Search.{rankAmong, seekFrom, Proper, along, rank-among, positionAmong, along-position}
 use Rattle.laws.proofs.Tools.{cases}
 use Rattle.laws.proofs.Positions.{rising-at, runs-back}
@@ -95,10 +95,6 @@ run-rank e v p i a (x ∷ xs) o h g c d =
     (empty-of e v (x .last) (x .empty) g (o .0) (o .1) (a .empty) d)))
 
 -- ---- of a picture
-
-rising : (E : ℕ) (ws : List ℕ) → Rising 0 (length ws) (stored E ws)
-unfolding stored
-rising E ws = rising-stored E 0 (length ws) ws (omega arith)
 
 rank-along : (E p : ℕ) (ws : List ℕ) → p < length ws → rankIn E ws p ≡ rankAtPlace (seekFrom allCells 0 (p - 0) none (spansFrom 0 0 (runs (stored E ws))))
 unfolding spans

@@ -26,7 +26,7 @@ use Rattle.format.specs.Demand3.{Call, Listed}
 use Rattle.laws.proofs.Bytes.{length-bytesOf}
 use Rattle.laws.proofs.Settings.{by-kind}
 use Rattle.laws.proofs.Bounds.{upTo-zero}
-use Rattle.laws.proofs.Files.{from-first, header-there}
+use Rattle.laws.proofs.Files.{from-first, file-right}
 use Rattle.laws.proofs.Calls.{below-replicate}
 use Rattle.laws.proofs.Fits.{make-iff}
 use Rattle.laws.proofs.Demand3.{WordsIn, lists-exist}
@@ -90,7 +90,7 @@ module _ (s : Setting) (d : Dimensions) (E : ℕ) (allowed : settingAllowed s �
 
   pub start-length : length (layout s d E empties) ≡ headerLength
   start-length =
-      let k = header-there s d E empties (layout s d E empties) file in
+      let k = file-right s d E empties (layout s d E empties) file .long in
       let n = nothing-after in
       omega (arith, length-drop headerLength (layout s d E empties))
 

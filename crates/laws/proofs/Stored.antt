@@ -50,6 +50,15 @@ length-stored E p (x ∷ ws) =
     (λ e. rw e (length-stored E (suc p) ws))
     (λ e. rw e (ap suc (length-stored E (suc p) ws)))
 
+-- of all words: the positions rise below their number, and are as many as the words kept
+pub rising : (E : ℕ) (ws : List ℕ) → Rising 0 (length ws) (stored E ws)
+unfolding stored
+rising E ws = rising-stored E 0 (length ws) ws (omega arith)
+
+pub stored-kept : (E : ℕ) (ws : List ℕ) → length (stored E ws) ≡ length (kept E ws)
+unfolding stored
+stored-kept E ws = length-stored E 0 ws
+
 pub length-kept-le : (E : ℕ) (ws : List ℕ) → length (kept E ws) ≤ length ws
 unfolding kept
 length-kept-le E [] = le-refl 0

@@ -19,7 +19,7 @@ use Rattle.format.specs.File.{headerLength, header, countsOf, fileFrom, layout}
 use Rattle.format.specs.Calls.{outNumber}
 use Rattle.laws.proofs.Tools.{cases, refuse-zero}
 use Rattle.laws.proofs.Bytes.{length-bytesOf}
-use Rattle.laws.proofs.Stored.{Rising, rising-stored, length-stored}
+use Rattle.laws.proofs.Stored.{rising, stored-kept}
 use Rattle.stores.specs.Put.{put}
 use Rattle.stores.proofs.Laws.{put-front}
 use Rattle.parts.specs.declared.Sizes.{Sizes}
@@ -46,13 +46,8 @@ laidOut s d E ws z before =
 abbrev pub Derivable : Setting → Sizes → List ℕ → Type 0
 Derivable s z b = Standing (coder s) (codec s) z headerLength b
 
-pub rising : (E : ℕ) (ws : List ℕ) → Rising 0 (length ws) (stored E ws)
-unfolding stored
-rising E ws = rising-stored E 0 (length ws) ws (omega arith)
-
 words-length : (E : ℕ) (ws : List ℕ) → length (bytesOf 4 (kept E ws)) ≡ 4 * length (stored E ws)
-unfolding stored
-words-length E ws = length-bytesOf 4 (kept E ws) ∙ ap (λ (n : ℕ). 4 * n) (sym (length-stored E 0 ws))
+words-length E ws = length-bytesOf 4 (kept E ws) ∙ ap (λ (n : ℕ). 4 * n) (sym (stored-kept E ws))
 
 -- a picture of as many words as cells
 module _ (s : Setting) (a : settingAllowed s ≡ true) (d : Dimensions) (four : length (d .extents) ≡ mostDimensions) (E : ℕ) (ws : List ℕ)
@@ -66,8 +61,8 @@ module _ (s : Setting) (a : settingAllowed s ≡ true) (d : Dimensions) (four : 
   module _ (z : Sizes) (q : z ≡ sizesIn (length ls) parts) where
     -- the header put out is the layout's
     same-header : header s d E (countsIn z) ≡ header s d E (countsOf (length (kept E ws)) parts)
-    unfolding stored sizesIn
-    same-header = rw q (ap (λ (n : ℕ). header s d E (countsOf n parts)) (length-stored E 0 ws))
+    unfolding sizesIn
+    same-header = rw q (ap (λ (n : ℕ). header s d E (countsOf n parts)) (stored-kept E ws))
 
     pieces : header s d E (countsIn z) ++ parts .first ++ parts .second ++ bytesOf 4 (kept E ws) ≡ layout s d E ws
     unfolding layout fileFrom

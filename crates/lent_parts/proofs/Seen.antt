@@ -8,17 +8,12 @@ use lib.ListN.{length, drop}
 use Rattle.format.specs.declared.View.{View}
 use Rattle.format.specs.Tools.{same}
 use Rattle.format.specs.Bytes.{numbersOf}
-use Rattle.format.specs.File.{headerLength}
 use Rattle.format.specs.Accepted.{positionsOf, keptOf}
 use Rattle.parts.specs.Holds.{ViewOf}
 use Rattle.parts.proofs.Seen.{seen}
 use Rattle.lent_parts.specs.Pair.{sameHeader, Views}
 use Rattle.lent_parts.proofs.Common.{header-alike}
 use Rattle.lent_parts.proofs.Turns.{agree}
-
--- a header is there
-pub header-there : (b : List ℕ) (v : View) → ViewOf b v → headerLength ≤ length b
-header-there b v o = let h = seen b v o .header in omega (arith, h .start, h .counted .second, h .counted .inside)
 
 -- the stored words by the view
 kept-seen : (b : List ℕ) (v : View) → ViewOf b v → numbersOf 4 (v .words) (drop (v .place) b) ≡ keptOf b

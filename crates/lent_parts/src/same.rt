@@ -10,7 +10,7 @@ ghost use Prim.Native.Nat.{_+_, _*_, _≤_, _<_};
 ghost use lib.ListN.{length, drop};
 ghost use Rattle.format.specs.Tools.{same};
 ghost use Rattle.format.specs.Bytes.{numbersOf};
-ghost use Rattle.format.specs.File.{headerLength};
+ghost use Rattle.format.specs.File.{WholeHeader};
 ghost use Rattle.format.specs.Accepted.{positionsOf, keptOf};
 ghost use Rattle.format.specs.Shorter.{samePicture};
 ghost use Rattle.parts.specs.Holds.{ViewOf};
@@ -37,7 +37,7 @@ fn same_numbers<'a>(first: &'a [u8], at: usize, second: &'a [u8], to: usize, n: 
 
 // The dimension counts are the same, and the extents, E and N, which stand one after the other.
 fn same_header<'a>(first: &'a [u8], second: &'a [u8]) -> bool
-    requires { ⌜ (headerLength ≤ length (now first)) × (headerLength ≤ length (now second)) ⌝ }
+    requires { ⌜ WholeHeader (now first) × WholeHeader (now second) ⌝ }
     ensures { λ r. ⌜ r ≡ sameHeader (now (first .entry)) (now (second .entry)) ⌝ }
 {
     if get_u8(first, 1) != get_u8(second, 1) {

@@ -10,7 +10,6 @@ use Rattle.format.specs.declared.View.{View}
 use Rattle.format.specs.Tools.{Below, first, others}
 use Rattle.format.specs.Bytes.{field}
 use Rattle.format.specs.Picture.{cells}
-use Rattle.format.specs.File.{headerLength}
 use Rattle.format.specs.Accepted.{settingOf, dimensionsOf, wordsCount, positionsOf, keptOf}
 use Rattle.format.specs.Lister.{mostListed, line, rankLines, fileLines}
 use Rattle.laws.proofs.Settings.{small-setting}
@@ -86,11 +85,8 @@ module _ (b : List ℕ) (v : View) (o : ViewOf b v) where
   linesFrom r = rankLines r (drop r (positionsOf b)) (drop r (keptOf b))
 
   -- a file of at most 65,536 bytes has few words
-  header-there : headerLength ≤ v .place
-  header-there = omega (arith, known .header .start, known .header .counted .second, known .header .behind)
-
   few-words : length b ≤ mostListed → v .words ≤ 16371
-  few-words h = omega (arith, known .header .long, header-there)
+  few-words h = let k = known .header in omega (arith, k .long, k .start, k .counted .second, k .behind)
 
   pub word-inside : (r : ℕ) → r < v .words → v .place + 4 * r + 4 ≤ length b
   word-inside r h = omega (arith, known .header .long)
@@ -101,7 +97,7 @@ module _ (b : List ℕ) (v : View) (o : ViewOf b v) where
 
   first-length : length b ≤ mostListed → length (line (v .kind) (v .cells) (v .words)) ≤ 20
   first-length h =
-      let s = small-setting (settingOf b) (known .header .setting) in
+      let s = small-setting (settingOf b) (known .header .right .setting) in
       let k = s .kind in
       let m = known .header .counted .cells-most in
       let w = few-words h in

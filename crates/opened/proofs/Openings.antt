@@ -41,7 +41,7 @@ kind-opened b e z =
     let s = parts.seen b (viewOf b) (record { accepted = e; view = refl }) in
     let k = s .kind in
     let o = ap (λ (x : Opened). x .view .kind) (opening-accepted b e) in
-    omega (arith, small-setting _ (s .header .setting) .kind-least)
+    omega (arith, small-setting _ (s .header .right .setting) .kind-least)
 
 pub view-accepted : (b : List ℕ) (n : ℕ) (v : View) → Judged b n v → n ≡ 0 → v ≡ opening b .view
 view-accepted b n v j z = let o = j .view z in o .view ∙ sym (ap (λ (x : Opened). x .view) (opening-accepted b (o .accepted)))

@@ -20,8 +20,8 @@ use Rattle.format.specs.Opened.{viewOf}
 use Rattle.laws.proofs.Tools.{both-true, same-eq, same-true}
 use Rattle.laws.proofs.Stored.{Rising}
 use Rattle.laws.proofs.Limits.{small-dims}
-use Rattle.laws.proofs.Files.{positions-back, kept-back}
-use Rattle.laws.proofs.Acceptance.{HeaderRight, header-right, accepted, accepted-has-file}
+use Rattle.laws.proofs.Files.{HeaderRight, positions-back, kept-back}
+use Rattle.laws.proofs.Acceptance.{header-right, accepted, accepted-has-file}
 use Rattle.laws.proofs.Check.{BodyBy, CountsBy, counts-by, by-body, length-numbersOf}
 use Rattle.parts.specs.Holds.{Counted, said, rises, partsOf, partsRight, Holds, kindOf, ViewOf, HeaderView, firstBytes, secondBytes}
 
@@ -81,7 +81,7 @@ module _ (k : Codec) (b : List ℕ) (v : View) where
 -- ---- a header that is right
 
 pub record Headed (b : List ℕ) (v : View) : Type 0 where
-  pub setting : settingAllowed (settingOf b) ≡ true
+  pub right : HeaderRight b
   pub cells : v .cells ≡ cells (dimensionsOf b)
   pub start : v .start ≡ headerLength
   pub second : v .second ≡ secondAt b
@@ -103,7 +103,7 @@ by-header b h =
     let w = by .fields .words-at in
     let z = by .size in
     record {
-      setting = r .setting;
+      right = r;
       cells = k;
       start = f;
       second = s;

@@ -11,7 +11,7 @@ use Rattle.format.specs.Stored.{stored, kept, rankAt}
 use Rattle.format.specs.declared.View.{View}
 use Rattle.format.specs.Picture.{cells}
 use Rattle.format.specs.Accepted.{dimensionsOf, emptyOf, wordsCount, positionsOf, keptOf, wordsOf}
-use Rattle.laws.proofs.Stored.{Rising, rising-stored, length-stored}
+use Rattle.laws.proofs.Stored.{Rising, rising-stored, stored-kept}
 use Rattle.parts.specs.Holds.{ViewOf}
 use Rattle.parts.specs.Found.{countBelow}
 use Rattle.parts.proofs.Seen.{Seen, seen}
@@ -55,10 +55,6 @@ module _ (b : List ℕ) (v : View) (o : ViewOf b v) where
 
   size : length (stored E ws) ≡ wordsCount b
   size = ap length (sym (file .stored)) ∙ file .holds .size ∙ file .words
-
-  kept-size : length (stored E ws) ≡ length (kept E ws)
-  unfolding stored
-  kept-size = length-stored E 0 ws
 
   rising : (us : List ℕ) → length us ≡ length ws → Rising 0 (cells (dimensionsOf b)) (stored E us)
   unfolding stored
@@ -113,7 +109,7 @@ module _ (b : List ℕ) (v : View) (o : ViewOf b v) where
         let l : take k (stored E ws) ++ p ∷ drop (k + 1) (stored E ws) ≡ stored E ws
         = rw add-one (sym (rw (rank-position E p w ws n a) at (split-at (stored E ws) k 0 m))) in
         let s : set (kept E ws) k w ≡ take k (kept E ws) ++ w ∷ drop (k + 1) (kept E ws)
-        = rw add-one (set-split (kept E ws) k w (omega (arith, kept-size))) in
+        = rw add-one (set-split (kept E ws) k w (omega (arith, stored-kept E ws))) in
         writes (replacing k p) (omega arith) (omega arith) (omega (arith, size))
         (append-snoc (take k (stored E ws)) p (drop (k + 1) (stored E ws)) ∙ l ∙ sym (other-positions E p w ws n a c))
         (append-snoc (take k (kept E ws)) w (drop (k + 1) (kept E ws)) ∙ sym s ∙ sym (other-words E p w ws n a c))

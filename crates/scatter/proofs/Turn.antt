@@ -51,9 +51,6 @@ module _ (b : List ℕ) (v : View) (o : ViewOf b v) where
   known : Seen b v
   known = seen b v o
 
-  as-long : length (positionsOf b) ≡ v .words
-  as-long = known .holds .size
-
   pub word-seen : (r : ℕ) → r < v .words → field 4 (v .place + 4 * r) b ≡ getD (keptOf b) r 0
   unfolding keptOf
   word-seen r h = rw (known .header .place) (sym (numbers-at 4 (wordsCount b) (wordsAt b) r b (rw (known .words) at h)))
@@ -76,13 +73,13 @@ module _ (b : List ℕ) (v : View) (o : ViewOf b v) where
       ≡ scattered d (drop r (positionsOf b)) (drop r (keptOf b))
   batch-turned d r n h =
       let ls = drop r (positionsOf b) in
-      let k : length (take n ls) ≡ n = length-take-le n ls (rw (length-drop r (positionsOf b)) (omega (arith, as-long))) in
+      let k : length (take n ls) ≡ n = length-take-le n ls (rw (length-drop r (positionsOf b)) (omega (arith, known .holds .size))) in
       let s = scatter-add d (take n ls) (drop n ls) (drop r (keptOf b)) in
       rw (← drop-drop n r (positionsOf b), ← drop-drop n r (keptOf b)) (sym (rw (take-append-drop n ls, k) at s))
 
   -- at the end
   pub past : (r : ℕ) → v .words ≤ r → length (positionsOf b) ≤ r
-  past r h = omega (arith, as-long)
+  past r h = omega (arith, known .holds .size)
 
   -- the same where positions rise from f on: the last of the batch, in a buffer that begins with it
   pub batch-cut : (f r n : ℕ) (buffer : List ℕ) → 0 < n → r + n ≤ v .words → take n buffer ≡ take n (drop r (positionsOf b))
@@ -90,7 +87,7 @@ module _ (b : List ℕ) (v : View) (o : ViewOf b v) where
       → Cut f (v .cells) (getD buffer (n - 1) 0) (take n (drop r (positionsOf b))) (drop (r + n) (positionsOf b))
   batch-cut f r n buffer some h front rises =
       let ls = drop r (positionsOf b) in
-      let k : length (take n ls) ≡ n = length-take-le n ls (rw (length-drop r (positionsOf b)) (omega (arith, as-long))) in
+      let k : length (take n ls) ≡ n = length-take-le n ls (rw (length-drop r (positionsOf b)) (omega (arith, known .holds .size))) in
       let s : ls ≡ take n ls ++ drop (r + n) (positionsOf b) = sym (take-append-drop n ls) ∙ rw (drop-drop n r (positionsOf b)) in
       let g : getD (take n ls) (n - 1) 0 ≡ getD buffer (n - 1) 0
       = ap (λ (l : List ℕ). getD l (n - 1) 0) (sym front) ∙ getD-take n buffer (n - 1) 0 (omega arith) in

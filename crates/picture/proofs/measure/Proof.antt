@@ -5,13 +5,13 @@ use native.Mathlib.Omega.{arith}
 use mathlib.Core.Bool.{true}
 use lib.ListN.{length}
 use Rattle.format.specs.Stored.{stored}
+use Rattle.laws.proofs.Stored.{rising}
 use Rattle.parts.specs.declared.Encoder.{Encoder}
 use Rattle.parts.specs.Encoder.{begun}
 use Rattle.parts.specs.Batch.{Along}
 use Rattle.kinds.specs.Coding.{takenAll}
 use Rattle.layout.specs.Laid.{measuredBy, Bounded, Measures}
 use Rattle.layout.proofs.Measuring.{measures, bounded}
-use Rattle.layout.proofs.WholeFile.{rising}
 use Rattle.picture.proofs.Chunks.{left, next-cut, along-begun, left-all, all-done, length-chunk, along-chunk, along-left, all-left}
 use borrow.Author.Needs.{needs}
 use Rattle.picture.proofs.measure.Statement.{statement}

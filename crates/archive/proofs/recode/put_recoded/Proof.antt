@@ -1,5 +1,6 @@
 use native.Mathlib.Omega.{arith}
-use Rattle.archive.proofs.Recoding.{file-long, recode-laid, second-small, parts-apart, words-fit, all-out, recode-file}
+use Rattle.parts.proofs.Seen.{seen}
+use Rattle.archive.proofs.Recoding.{recode-laid, second-small, parts-apart, words-fit, all-out, recode-file}
 use borrow.Author.Needs.{needs}
 use Rattle.archive.proofs.recode.put_recoded.Statement.{statement}
 use Rattle.archive.proofs.recode.put_recoded.Tie as tie
@@ -50,7 +51,7 @@ pub put-recoded-spec : {M : Type 1} → statement M
 put-recoded-spec =
     tie.close
     (tie.spec
-    (λ c κs. file-long _ _ (c .before .before .before .pre .0))
+    (λ c κs. seen _ _ (c .before .before .before .pre .0) .header .right .long)
     put-header-requires
     (λ c. search needs)
     (λ c. search needs)

@@ -1,5 +1,7 @@
 use mathlib.Core.Path.{sym, _∙_}
-use Rattle.archive.proofs.Recoding.{recode-fitting, recode-number, recode-goes, recode-refused}
+use Rattle.parts.proofs.Seen.{seen}
+use Rattle.layout.proofs.Measuring.{fitting}
+use Rattle.archive.proofs.Recoding.{recode-number, recode-goes, recode-refused}
 use borrow.Author.Needs.{needs}
 use Rattle.archive.proofs.recode.recoded.Statement.{statement}
 use Rattle.archive.proofs.recode.recoded.Tie as tie
@@ -8,7 +10,8 @@ out-number-requires : tie.Need-out-number-requires
 out-number-requires c κs =
     let g = c .before .before .before .args in
     let w = c .before .before .before .pre in
-    recode-fitting (g .file .now) (g .v) (w .0) (g .x) (g .word) (w .1) (g .s) (w .2) _ (c .sized .ensures)
+    let k = seen (g .file .now) (g .v) (w .0) .header in
+    fitting (g .s) (w .2) (g .v .cells) _ (k .counted .cells-most) (rw (k .cells) (w .1 .edit .rising)) _ (c .sized .ensures)
 
 returns : tie.Need-returns
 returns c =

@@ -1,6 +1,5 @@
 use native.Mathlib.Omega.{arith}
 use Rattle.parts.proofs.Seen.{seen}
-use Rattle.archive.proofs.Recoding.{file-long}
 use Rattle.archive.proofs.Writing.{write-refused, write-beyond, write-recodes, write-done}
 use borrow.Author.Needs.{needs}
 use Rattle.archive.proofs.write.write.Statement.{statement}
@@ -21,7 +20,7 @@ edit-of-requires : tie.Need-edit-of-requires
 edit-of-requires c κs = (c .before .before .before .before .before .before .check .ensures .view (c .before .before .before .before .if1 .left), omega (arith, c .if2 .left))
 
 read-setting-requires : tie.Need-read-setting-requires
-read-setting-requires c κs = file-long _ _ (c .before .before .before .before .before .before .before .check .ensures .view (c .before .before .before .before .before .if1 .left))
+read-setting-requires c κs = seen _ _ (c .before .before .before .before .before .before .before .check .ensures .view (c .before .before .before .before .before .if1 .left)) .header .right .long
 
 recoded-requires : tie.Need-recoded-requires
 recoded-requires c κs =
@@ -29,7 +28,7 @@ recoded-requires c κs =
     let o = c .before .before .before .before .before .before .before .before .before .check .ensures .view (c .before .before .before .before .before .before .before .if1 .left) in (
       o,
       write-recodes (g .file .now) (g .p .0) (g .word) (g .dst .now) _ o _ (c .before .before .edit-of .ensures),
-      rw (c .before .read-setting .ensures) (seen _ _ o .header .setting),
+      rw (c .before .read-setting .ensures) (seen _ _ o .header .right .setting),
     )
 
 returns-3 : tie.Need-returns-3

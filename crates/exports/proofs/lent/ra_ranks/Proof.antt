@@ -5,7 +5,8 @@ use borrow.Author.Needs.{needs}
 use Rattle.format.specs.declared.View.{View}
 use Rattle.format.specs.Opened.{viewOf}
 use Rattle.laws.proofs.Bounds.{below-elements}
-use Rattle.exports.proofs.PartCalls.{ranks-refused, header-there, ranks-small, ranks-given}
+use Rattle.parts.proofs.Seen.{seen}
+use Rattle.exports.proofs.PartCalls.{ranks-refused, there, ranks-small, ranks-given}
 use Rattle.exports.proofs.lent.ra_ranks.Statement.{statement}
 use Rattle.exports.proofs.lent.ra_ranks.Tie as tie
 
@@ -19,7 +20,7 @@ read-view-requires : tie.Need-read-view-requires
 read-view-requires c κs =
     let a = c .before .before .before .args in
     let n = c .before .ranks-number in
-    header-there (a .file .now) (a .from) (a .to) (n .result) (n .ensures) (c .if1 .left)
+    seen (a .file .now) _ (there (a .file .now) (a .from) (a .to) (n .result) (n .ensures) (c .if1 .left) .view) .header .right .long
 
 -- where the part begins, below the file's length
 cast-code-and-value : tie.Need-cast-code-and-value

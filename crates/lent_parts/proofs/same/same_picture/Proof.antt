@@ -1,14 +1,15 @@
 use mathlib.Core.Path.{_≡_, sym, _∙_}
 use mathlib.Core.Bool.{true}
 use borrow.Author.Tests.{not-true, not-false}
+use Rattle.parts.proofs.Seen.{seen}
 use Rattle.lent_parts.specs.Pair.{sameHeader, Views}
 use Rattle.lent_parts.proofs.Common.{other-header, other-words, by-positions}
-use Rattle.lent_parts.proofs.Seen.{header-there, both-seen}
+use Rattle.lent_parts.proofs.Seen.{both-seen}
 use Rattle.lent_parts.proofs.same.same_picture.Statement.{statement}
 use Rattle.lent_parts.proofs.same.same_picture.Tie as tie
 
 same-header-requires : tie.Need-same-header-requires
-same-header-requires c κs = let s = c .before .before in (header-there (s .args .first .now) (s .args .v) (s .pre .0), header-there (s .args .second .now) (s .args .w) (s .pre .1))
+same-header-requires c κs = let s = c .before .before in (seen (s .args .first .now) (s .args .v) (s .pre .0) .header .right .long, seen (s .args .second .now) (s .args .w) (s .pre .1) .header .right .long)
 
 returns : tie.Need-returns
 returns c =
