@@ -36,7 +36,7 @@ module _ (s : Setting) (a : settingAllowed s ≡ true) (n : ℕ) (ls : List ℕ)
   unfolding takenAll
   fit = codes s a .fits 0 0 ls
 
-  out : PutOut (coder s) (codec s) n ls
+  pub out : PutOut (coder s) (codec s) n ls
   out = codes s a .out n ls h r
 
   pub measures : Measures s n ls (measuredBy s e)

@@ -14,10 +14,11 @@ use Rattle.stores.specs.Put.{put}
 use Rattle.stores.proofs.Laws.{length-put, put-append, put-comm}
 use Rattle.parts.specs.declared.Sizes.{Sizes}
 use Rattle.parts.specs.Encoder.{begun}
-use Rattle.parts.specs.Codes.{PutOut, Standing, sizesIn, outIn}
+use Rattle.parts.specs.Codes.{Standing, sizesIn, outIn}
+use Rattle.parts.proofs.Outright.{first-in, second-in}
 use Rattle.kinds.specs.Coding.{coder, firsts, seconds, derived, Apart}
-use Rattle.kinds.proofs.Laws.{codes}
 use Rattle.layout.specs.Laid.{totalOf}
+use Rattle.layout.proofs.Measuring.{out}
 
 -- ---- puts one after the other
 
@@ -47,21 +48,6 @@ module _ (s : Setting) (a : settingAllowed s ≡ true) (n : ℕ) (ls : List ℕ)
   abbrev pub place : ℕ
   place = headerLength + z .first + z .second
 
-  pub words-count : z .words ≡ length ls
-  unfolding sizesIn
-  words-count = ap (λ (x : Sizes). x .words) q
-
-  pub first-bytes : z .first ≡ length (parts .first)
-  unfolding sizesIn
-  first-bytes = ap (λ (x : Sizes). x .first) q
-
-  pub second-bytes : z .second ≡ length (parts .second)
-  unfolding sizesIn
-  second-bytes = ap (λ (x : Sizes). x .second) q
-
-  out : PutOut (coder s) (codec s) n ls
-  out = codes s a .out n ls h r
-
   -- what the encoder puts out
   abbrev first-out : List ℕ
   first-out = firsts s (begun headerLength second) ls
@@ -73,10 +59,10 @@ module _ (s : Setting) (a : settingAllowed s ≡ true) (n : ℕ) (ls : List ℕ)
   pub apart : Apart s (begun headerLength second) ls place
   unfolding begun firsts seconds
   apart =
-      let f = first-bytes in
-      let g = second-bytes in
-      let l = out .first-most headerLength second in
-      let m = out .second-most headerLength second in
+      let f = first-in z (length ls) parts q in
+      let g = second-in z (length ls) parts q in
+      let l = out s a n ls h r .first-most headerLength second in
+      let m = out s a n ls h r .second-most headerLength second in
       record { first = omega arith; second = omega arith }
 
   module _ (d hd w : List ℕ) (l : length hd ≡ headerLength) (room : totalOf z ≤ length d) where
@@ -105,10 +91,10 @@ module _ (s : Setting) (a : settingAllowed s ≡ true) (n : ℕ) (ls : List ℕ)
     pub assembled : derived s z headerLength laid ≡ put d 0 (hd ++ parts .first ++ parts .second ++ w)
     unfolding derived
     assembled =
-        let f = first-bytes in
-        let g = second-bytes in
+        let f = first-in z (length ls) parts q in
+        let g = second-in z (length ls) parts q in
         ap (coder s .derived z headerLength) parts-in
-        ∙ out .made z q around headerLength inside
+        ∙ out s a n ls h r .made z q around headerLength inside
         ∙ ap (λ (t : List ℕ). put t second (parts .second)) (sym (put-comm (put d 0 hd) headerLength (parts .first) place w (omega arith)))
         ∙ sym (put-comm (put (put d 0 hd) headerLength (parts .first)) second (parts .second) place w (omega arith))
         ∙ four-puts d hd (parts .first) (parts .second) w headerLength second place (sym l) (omega arith) (omega arith)

@@ -25,12 +25,13 @@ use Rattle.stores.proofs.Laws.{put-front}
 use Rattle.parts.specs.declared.Sizes.{Sizes}
 use Rattle.parts.specs.Encoder.{begun}
 use Rattle.parts.specs.Codes.{Standing, sizesIn}
+use Rattle.parts.proofs.Outright.{words-in, first-in, second-in}
 use Rattle.kinds.specs.declared.Measured.{Measured}
 use Rattle.kinds.specs.Coding.{coder, firsts, seconds, derived, Apart}
 use Rattle.layout.specs.Laid.{countsIn, totalOf, Fitting, Measures, outOf, Goes}
 use Rattle.layout.proofs.Header.{length-header}
 use Rattle.layout.proofs.Measuring.{not-true, fitting}
-use Rattle.layout.proofs.Pieces.{words-count, first-bytes, second-bytes, apart, standing, assembled}
+use Rattle.layout.proofs.Pieces.{apart, standing, assembled}
 
 -- the destination before what is made of the parts: header, the encoder's bytes and the words
 abbrev pub laidOut : Setting → Dimensions → ℕ → List ℕ → Sizes → List ℕ → List ℕ
@@ -76,9 +77,9 @@ module _ (s : Setting) (a : settingAllowed s ≡ true) (d : Dimensions) (four : 
         let l2 = length-append (hd ++ parts .first) (parts .second) in
         let l3 = length-append (hd ++ parts .first ++ parts .second) (bytesOf 4 (kept E ws)) in
         let w = words-length E ws in
-        let f = first-bytes s a (length ws) ls few (rising E ws) z q in
-        let g = second-bytes s a (length ws) ls few (rising E ws) z q in
-        let n = words-count s a (length ws) ls few (rising E ws) z q in
+        let f = first-in z (length ls) parts q in
+        let g = second-in z (length ls) parts q in
+        let n = words-in z (length ls) parts q in
         let p = ap length pieces in
         omega arith
 
@@ -128,7 +129,7 @@ laid-out s d E ws before z four size g =
     let w = words-length E ws in
     let l = length-header s d E (countsIn z) four in
     let o = g .room in
-    let c = words-count s a n ls (g .few) r z q in
+    let c = words-in z (length ls) (codec s .parts n ls) q in
     let k = length-bytesOf 4 (kept E ws) in
     let t = total-length s a d four E ws size (g .few) z q in
     record {

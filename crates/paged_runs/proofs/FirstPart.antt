@@ -15,6 +15,7 @@ use Rattle.stores.specs.Put.{put}
 use Rattle.stores.proofs.Laws.{length-put, put-comm}
 use Rattle.parts.specs.declared.Sizes.{Sizes}
 use Rattle.parts.specs.Codes.{sizesIn}
+use Rattle.parts.proofs.Outright.{seconds-in, first-in, second-in}
 use Rattle.paged_runs.specs.LevelZero.{levelIn, pairSum, LevelZero}
 use Rattle.paged_runs.proofs.Allowed.{page-step}
 use Rattle.paged_runs.proofs.LevelSums.{level-sum, runs-sum}
@@ -79,36 +80,24 @@ module _ (w b : ℕ) (allowed : pagesKind w b .allowed ≡ true) (B : ℕ) (ls :
   -- the second part alone put out, and then the levels above it
   module _ (z : Sizes) (q : z ≡ sizesIn (length ls) parts) (before : List ℕ) (start : ℕ) (room : start + z .first + z .second ≤ length before)
       (d : List ℕ) (out : d ≡ put before (start + z .first) (parts .second)) where
-    first-bytes : z .first ≡ length (parts .first)
-    unfolding sizesIn
-    first-bytes = ap (λ (x : Sizes). x .first) q
-
-    second-bytes : z .second ≡ length (parts .second)
-    unfolding sizesIn
-    second-bytes = ap (λ (x : Sizes). x .second) q
-
-    count : z .seconds ≡ parts .secondCount
-    unfolding sizesIn
-    count = ap (λ (x : Sizes). x .seconds) q
-
     behind : start + z .first ≡ start + length (parts .first)
-    behind = ap (λ (n : ℕ). start + n) first-bytes
+    behind = ap (λ (n : ℕ). start + n) (first-in z (length ls) parts q)
 
     inside : start + z .first + length (parts .second) ≤ length d
-    inside = let k = second-bytes in let l = ap length out ∙ length-put before (start + z .first) (parts .second) in omega arith
+    inside = let k = second-in z (length ls) parts q in let l = ap length out ∙ length-put before (start + z .first) (parts .second) in omega arith
 
     there : take (length (parts .second)) (drop (start + z .first) d) ≡ parts .second
-    there = let k = second-bytes in rw out (put-back before (start + z .first) (parts .second) (omega arith))
+    there = let k = second-in z (length ls) parts q in rw out (put-back before (start + z .first) (parts .second) (omega arith))
 
     -- what `put_levels` asks
     pub level-out : LevelZero d start b (z .seconds) (start + z .first)
-    level-out = rw count (level-zero d start (start + z .first) behind inside there)
+    level-out = rw (seconds-in z (length ls) parts q) (level-zero d start (start + z .first) behind inside there)
 
     -- and what is there then: both parts
     pub levels-made : put d start (bytesOf 4 (flatSpans (upperLevels b (levelIn d (z .seconds) (start + z .first)))))
         ≡ put (put before start (parts .first)) (start + z .first) (parts .second)
     levels-made =
-        let k = first-bytes in
-        rw count (first-put d start (start + z .first) behind inside there)
+        let k = first-in z (length ls) parts q in
+        rw (seconds-in z (length ls) parts q) (first-put d start (start + z .first) behind inside there)
         ∙ ap (λ (t : List ℕ). put t start (parts .first)) out
         ∙ sym (put-comm before start (parts .first) (start + z .first) (parts .second) (omega arith))

@@ -1,11 +1,11 @@
--- A coder that puts the parts out outright, with nothing to be made of them afterwards. Assumes nothing.
+-- A coder that puts the parts out outright, with nothing to be made of them afterwards; and what the sizes of parts say. Assumes nothing.
 use Prim.Native.Nat.{ℕ, _+_}
-use mathlib.Core.Path.{_≡_, ap₂, _∙_}
+use mathlib.Core.Path.{_≡_, ap, ap₂, _∙_}
 use mathlib.Core.Bool.{false}
 use mathlib.Core.List.{List}
 use native.Mathlib.Omega.{arith}
 use lib.ListN.{length}
-use Rattle.format.specs.Codec.{Codec}
+use Rattle.format.specs.Codec.{Codec, Parts}
 use Rattle.stores.specs.Put.{put}
 use Rattle.parts.specs.declared.Sizes.{Sizes}
 use Rattle.parts.specs.Encoder.{Coder, begun, endedBy, takenAllBy, firstsBy, secondsBy}
@@ -26,3 +26,21 @@ outright k c B ls nothing first second sizes =
           nothing z start _
           ∙ ap₂ (λ (x y : List ℕ). put (put d start x) (start + z .first) y) (first start (start + z .first)) (second start (start + z .first));
     }
+
+-- what equal sizes say, one by one
+module _ (z : Sizes) (n : ℕ) (p : Parts) (q : z ≡ sizesIn n p) where
+  pub words-in : z .words ≡ n
+  unfolding sizesIn
+  words-in = ap (λ (x : Sizes). x .words) q
+
+  pub seconds-in : z .seconds ≡ p .secondCount
+  unfolding sizesIn
+  seconds-in = ap (λ (x : Sizes). x .seconds) q
+
+  pub first-in : z .first ≡ length (p .first)
+  unfolding sizesIn
+  first-in = ap (λ (x : Sizes). x .first) q
+
+  pub second-in : z .second ≡ length (p .second)
+  unfolding sizesIn
+  second-in = ap (λ (x : Sizes). x .second) q
