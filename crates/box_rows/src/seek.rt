@@ -2,17 +2,15 @@
 use format::Position;
 use format::Rank;
 use format::View;
-use kinds::search::by_walk;
-use kinds::steps::next;
+use kinds::steps;
+use kinds::steps::by_walk;
 use parts::Cursor;
 use search::stored_position;
 ghost use mathlib.Core.Path.{_≡_};
-ghost use mathlib.Core.Bool.{true};
 ghost use Prim.Native.Nat.{_+_, _<_};
 ghost use lib.ListN.{getD};
 ghost use Rattle.format.specs.Accepted.{positionsOf};
 ghost use Rattle.parts.specs.Holds.{ViewOf};
-ghost use Rattle.kinds.specs.Steps.{byWalk};
 ghost use Rattle.box_rows.specs.Ready.{Ready, Reached, Around};
 
 // A rank that stands below a position, and a later one, or N, that does not; `at` is where the later one stands.
@@ -67,21 +65,6 @@ fn narrowed(file: &[u8], v: View, mut g: Gap, p: Position) -> Gap
     g
 }
 
-// Rank by rank, in a kind whose positions are found by a walk.
-fn seek_walk(file: &[u8], v: View, mut c: Cursor, p: Position) -> Cursor
-    requires { ⌜ ViewOf (now file) v × (byWalk (v .kind) ≡ true) × Ready (now file) v c (p .0) ⌝ }
-    ensures { λ r. ⌜ Reached (now (file .entry)) v r (p .0) ⌝ }
-{
-    let wanted = p.0;
-    while c.rank < v.words {
-        if wanted <= c.at {
-            return c;
-        }
-        c = next(file, v, c);
-    }
-    c
-}
-
 // The first rank at or after p; N where there is none.
 pub fn seek(file: &[u8], v: View, mut c: Cursor, p: Position) -> Cursor
     requires { ⌜ ViewOf (now file) v × Ready (now file) v c (p .0) ⌝ }
@@ -94,7 +77,7 @@ pub fn seek(file: &[u8], v: View, mut c: Cursor, p: Position) -> Cursor
         return c;
     }
     if by_walk(v.kind) {
-        return seek_walk(file, v, c, p);
+        return steps::seek(file, v, c, p);
     }
     let g = narrowed(file, v, gallop(file, v, c.rank, p), p);
     c.rank = g.high;

@@ -1,12 +1,15 @@
 // A walk along the stored positions.
+use format::Position;
 use format::View;
 use parts::Cursor;
 use parts::walk::entry_of;
 use std::num::wrapping_add_u32;
 use wire::load_u32;
 ghost use mathlib.Core.Path.{_≡_};
+ghost use Prim.Native.Nat.{_-_};
 ghost use lib.ListN.{length};
 ghost use Rattle.parts.specs.Cursor.{Batch};
+ghost use Rattle.parts.specs.Walks.{sought};
 ghost use Rattle.jumps.specs.Steps.{jumpBy, next};
 
 // By a difference: 0 is the next jump; the jumps begin at `start`.
@@ -40,6 +43,20 @@ pub fn positions(file: &[u8], v: View, mut c: Cursor, out: &mut [u32]) -> Cursor
         out[i] = c.at;
         c = next(file, v, c);
         i += 1;
+    }
+    c
+}
+
+// On to the first position from p on, or past the last rank.
+pub fn seek(file: &[u8], v: View, mut c: Cursor, p: Position) -> Cursor
+    ensures { λ r. ⌜ r ≡ sought (next (now (file .entry)) v) (v .words) (p .0) (v .words - c .rank) c ⌝ }
+{
+    let wanted = p.0;
+    while c.rank < v.words {
+        if wanted <= c.at {
+            return c;
+        }
+        c = next(file, v, c);
     }
     c
 }

@@ -16,10 +16,11 @@ use Rattle.parts.specs.declared.Sizes.{Sizes}
 use Rattle.parts.specs.Holds.{kindOf, Counted, Sized, partsRight}
 use Rattle.parts.specs.Found.{FoundIn, PositionIn}
 use Rattle.parts.specs.Cursor.{Batch}
+use Rattle.parts.specs.Walks.{sought}
 use Rattle.parts.specs.Encoder.{Coder, endedBy, takenAllBy}
 use Rattle.parts.specs.Batch.{RoomAll, putAllBy}
 use Rattle.parts.specs.Codes.{Standing}
-use Rattle.kinds.specs.Steps.{nextBy, nextOf, walked, steppedBy}
+use Rattle.kinds.specs.Steps.{nextBy, nextOf, walked, steppedBy, soughtBy}
 use Rattle.kinds.specs.Coding.{coderOf, coder, takenAll, derived}
 
 -- ---- of a view
@@ -51,6 +52,10 @@ module _ (v : View) (k : ℕ) (e : v .kind ≡ k) where
     pub view-batch : (c : Cursor) (m : ℕ) (r : Cursor) (out : List ℕ) → Batch (nextBy k b v) c m r out → (r ≡ steppedBy b v c m) × (out ≡ walked b v c m)
     unfolding nextOf walked steppedBy
     view-batch c m r out h = let t = subst (λ (n : ℕ). Batch (nextBy n b v) c m r out) (sym e) h in (t .cursor, t .positions)
+
+    pub view-sought : (p m : ℕ) (c r : Cursor) → r ≡ sought (nextBy k b v) (v .words) p m c → r ≡ soughtBy b v p m c
+    unfolding soughtBy nextOf
+    view-sought p m c r h = subst (λ (n : ℕ). r ≡ sought (nextBy n b v) (v .words) p m c) (sym e) h
 
 -- ---- of a setting
 

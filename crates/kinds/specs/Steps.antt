@@ -9,6 +9,7 @@ use Rattle.format.specs.declared.View.{View}
 use Rattle.format.specs.Tools.{pick}
 use Rattle.parts.specs.declared.Cursor.{Cursor}
 use Rattle.parts.specs.Cursor.{before, walkedAs, steppedAs}
+use Rattle.parts.specs.Walks.{sought}
 use Rattle.runs.specs.Steps as runs
 use Rattle.positions.specs.Steps as positions
 use Rattle.base_offset.specs.Steps as based
@@ -42,6 +43,10 @@ steppedBy b v c n = steppedAs (nextOf b v) c n
 -- a kind whose position of a rank is found by a walk
 abbrev pub byWalk : ℕ → Bool
 byWalk k = eqb k 4
+
+-- from c to the first position from p on, or past the last rank, in at most k steps
+unfoldable pub soughtBy : List ℕ → View → ℕ → ℕ → Cursor → Cursor
+soughtBy b v p k c = sought (nextOf b v) (v .words) p k c
 
 -- a kind that stores runs
 abbrev pub storesRuns : ℕ → Type 0

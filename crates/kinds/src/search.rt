@@ -3,11 +3,9 @@ use format::Position;
 use format::Rank;
 use format::View;
 use parts::Found;
-ghost use mathlib.Core.Path.{_≡_};
 ghost use Prim.Native.Nat.{_<_};
 ghost use Rattle.parts.specs.Holds.{kindOf};
 ghost use Rattle.parts.specs.Found.{FoundIn, PositionIn};
-ghost use Rattle.kinds.specs.Steps.{byWalk};
 
 // The place of a position among the stored ones.
 pub fn find(file: &[u8], v: View, p: Position) -> Found
@@ -42,11 +40,4 @@ pub fn position_of(file: &[u8], v: View, r: Rank) -> u64
         5 => paged_runs::search::position_of(file, v, r),
         _ => 0,
     }
-}
-
-// A kind whose position of a rank is found by a walk: positions that never fall are better sought along the ranks.
-pub fn by_walk(kind: u32) -> bool
-    ensures { λ r. ⌜ r ≡ byWalk kind ⌝ }
-{
-    kind == 4
 }

@@ -1,4 +1,5 @@
 // A cursor along the stored positions of a file, in rank order and at constant cost a step.
+use format::Position;
 use format::View;
 use parts::Cursor;
 use parts::walk::before_first;
@@ -7,7 +8,7 @@ ghost use mathlib.Core.Bool.{true};
 ghost use Prim.Native.Nat.{_+_, _-_, _≤_};
 ghost use lib.ListN.{length};
 ghost use Rattle.parts.specs.Holds.{kindOf};
-ghost use Rattle.kinds.specs.Steps.{nextOf, startOf, walked, steppedBy, storesRuns, runsOf};
+ghost use Rattle.kinds.specs.Steps.{nextOf, startOf, walked, steppedBy, byWalk, soughtBy, storesRuns, runsOf};
 
 // The cursor at the next rank.
 pub fn next(file: &[u8], v: View, c: Cursor) -> Cursor
@@ -47,6 +48,21 @@ pub fn positions(file: &[u8], v: View, c: Cursor, out: &mut [u32]) -> Cursor
         5 => paged_runs::steps::positions(file, v, c, out),
         _ => c,
     }
+}
+
+// A kind whose position of a rank is found by a walk: positions that never fall are better sought along the ranks.
+pub fn by_walk(kind: u32) -> bool
+    ensures { λ r. ⌜ r ≡ byWalk kind ⌝ }
+{
+    kind == 4
+}
+
+// In such a kind: on to the first position from p on, or past the last rank.
+pub fn seek(file: &[u8], v: View, c: Cursor, p: Position) -> Cursor
+    requires { ⌜ byWalk (v .kind) ≡ true ⌝ }
+    ensures { λ r. ⌜ r ≡ soughtBy (now (file .entry)) v (p .0) (v .words - c .rank) c ⌝ }
+{
+    jumps::steps::seek(file, v, c, p)
 }
 
 // Whether a kind stores runs.

@@ -5,6 +5,7 @@ pub mod Batches
 pub mod Along
 pub mod Fills
 pub mod RunWalk
+pub mod Sought
 -- Encoders.
 pub mod Taking
 pub mod Sounds

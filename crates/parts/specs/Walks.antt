@@ -1,9 +1,11 @@
 -- What a kind's step is to be: it goes to the next rank, and over parts that hold stored positions it walks along them. Assumes nothing.
-use Prim.Native.Nat.{ℕ, _<_}
+use Prim.Native.Nat.{ℕ, zero, suc, _<_}
 use mathlib.Core.Path.{_≡_}
 use mathlib.Core.List.{List}
 use lib.ListN.{length}
+use lib.Dec.{ltb}
 use Rattle.format.specs.declared.View.{View}
+use Rattle.format.specs.Tools.{pick, both}
 use Rattle.format.specs.Codec.{Codec}
 use Rattle.parts.specs.declared.Cursor.{Cursor}
 use Rattle.parts.specs.Cursor.{add32, before, alongRun, walkedAs}
@@ -21,3 +23,10 @@ GoesAlong f = (c : Cursor) → c .at < c .last → f c ≡ alongRun c
 -- the same of a kind's step
 abbrev pub StepsAlong : (List ℕ → View → Cursor → Cursor) → Type 0
 StepsAlong next = (b : List ℕ) (v : View) → GoesAlong (next b v)
+
+-- by the step f to the first position from p on, or to rank n; k bounds the steps
+unfoldable pub sought : (Cursor → Cursor) → ℕ → ℕ → ℕ → Cursor → Cursor
+sought f n p zero c = c
+sought f n p (suc k) c =
+    let later = sought f n p k (f c) in
+    pick (both (ltb (c .rank) n) (ltb (c .at) p)) later c

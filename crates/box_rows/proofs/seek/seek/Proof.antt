@@ -1,12 +1,19 @@
 -- Where the cursor stands below p, the ranks after it are sought. Assumes nothing.
+use Prim.Native.Nat.{_-_}
 use mathlib.Core.Path.{refl, sym, _∙_}
-use Rattle.box_rows.proofs.Seeking.{reached-between}
+use native.Mathlib.Omega.{arith}
+use Rattle.box_rows.proofs.Seeking.{reached-between, reached-walk}
 use borrow.Author.Needs.{needs}
 use Rattle.box_rows.proofs.seek.seek.Statement.{statement}
 use Rattle.box_rows.proofs.seek.seek.Tie as tie
 
-seek-walk-requires : tie.Need-seek-walk-requires
-seek-walk-requires c κs = let s = c .before .before .before .before .before .before .before .before .before in (s .pre .0, sym (c .before .by-walk .ensures) ∙ c .if3 .taken, s .pre .1)
+returns-3 : tie.Need-returns-3
+returns-3 c =
+    let s = c .before .before .before .before .before .before .before .before .before .before in
+    let a = s .args in
+    rw (c .seek .ensures)
+    (reached-walk (a .file .now) (a .v) (s .pre .0) (sym (c .before .before .by-walk .ensures) ∙ c .before .if3 .taken) (a .v .words - a .c .rank) (a .c) (a .p .0) (s .pre .1)
+    (omega arith))
 
 gallop-requires : tie.Need-gallop-requires
 gallop-requires c κs =
@@ -27,8 +34,8 @@ seek-spec =
     (λ c. search needs)
     (λ c. search needs)
     (λ c κs. search needs)
-    seek-walk-requires
-    (λ c. search needs)
+    (λ c κs. sym (c .before .by-walk .ensures) ∙ c .if3 .taken)
+    returns-3
     gallop-requires
     (λ c κs. search needs)
     returns-4)
