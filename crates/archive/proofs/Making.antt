@@ -1,7 +1,7 @@
 -- What make answers and leaves. Assumes nothing.
 use Prim.Native.Nat.{ℕ, zero, suc, _+_, _*_, _≤_}
 use mathlib.Core.Path.{_≡_, refl, sym, ap, subst, _∙_}
-use mathlib.Core.Bool.{Bool, true, false, not}
+use mathlib.Core.Bool.{true, not}
 use mathlib.Core.List.{List, _++_}
 use native.Mathlib.Omega.{arith}
 use lib.ListN.{length, drop}
@@ -10,10 +10,10 @@ use borrow.Author.Tests.{eq-eqb, ne-eqb, eqb-true, not-false}
 use Rattle.format.specs.declared.Dimensions.{Dimensions}
 use Rattle.format.specs.declared.Setting.{Setting}
 use Rattle.format.specs.Tools.{pick}
-use Rattle.format.specs.Signals.{KIND, SETTING, EXTENT, PICTURE, refuse, orElse}
+use Rattle.format.specs.Signals.{EXTENT, PICTURE, refuse, orElse}
 use Rattle.format.specs.Answers.{leaves}
 use Rattle.format.specs.Picture.{mostDimensions, cells, dimensionsAllowed}
-use Rattle.format.specs.Kinds.{kindAllowed, settingAllowed}
+use Rattle.format.specs.Kinds.{settingAllowed}
 use Rattle.format.specs.Bytes.{bytesOf}
 use Rattle.format.specs.Stored.{stored, kept}
 use Rattle.format.specs.File.{headerLength, header, layout}

@@ -7,7 +7,7 @@ use mathlib.Core.List.{List, [], _∷_}
 use native.Mathlib.Omega.{arith}
 use lib.ListN.{length, getD, set, take, drop, length-set}
 use lib.Seq.{take-length}
-use lib.Dec.{eqb, ltb}
+use lib.Dec.{eqb}
 use types.Run.{OneOf}
 use denote.Enum.Declared.{tagOf}
 use borrow.Author.Tests.{lt-ltb, le-ltb, eq-eqb, ne-eqb, eqb-true, eqb-false}
@@ -17,11 +17,11 @@ use Rattle.format.specs.declared.RankAnswer.the-variants as ra
 use Rattle.format.specs.declared.Setting.{Setting}
 use Rattle.format.specs.declared.View.{View}
 use Rattle.format.specs.Tools.{pick, both}
-use Rattle.format.specs.Signals.{BEYOND, SMALL, refuse, orElse}
+use Rattle.format.specs.Signals.{BEYOND, SMALL, orElse}
 use Rattle.format.specs.Answers.{Answer, refused, empty, given, rankSays, leaves}
 use Rattle.format.specs.Picture.{cells}
 use Rattle.format.specs.Stored.{stored, kept, rankAt}
-use Rattle.format.specs.Kinds.{codec, settingAllowed}
+use Rattle.format.specs.Kinds.{codec}
 use Rattle.format.specs.File.{layout}
 use Rattle.format.specs.Accepted.{settingOf, dimensionsOf, emptyOf, positionsOf, keptOf, wordsOf, checkNumber}
 use Rattle.format.specs.Calls.{outNumber, settingNumber, writeSignal, changeSignal, writeNumber, changeNumber, writtenFile, changedFile, Wrote, Changed}

@@ -12,7 +12,7 @@ use lib.Dec.{leb, ltb}
 use borrow.Author.Tests.{leb-true, ltb-true, le-leb, lt-leb, lt-ltb, le-ltb}
 use Rattle.format.specs.declared.Dimensions.{Dimensions}
 use Rattle.format.specs.Tools.{pick, both, first, others, range, joined}
-use Rattle.format.specs.Picture.{product, cells, insideExtents, inside}
+use Rattle.format.specs.Picture.{product, insideExtents, inside}
 use Rattle.format.specs.Box.{ordered, boxAllowed, boxFrom}
 use Rattle.laws.proofs.Tools.{cases, both-true, both-false, length-range}
 use Rattle.header.proofs.RowOrder.{rest-least}

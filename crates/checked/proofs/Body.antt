@@ -1,6 +1,6 @@
 -- The body is right exactly when the parts are and no kept word is E. Assumes nothing.
 use Prim.Native.Nat.{ℕ, _<_}
-use mathlib.Core.Path.{_≡_, refl, sym, ap, _∙_, subst}
+use mathlib.Core.Path.{_≡_, refl, sym, _∙_, subst}
 use mathlib.Core.Bool.{Bool, true, false, not}
 use mathlib.Core.List.{List, [], _∷_}
 use lib.ListN.{drop, getD}
@@ -12,7 +12,7 @@ use Rattle.format.specs.Signals.{BODY, refuse}
 use Rattle.format.specs.Bytes.{numbersOf}
 use Rattle.format.specs.Picture.{cells}
 use Rattle.format.specs.Kinds.{codec}
-use Rattle.format.specs.Accepted.{settingOf, dimensionsOf, emptyOf, positionsOf, keptOf, bodyRight, headerNumber, checkNumber}
+use Rattle.format.specs.Accepted.{emptyOf, positionsOf, keptOf, bodyRight, headerNumber, checkNumber}
 use Rattle.format.specs.Opened.{viewOf}
 use Rattle.laws.proofs.Tools.{cases, both-true, both-make, both-false}
 use Rattle.laws.proofs.Stored.{Apart}

@@ -14,7 +14,7 @@ use Rattle.format.specs.Picture.{cells}
 use Rattle.format.specs.Accepted.{lengthField}
 use Rattle.format.specs.Calls.{Made, Wrote, Changed, Expanded}
 use Rattle.format.specs.Lookups.{CellFound, RankFound, PositionFound}
-use Rattle.format.specs.Table.{Request, write, change, Fed, Table, newTable, tableFile, tableRun, tableNumbers}
+use Rattle.format.specs.Table.{Request, write, change, Fed, newTable, tableFile, tableRun, tableNumbers}
 
 -- ---- the engine's lists
 

@@ -1,7 +1,7 @@
 -- Numbers that document 01 gives outside M1 to M12, and one example at least of each signal and of each call, as rows. Assumes nothing.
 use Prim.Native.Nat.{ℕ}
 use mathlib.Core.List.{List, [], _∷_, _++_}
-use lib.ListN.{length, take, replicate, set}
+use lib.ListN.{take, replicate, set}
 use Rattle.format.specs.declared.Dimensions.{Dimensions}
 use Rattle.format.specs.declared.Setting.{Setting}
 use Rattle.format.specs.Answers.{leaves}

@@ -24,8 +24,11 @@ unfoldable pub codec : Setting → Codec
 codec s = codecOf (s .kind) (s .width) (s .step)
 
 -- the kinds are 1 to 5
+abbrev pub lastKind : ℕ
+lastKind = 5
+
 unfoldable pub kindAllowed : Setting → Bool
-kindAllowed s = within 1 5 (s .kind)
+kindAllowed s = within 1 lastKind (s .kind)
 
 -- width and step are allowed for the kind
 unfoldable pub settingAllowed : Setting → Bool

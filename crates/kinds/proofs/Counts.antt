@@ -19,7 +19,7 @@ use Rattle.laws.proofs.Tools.{both-true}
 use Rattle.laws.proofs.Stored.{Rising}
 use Rattle.laws.proofs.Bounds.{length-spansFrom}
 use Rattle.laws.proofs.Settings.{setting}
-use Rattle.laws.proofs.Parts.{Known, known}
+use Rattle.laws.proofs.Parts.{known}
 use Rattle.parts.specs.declared.Cursor.{Cursor}
 use Rattle.parts.specs.declared.Sizes.{Sizes}
 use Rattle.parts.specs.Walks.{GoesAlong}

@@ -1,15 +1,13 @@
 -- No kind has the number: nothing is allowed, and no parts hold anything. Assumes nothing.
 use Prim.Native.Nat.{ℕ}
-use mathlib.Core.Path.{_≡_, subst}
+use mathlib.Core.Path.{_≡_}
 use mathlib.Core.Bool.{true, false}
 use mathlib.Core.List.{List}
 use native.Mathlib.Omega.{arith}
 use Rattle.format.specs.declared.Setting.{Setting}
 use Rattle.format.specs.declared.View.{View}
-use Rattle.format.specs.Codec.{Codec}
 use Rattle.format.specs.Kinds.{codec, codecOf, settingAllowed}
 use Rattle.laws.proofs.Settings.{no-kind}
-use Rattle.parts.specs.declared.Found.{Found}
 use Rattle.parts.specs.Found.{FoundIn, PositionIn}
 use Rattle.parts.specs.Holds.{Holds, kindOf}
 

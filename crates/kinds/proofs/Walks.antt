@@ -1,6 +1,6 @@
 -- A walk along an accepted file: rank by rank, and batch by batch. Assumes nothing.
-use Prim.Native.Nat.{ℕ, zero, suc, _+_, _-_, _≤_, _<_}
-use mathlib.Core.Path.{_≡_, refl, sym, ap, _∙_}
+use Prim.Native.Nat.{ℕ, suc, _+_, _-_, _≤_, _<_}
+use mathlib.Core.Path.{_≡_, sym, ap, _∙_}
 use mathlib.Core.List.{List, _∷_, _++_}
 use native.Mathlib.Nat.{sub-zero}
 use native.Mathlib.Numerals.{add-one}
@@ -11,7 +11,7 @@ use Rattle.format.specs.declared.View.{View}
 use Rattle.format.specs.Accepted.{positionsOf}
 use Rattle.parts.specs.declared.Cursor.{Cursor}
 use Rattle.parts.specs.Holds.{ViewOf}
-use Rattle.parts.specs.Cursor.{walkedAs, steppedAs}
+use Rattle.parts.specs.Cursor.{walkedAs}
 use Rattle.parts.proofs.Batches.{walked-as-add, length-walked-as}
 use Rattle.parts.proofs.Places.{rising-below}
 use Rattle.parts.proofs.Seen.{seen}

@@ -10,7 +10,7 @@ ghost use lib.ListN.{length};
 ghost use Rattle.format.specs.Tools.{range};
 ghost use Rattle.format.specs.Kinds.{codec, settingAllowed};
 ghost use Rattle.stores.specs.Put.{put};
-ghost use Rattle.parts.specs.Encoder.{endedBy, takenAllBy};
+ghost use Rattle.parts.specs.Encoder.{endedBy};
 ghost use Rattle.parts.specs.Ready.{passed, Sound};
 ghost use Rattle.parts.specs.Batch.{Along, RoomAll, putAllBy};
 ghost use Rattle.parts.specs.Codes.{Standing};

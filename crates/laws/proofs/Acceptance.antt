@@ -1,7 +1,7 @@
 -- A file is accepted exactly when some picture has it. Assumes nothing.
 use Prim.Native.Nat.{ℕ, _^_, _≤_, _<_}
 use mathlib.Core.Path.{_≡_, subst}
-use mathlib.Core.Bool.{true, false, not}
+use mathlib.Core.Bool.{true, not}
 use mathlib.Core.List.{List}
 use lib.ListN.{length, drop}
 use mathlib.Core.Logic.{_↔_}

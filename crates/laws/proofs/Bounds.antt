@@ -1,7 +1,7 @@
 -- How many numbers the parts hold and how large they are. Assumes nothing.
 use Prim.Native.Nat.{ℕ, zero, suc, _+_, _-_, _*_, _/_, _^_, _≤_, _<_}
 use mathlib.Core.Path.{_≡_, refl, sym, ap, _∙_}
-use mathlib.Core.Bool.{true, false, not}
+use mathlib.Core.Bool.{true}
 use mathlib.Core.List.{List, [], _∷_}
 use native.Mathlib.Numerals.{add-one}
 use native.Mathlib.Nat.{lt-of-not-le, div-mul-le-self, mul-le-mul-left, le-of-suc-le-suc, suc-mul, mul-le-mul, mul-one, le-refl, one-le-pow, zero-lt-suc, div-eq-of-lt, add-div-right, div-lt-iff-lt-mul, le-div-iff-mul-le, suc-sub-suc, zero-sub, sub-zero, sub-add-cancel}
@@ -10,11 +10,11 @@ use native.Mathlib.Omega.{arith}
 use lib.ListN.{length, getD, length-append}
 use lib.Dec.{eqb, leb}
 use borrow.Author.Tests.{eqb-true, leb-true, leb-false}
-use Rattle.format.specs.Tools.{Below, listed, upTo, every, both}
+use Rattle.format.specs.Tools.{Below, listed, upTo, every}
 use Rattle.format.specs.Runs.{Run, Span, runAt, runsFrom, runs, spansFrom, spans, flatRuns}
 use Rattle.format.specs.PagedRuns.{flatSpans, plus, none, sumsFrom, level, lastsFrom, lasts, levelsAbove, upperLevels, entriesAbove, upperEntries}
 use Rattle.format.specs.BaseOffset.{bases, offsets, offsetsFit}
-use Rattle.format.specs.Jumps.{difference, differencesFrom, differences, jumpsOf, jumps}
+use Rattle.format.specs.Jumps.{difference, differencesFrom, differences, jumpsOf}
 use Rattle.laws.proofs.Stored.{Rising}
 use Rattle.laws.proofs.Tools.{cases, both-true}
 

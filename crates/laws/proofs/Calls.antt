@@ -1,16 +1,16 @@
 -- A call on a picture's file: its number and its result are those of the picture. Assumes nothing.
 use Prim.Native.Nat.{ℕ, zero, suc, _+_, _-_, _^_, _≤_, _<_}
-use mathlib.Core.Path.{_≡_, refl, ap, _∙_}
+use mathlib.Core.Path.{_≡_, refl, _∙_}
 use mathlib.Core.Bool.{true, false, not}
 use mathlib.Core.List.{List, [], _∷_, _++_}
 use native.Mathlib.Omega.{arith}
-use lib.ListN.{length, take, drop, set, replicate, length-set, length-drop}
+use lib.ListN.{length, drop, set, replicate, length-set, length-drop}
 use lib.Seq.{take-at, drop-append-le, take-append-le}
 use lib.Dec.{eqb, ltb}
 use borrow.Author.Tests.{eqb-true, ltb-true}
 use Rattle.format.specs.Tools.{Below}
 use Rattle.format.specs.Signals.{refuse}
-use Rattle.format.specs.Bytes.{field, number}
+use Rattle.format.specs.Bytes.{field}
 use Rattle.format.specs.declared.Dimensions.{Dimensions}
 use Rattle.format.specs.Picture.{cells, dimensionsAllowed}
 use Rattle.format.specs.Stored.{stored}
@@ -18,7 +18,6 @@ use Rattle.format.specs.File.{WholeHeader, layout, HasFile}
 use Rattle.format.specs.Accepted.{lengthField}
 use Rattle.format.specs.declared.Setting.{Setting}
 use Rattle.format.specs.Kinds.{codec, kindAllowed, settingAllowed}
-use Rattle.format.specs.Answers.{Answer}
 use Rattle.format.specs.Calls.{outNumber, settingNumber, makeNumber, writeSignal, changeSignal, writeNumber, writtenFile, changeNumber, changedFile, expandNumber}
 use Rattle.format.specs.Lookups.{cellIn, rankIn, positionIn, cellAnswer, rankAnswer, positionAnswer}
 use Rattle.format.specs.Demand3.{fileIn}

@@ -1,7 +1,7 @@
 -- Coordinates and positions are inverse. Assumes nothing.
 use Prim.Native.Nat.{ℕ, zero, suc, _+_, _-_, _*_, _/_, _%_, _<_}
 use mathlib.Core.Path.{_≡_, refl, sym, ap, _∙_}
-use mathlib.Core.Bool.{true, not}
+use mathlib.Core.Bool.{true}
 use mathlib.Core.List.{List, [], _∷_}
 use native.Mathlib.Nat.{mul-zero, zero-lt-suc, mul-one, mul-assoc, add-mul, zero-mul, div-add-mod', mod-lt, div-lt-iff-lt-mul, mod-eq-of-lt}
 use native.Mathlib.Omega.{arith}
@@ -9,7 +9,7 @@ use lib.ListN.{length}
 use lib.Arith.{digits-div, digits-mod, digits-lt}
 use lib.Dec.{ltb, eqb}
 use borrow.Author.Tests.{ltb-true, lt-ltb, eqb-true, eq-eqb}
-use Rattle.format.specs.Tools.{both, first, others}
+use Rattle.format.specs.Tools.{first, others}
 use Rattle.format.specs.declared.Dimensions.{Dimensions}
 use Rattle.format.specs.Picture.{mostDimensions, product, cells, dimensionsAllowed, rowOrder, positionAt, insideExtents, inside, coordinatesFrom, coordinatesAt}
 use Rattle.laws.proofs.Tools.{both-true, both-make}

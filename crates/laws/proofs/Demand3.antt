@@ -1,12 +1,11 @@
 -- Demand 3, proved of every two lists. Assumes nothing.
 use Prim.Native.Nat.{ℕ, zero, suc, _+_, _-_, _^_, _<_}
 use mathlib.Core.Path.{_≡_, refl, sym, ap, ap₂, _∙_, subst}
-use mathlib.Core.Bool.{true, false, not}
 use mathlib.Core.List.{List, [], _∷_, _++_, map}
 use native.Mathlib.Omega.{arith}
-use lib.ListN.{length, drop, getD, set, replicate, getD-replicate}
+use lib.ListN.{length, drop, getD, replicate, getD-replicate}
 use lib.Seq.{getD-set-same, getD-set-other, ext-getD}
-use lib.Dec.{eqb, ltb}
+use lib.Dec.{eqb}
 use borrow.Author.Tests.{eqb-true, eqb-false, lt-ltb}
 use Rattle.format.specs.declared.Dimensions.{Dimensions}
 use Rattle.format.specs.Picture.{cells}
@@ -14,7 +13,7 @@ use Rattle.format.specs.declared.Setting.{Setting}
 use Rattle.format.specs.File.{layout, HasFile}
 use Rattle.format.specs.Accepted.{wordsOf, settingOf}
 use Rattle.format.specs.Calls.{makeNumber, expandNumber, writeNumber, writtenFile, changeNumber, changedFile, Made, Expanded}
-use Rattle.format.specs.Answers.{leaves, Answer, given}
+use Rattle.format.specs.Answers.{leaves, given}
 use Rattle.format.specs.Lookups.{CellFound, RankFound, PositionFound, cellIn, cellAnswer, rankAnswer, positionAnswer}
 use Rattle.format.specs.Table.{Request, write, change, Table, newTable, tableFile, wouldBe, signal, tableNumber, becomes, tableNext, tableRun, tableNumbers}
 use Rattle.format.specs.Demand3.{Call, fed, Called, fileIn, nextFile, Ran, done, then, Listed, wordAfter, lastWritten, Alike, AsTable, Agree, Demand3}

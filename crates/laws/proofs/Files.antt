@@ -18,9 +18,9 @@ use Rattle.format.specs.Kinds.{codec, kindAllowed, settingAllowed}
 use Rattle.format.specs.File.{headerLength, WholeHeader, Counts, countsOf, header, fileFrom, layout, HasFile}
 use Rattle.format.specs.Accepted.{settingOf, dimensionsOf, emptyOf, wordsCount, firstCount, secondCount, firstOffset, secondOffset, wordsOffset, lengthField, secondAt, wordsAt, endAt, countsRight, positionsOf, keptOf, wordsOf, bodyRight, headerNumber, checkNumber}
 use Rattle.laws.proofs.Stored.{Rising, rising-stored, stored-kept, length-kept-le, placed-stored, below-kept}
-use Rattle.laws.proofs.Tools.{both-make, same-refl}
+use Rattle.laws.proofs.Tools.{same-refl}
 use Rattle.laws.proofs.Bytes.{length-bytesOf, numbersOf-bytesOf}
-use Rattle.laws.proofs.Settings.{setting, small-setting}
+use Rattle.laws.proofs.Settings.{setting, small-setting, kind-allowed}
 use Rattle.laws.proofs.Parts.{Known, known}
 use Rattle.laws.proofs.Header.{Small, Read, read-header}
 use Rattle.laws.proofs.Limits.{small-dims}
@@ -160,9 +160,8 @@ module _ (s : Setting) (d : Dimensions) (E : ℕ) (ws b : List ℕ) (h : HasFile
   length-body = simp (length-append, length-bytesOf) (omega arith)
 
   pub file-right : HeaderRight b
-  unfolding kindAllowed countsRight counts
+  unfolding countsRight counts
   file-right =
-      let a = small-setting s (h .setting) in
       let n : length (kept E ws) ≤ cells d = omega (arith, length-kept-le E ws, h .size) in
       let e1 : leb (wordsCount b) (cells (dimensionsOf b)) ≡ true = rw (rd .words, rd .dims) (le-leb (length (kept E ws)) (cells d) n) in
       let e2 : codec (settingOf b) .counts (cells (dimensionsOf b)) (wordsCount b) (firstCount b) (secondCount b) ≡ true
@@ -175,7 +174,7 @@ module _ (s : Setting) (d : Dimensions) (E : ℕ) (ws b : List ℕ) (h : HasFile
       let e7 : eqb (length b) (endAt b) ≡ true = eq-eqb (length b) (endAt b) (omega (arith, rd .size, length-body, ends)) in
       record {
         long = omega (arith, rd .size);
-        kind = rw (rd .setting) (both-make (leb 1 (s .kind)) (leb (s .kind) 5) (le-leb 1 (s .kind) (a .kind-least)) (le-leb (s .kind) 5 (a .kind)));
+        kind = rw (rd .setting) (kind-allowed s (h .setting));
         setting = rw (rd .setting) (h .setting);
         dims = rw (rd .dims) (h .dims);
         counts = rw (e1, e2, e3, e4, e5, e6, e7);

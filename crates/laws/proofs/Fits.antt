@@ -8,20 +8,20 @@ use mathlib.Core.List.{List}
 use native.Mathlib.Omega.{arith}
 use lib.ListN.{length, getD, set, length-set}
 use lib.Seq.{getD-set-same, getD-set-other, ext-getD}
-use lib.Dec.{eqb, leb, ltb}
-use borrow.Author.Tests.{eq-eqb, lt-ltb, le-ltb, le-leb, ltb-false, eqb-true, eqb-false}
+use lib.Dec.{eqb, ltb}
+use borrow.Author.Tests.{eq-eqb, lt-ltb, le-ltb, ltb-false, eqb-true, eqb-false}
 use Rattle.format.specs.Tools.{Below}
 use Rattle.format.specs.declared.Dimensions.{Dimensions}
 use Rattle.format.specs.declared.Setting.{Setting}
 use Rattle.format.specs.Picture.{cells, dimensionsAllowed}
 use Rattle.format.specs.Stored.{stored}
-use Rattle.format.specs.Kinds.{codec, kindAllowed, settingAllowed}
+use Rattle.format.specs.Kinds.{codec, settingAllowed}
 use Rattle.format.specs.File.{layout, HasFile}
 use Rattle.format.specs.Answers.{empty}
 use Rattle.format.specs.Calls.{outNumber, settingNumber, makeNumber, writeSignal, changeSignal, writeNumber, writtenFile, changeNumber, changedFile}
 use Rattle.format.specs.Lookups.{rankIn}
-use Rattle.laws.proofs.Tools.{cases, refuse-zero, both-make}
-use Rattle.laws.proofs.Settings.{small-setting}
+use Rattle.laws.proofs.Tools.{cases, refuse-zero}
+use Rattle.laws.proofs.Settings.{kind-allowed}
 use Rattle.laws.proofs.Calls.{write-number, written-file, change-number, changed-file, make-has-file, setting-zero}
 
 -- ---- room
@@ -36,12 +36,6 @@ unfolding outNumber
 out-room s d E ws room e =
     let t = refuse-zero 8 (codec s .unfit (stored E ws)) _ e in
     ltb-false room (length (layout s d E ws)) (refuse-zero 9 (ltb room (length (layout s d E ws))) 0 (t .1) .0)
-
-kind-of : (s : Setting) → settingAllowed s ≡ true → kindAllowed s ≡ true
-unfolding kindAllowed
-kind-of s h =
-    let a = small-setting s h in
-    both-make (leb 1 (s .kind)) (leb (s .kind) 5) (le-leb 1 (s .kind) (a .kind-least)) (le-leb (s .kind) 5 (a .kind))
 
 -- ---- accepted exactly when it fits
 
@@ -59,7 +53,7 @@ make-iff s d E ws room k w = (only, made)
 
     made : HasFile s d E ws (layout s d E ws) × (length (layout s d E ws) ≤ room) → makeNumber s d E ws room ≡ 0
     made h =
-        rw (kind-of s (h .0 .setting), h .0 .setting, h .0 .dims, eq-eqb (length ws) (cells d) (h .0 .size))
+        rw (kind-allowed s (h .0 .setting), h .0 .setting, h .0 .dims, eq-eqb (length ws) (cells d) (h .0 .size))
         (out-zero s d E ws room (h .0 .fits) (h .1))
 
 module _ (s : Setting) (d : Dimensions) (E : ℕ) (ws b : List ℕ) (h : HasFile s d E ws b) where
@@ -73,7 +67,7 @@ module _ (s : Setting) (d : Dimensions) (E : ℕ) (ws b : List ℕ) (h : HasFile
   pub change-accepts : (s′ : Setting) (room : ℕ) → settingAllowed s′ ≡ true → codec s′ .unfit (stored E ws) ≡ false → length (layout s′ d E ws) ≤ room
       → changeNumber b s′ room ≡ 0
   unfolding changeSignal settingNumber
-  change-accepts s′ room a f r = change-number s d E ws b h s′ room ∙ rw (kind-of s′ a, a) (out-zero s′ d E ws room f r)
+  change-accepts s′ room a f r = change-number s d E ws b h s′ room ∙ rw (kind-allowed s′ a, a) (out-zero s′ d E ws room f r)
 
   -- the word already there: accepted where the file itself has room, and the same file
   set-there : (p : ℕ) → p < length ws → set ws p (getD ws p 0) ≡ ws

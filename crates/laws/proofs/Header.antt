@@ -4,7 +4,7 @@ use mathlib.Core.Path.{_≡_, refl}
 use mathlib.Core.List.{List, [], _∷_, _++_}
 use native.Mathlib.Omega.{arith}
 use lib.ListN.{length, drop}
-use Rattle.format.specs.Bytes.{bytes, number, bytesOf, field, numbersOf}
+use Rattle.format.specs.Bytes.{bytes, bytesOf, field, numbersOf}
 use Rattle.format.specs.declared.Dimensions.{Dimensions}
 use Rattle.format.specs.declared.Setting.{Setting}
 use Rattle.format.specs.File.{headerLength, Counts, header}

@@ -1,21 +1,20 @@
 -- The parts of each kind: the positions come back, and sizes and counts are those that the layout gives. Assumes nothing.
 use Prim.Native.Nat.{ℕ, _+_, _-_, _*_, _^_, _≤_}
 use mathlib.Core.Path.{_≡_, refl, _∙_, subst}
-use mathlib.Core.Bool.{true, false, not}
+use mathlib.Core.Bool.{true, false}
 use mathlib.Core.List.{List, _++_}
 use native.Mathlib.Nat.{le-refl, mul-le-mul}
 use native.Mathlib.Omega.{arith}
 use lib.ListN.{length}
-use lib.Dec.{eqb, leb}
 use borrow.Author.Tests.{eq-eqb, le-leb}
 use Rattle.format.specs.Tools.{Below, upTo}
 use Rattle.format.specs.Bytes.{bytesOf, numbersOf}
-use Rattle.format.specs.Runs.{Run, Span, runs, spans, flatRuns, runParts, runsKind}
+use Rattle.format.specs.Runs.{runs, spans, flatRuns, runParts, runsKind}
 use Rattle.format.specs.PagedRuns.{flatSpans, level, upperLevels, upperEntries, pagedParts, pagesKind}
 use Rattle.format.specs.BaseOffset.{bases, offsets, offsetsFit, basedParts, basedKind}
 use Rattle.format.specs.Jumps.{differences, jumps, jumpParts, jumpsKind}
 use Rattle.format.specs.Positions.{positionParts, positionsKind}
-use Rattle.format.specs.Codec.{Codec, Parts}
+use Rattle.format.specs.Codec.{Codec}
 use Rattle.format.specs.declared.Setting.{Setting}
 use Rattle.format.specs.Kinds.{codec, settingAllowed}
 use Rattle.laws.proofs.Stored.{Rising, rising-length}
@@ -23,7 +22,7 @@ use Rattle.laws.proofs.Tools.{not-false}
 use Rattle.laws.proofs.Bytes.{length-bytesOf, numbersOf-bytesOf, below-bytesOf}
 use Rattle.laws.proofs.Positions.{based-back, length-bases, length-offsets, jumps-back, runs-back, pairs-back, runs-in-flat, spans-in-flat, length-flatRuns, length-flatSpans}
 use Rattle.laws.proofs.Bounds.{below-rising, below-widen, below-bases, below-offsets, upTo-le, length-differences, below-differences, below-jumpsOf, length-jumpsOf, below-runs, length-runs, length-level, length-upperLevels, upperEntries-le, below-level, length-spans}
-use Rattle.laws.proofs.Settings.{setting, by-kind}
+use Rattle.laws.proofs.Settings.{by-kind}
 
 -- what is known of the parts of the stored positions ls of n cells in a kind
 pub record Known (c : Codec) (n : ℕ) (ls : List ℕ) : Type 0 where

@@ -1,7 +1,6 @@
 -- For each kind: the positions come back from its parts. Assumes nothing.
 use Prim.Native.Nat.{ℕ, zero, suc, _+_, _-_, _*_, _/_, _^_, _≤_, _<_}
 use mathlib.Core.Path.{_≡_, refl, sym, ap, _∙_}
-use mathlib.Core.Bool.{true, false, not}
 use mathlib.Core.List.{List, [], _∷_, _++_}
 use native.Mathlib.Nat.{suc-mul, le-div-iff-mul-le, le-refl, add-sub-of-le, div-mul-le-self, add-sub-cancel-left}
 use native.Mathlib.Omega.{arith}
@@ -10,7 +9,7 @@ use lib.Seq.{ext-getD, append-snoc}
 use lib.Dec.{eqb, leb}
 use lib.Arith.{lt-of-le-ne}
 use borrow.Author.Tests.{eqb-true, eqb-false}
-use Rattle.format.specs.Tools.{listed, range, upTo}
+use Rattle.format.specs.Tools.{range, upTo}
 use Rattle.format.specs.Runs.{Run, Span, runAt, runsFrom, runs, spansFrom, spans, positionsFrom, flatRuns, runsIn}
 use Rattle.format.specs.PagedRuns.{flatSpans, spansIn, plus, none, sumsFrom, level, pairsFrom, pairsOf}
 use Rattle.format.specs.BaseOffset.{bases, offsets, basedPositions}

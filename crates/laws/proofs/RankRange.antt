@@ -1,11 +1,10 @@
 -- A rank range's part is the stored bytes of those ranks. Assumes nothing.
 use Prim.Native.Nat.{ℕ, zero, suc, _+_, _-_, _*_}
 use mathlib.Core.Path.{_≡_, refl, sym, ap, _∙_}
-use mathlib.Core.Bool.{not}
 use mathlib.Core.List.{List, [], _∷_, _++_}
 use native.Mathlib.Nat.{mul-suc, mul-zero}
 use native.Mathlib.Omega.{arith}
-use lib.ListN.{length, take, drop}
+use lib.ListN.{take, drop}
 use lib.Seq.{take-add, drop-at, take-at, drop-drop}
 use Rattle.format.specs.Bytes.{bytes, bytesOf}
 use Rattle.format.specs.Accepted.{wordsAt, keptOf, checkNumber}

@@ -1,7 +1,6 @@
 -- The rank lookups of kinds 1 and 5, and the position lookup along runs, give those of the picture. Assumes nothing.
 use Prim.Native.Nat.{ℕ, zero, suc, _+_, _-_, _≤_, _<_}
 use mathlib.Core.Path.{_≡_, refl, sym, ap, _∙_}
-use mathlib.Core.Bool.{true, false, not}
 use mathlib.Core.List.{List, [], _∷_}
 use native.Mathlib.Nat.{le-refl, sub-zero, sub-add-eq}
 use native.Mathlib.Omega.{arith}
@@ -11,7 +10,7 @@ use borrow.Author.Tests.{eq-eqb, ne-eqb, eqb-true, leb-true, leb-false, ltb-true
 use Rattle.format.specs.Tools.{pick}
 use Rattle.format.specs.Stored.{stored}
 use Rattle.format.specs.Runs.{Run, Span, runAt, runsFrom, runs, spansFrom, spans, runRankFrom, runRank, runPosition}
-use Rattle.format.specs.PagedRuns.{plus, none, allCells, storedCells, positionAtPlace, Place, at, rankAtPlace, descent}
+use Rattle.format.specs.PagedRuns.{plus, none, allCells, storedCells, positionAtPlace, rankAtPlace, descent}
 use Rattle.format.specs.Answers.{empty, given}
 use Rattle.format.specs.Lookups.{rankIn, positionIn}
 use Rattle.laws.proofs.Stored.{Rising, rising}

@@ -1,14 +1,14 @@
 -- An allowed setting is one of five shapes: the case analysis by kind, once. Assumes nothing.
 use Prim.Native.Nat.{ℕ, zero, suc, _≤_, _<_}
-use mathlib.Core.Path.{_≡_, refl, sym, ap, subst, subst₂}
-use mathlib.Core.Bool.{true, false, not}
+use mathlib.Core.Path.{_≡_, refl, sym, subst, subst₂}
+use mathlib.Core.Bool.{true, false}
 use native.Mathlib.Omega.{arith}
 use lib.Dec.{eqb}
 use borrow.Author.Tests.{eqb-true}
-use Rattle.format.specs.Tools.{both, within}
+use Rattle.format.specs.Tools.{within}
 use Rattle.format.specs.declared.Setting.{Setting}
 use Rattle.format.specs.Codec.{noCodec}
-use Rattle.format.specs.Kinds.{codec, codecOf, settingAllowed}
+use Rattle.format.specs.Kinds.{codec, codecOf, lastKind, kindAllowed, settingAllowed}
 use Rattle.format.specs.Runs.{runsKind}
 use Rattle.format.specs.Positions.{positionsKind}
 use Rattle.format.specs.BaseOffset.{basedKind}
@@ -60,7 +60,7 @@ by-kind P five s h = go (s .kind) (s .width) (s .step) h
 -- an allowed setting fits its fields
 pub record SmallSetting (s : Setting) : Type 0 where
   pub kind-least : 1 ≤ s .kind
-  pub kind : s .kind ≤ 5
+  pub kind : s .kind ≤ lastKind
   pub width : s .width < 256
   pub step : s .step < 256
 
@@ -74,6 +74,13 @@ small-setting =
       jumps = λ w a b. record { kind-least = omega arith; kind = omega arith; width = omega arith; step = omega arith };
       paged = λ b a c. record { kind-least = omega arith; kind = omega arith; width = omega arith; step = omega arith };
     })
+
+-- its kind is one of the kinds
+pub kind-allowed : (s : Setting) → settingAllowed s ≡ true → kindAllowed s ≡ true
+unfolding kindAllowed
+kind-allowed =
+    by-kind (λ s. kindAllowed s ≡ true)
+    (record { runs = refl; positions = refl; based = λ w l _ _ _ _. refl; jumps = λ w _ _. refl; paged = λ b _ _. refl })
 
 -- none of the kinds
 pub no-kind : (k w l : ℕ) → (k ≡ 1 → ⊥) → (k ≡ 2 → ⊥) → (k ≡ 3 → ⊥) → (k ≡ 4 → ⊥) → (k ≡ 5 → ⊥) → codecOf k w l ≡ noCodec

@@ -1,7 +1,7 @@
 -- Laws of the stored cells: rising positions, and the words back from them. Assumes nothing.
 use Prim.Native.Nat.{ℕ, zero, suc, _+_, _-_, _≤_, _<_}
 use mathlib.Core.Path.{_≡_, refl, sym, ap, subst}
-use mathlib.Core.Bool.{true, false, not}
+use mathlib.Core.Bool.{false}
 use mathlib.Core.List.{List, [], _∷_, _++_}
 use native.Mathlib.Nat.{add-zero, add-suc, suc-add, le-refl}
 use native.Mathlib.Omega.{arith}
@@ -10,7 +10,7 @@ use lib.ListN.{length}
 use lib.Dec.{eqb}
 use borrow.Author.Tests.{eqb-true, eqb-false, eq-eqb, ne-eqb}
 use Rattle.format.specs.Tools.{Below, first, others}
-use Rattle.format.specs.Stored.{storedFrom, stored, kept, placedFrom, placed}
+use Rattle.format.specs.Stored.{storedFrom, stored, kept, placedFrom}
 use Rattle.laws.proofs.Tools.{cases}
 
 -- strictly rising, from `least` on and below `bound`

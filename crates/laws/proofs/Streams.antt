@@ -2,7 +2,6 @@
 -- (The other kinds' definitions have this form already.) Assumes nothing.
 use Prim.Native.Nat.{ℕ, zero, suc, _+_, _-_, _*_, _/_, _≤_, _<_}
 use mathlib.Core.Path.{_≡_, refl, sym, ap, _∙_}
-use mathlib.Core.Bool.{true, false}
 use mathlib.Core.List.{List, [], _∷_}
 use native.Mathlib.Nat.{zero-div, suc-mul, zero-mul, zero-add, suc-add, sub-zero, suc-sub-suc, zero-sub, div-eq-of-lt, div-eq-sub-div}
 use native.Mathlib.Numerals.{add-one}
@@ -11,7 +10,7 @@ use lib.ListN.{length, getD}
 use lib.Seq.{ext-getD}
 use lib.Dec.{ltb}
 use borrow.Author.Tests.{ltb-true, ltb-false, lt-ltb, le-ltb}
-use Rattle.format.specs.Tools.{pick, listed, upTo}
+use Rattle.format.specs.Tools.{pick, upTo}
 use Rattle.format.specs.BaseOffset.{bases, offsets}
 use Rattle.laws.proofs.Tools.{cases, length-listed, getD-listed}
 use Rattle.laws.proofs.Bounds.{upTo-suc, upTo-zero}

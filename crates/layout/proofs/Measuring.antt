@@ -1,5 +1,5 @@
 -- What an encoder that has taken all stored positions has measured. Assumes nothing.
-use Prim.Native.Nat.{ℕ, _+_, _*_, _≤_}
+use Prim.Native.Nat.{ℕ, _≤_}
 use mathlib.Core.Path.{_≡_, refl, sym, ap, _∙_}
 use mathlib.Core.Bool.{Bool, true, false, not}
 use mathlib.Core.List.{List}
@@ -11,9 +11,7 @@ use Rattle.format.specs.Kinds.{codec, settingAllowed}
 use Rattle.laws.proofs.Stored.{Rising, rising-widen, rising-length}
 use Rattle.laws.proofs.Parts.{Known, known}
 use Rattle.parts.specs.declared.Encoder.{Encoder}
-use Rattle.parts.specs.declared.Sizes.{Sizes}
 use Rattle.parts.specs.Encoder.{begun, endedBy}
-use Rattle.parts.specs.Ready.{passed}
 use Rattle.parts.specs.Codes.{PutOut, sizesIn}
 use Rattle.parts.proofs.Sounds.{sound-begun}
 use Rattle.parts.proofs.Taking.{first-all, second-all}

@@ -1,5 +1,5 @@
 -- The number of a range of ranks, and the part that is handed back. Assumes nothing.
-use Prim.Native.Nat.{ℕ, zero, suc, _+_, _-_, _*_, _≤_, _<_}
+use Prim.Native.Nat.{ℕ, _+_, _-_, _*_, _≤_, _<_}
 use mathlib.Core.Path.{_≡_, refl, sym, ap, _∙_}
 use mathlib.Core.Bool.{not}
 use mathlib.Core.List.{List, []}
@@ -10,7 +10,7 @@ use denote.Ref.{RefT, now, ptr}
 use borrow.Author.Tests.{leb-true, le-leb, lt-leb, ne-eqb, eqb-true, eqb-false}
 use Rattle.format.specs.declared.View.{View}
 use Rattle.format.specs.Tools.{both}
-use Rattle.format.specs.Signals.{BEYOND, orElse}
+use Rattle.format.specs.Signals.{BEYOND}
 use Rattle.format.specs.Accepted.{wordsAt, checkNumber}
 use Rattle.format.specs.RankRange.{ranksNumber, ranksFrom, ranksBytes, RanksPart}
 use Rattle.laws.proofs.Tools.{cases, both-true, not-false, refuse-zero, orElse-zero}

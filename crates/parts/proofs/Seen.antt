@@ -1,28 +1,27 @@
 -- What is known of a file by its view, said once: of a header that is right, and of an accepted file. Assumes nothing.
-use Prim.Native.Nat.{ℕ, suc, _+_, _*_, _^_, _≤_}
-use mathlib.Core.Path.{_≡_, refl, sym, ap, _∙_, subst}
+use Prim.Native.Nat.{ℕ, suc, _+_, _*_}
+use mathlib.Core.Path.{_≡_, refl, sym, ap, _∙_}
 use mathlib.Core.Bool.{Bool, true, false, not}
 use mathlib.Core.List.{List, [], _∷_}
 use native.Mathlib.Omega.{arith}
-use lib.ListN.{length, take, drop}
+use lib.ListN.{length, drop}
 use lib.Dec.{leb, ltb, eqb}
 use borrow.Author.Tests.{eqb-true, eq-eqb, leb-true, ltb-true, le-leb, lt-ltb, not-true}
 use Rattle.format.specs.declared.View.{View}
-use Rattle.format.specs.declared.Setting.{Setting}
-use Rattle.format.specs.Tools.{Below, both, same}
-use Rattle.format.specs.Picture.{cells, mostCells}
+use Rattle.format.specs.Tools.{both, same}
+use Rattle.format.specs.Picture.{cells}
 use Rattle.format.specs.Stored.{stored, kept}
 use Rattle.format.specs.Codec.{Codec}
-use Rattle.format.specs.Kinds.{codec, codecOf, settingAllowed}
+use Rattle.format.specs.Kinds.{codec, settingAllowed}
 use Rattle.format.specs.File.{headerLength, HasFile}
-use Rattle.format.specs.Accepted.{settingOf, dimensionsOf, emptyOf, wordsCount, firstCount, secondCount, firstOffset, secondOffset, wordsOffset, secondAt, wordsAt, endAt, countsRight, positionsOf, keptOf, wordsOf, headerNumber, checkNumber}
+use Rattle.format.specs.Accepted.{settingOf, dimensionsOf, emptyOf, wordsCount, firstCount, secondCount, secondAt, wordsAt, endAt, countsRight, positionsOf, keptOf, wordsOf, headerNumber, checkNumber}
 use Rattle.format.specs.Opened.{viewOf}
 use Rattle.laws.proofs.Tools.{both-true, same-eq, same-true}
 use Rattle.laws.proofs.Stored.{Rising}
 use Rattle.laws.proofs.Limits.{small-dims}
 use Rattle.laws.proofs.Files.{HeaderRight, positions-back, kept-back}
 use Rattle.laws.proofs.Acceptance.{header-right, accepted, accepted-has-file}
-use Rattle.laws.proofs.Check.{BodyBy, CountsBy, counts-by, by-body, length-numbersOf}
+use Rattle.laws.proofs.Check.{counts-by, by-body, length-numbersOf}
 use Rattle.parts.specs.Holds.{Counted, said, rises, partsOf, partsRight, Holds, kindOf, ViewOf, HeaderView, firstBytes, secondBytes}
 
 -- ---- the tests of a check as types

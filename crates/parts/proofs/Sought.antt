@@ -1,11 +1,8 @@
 -- A walk to the first position from p on: what is left of it gives the whole. Assumes nothing.
 use Prim.Native.Nat.{ℕ, zero, suc, _+_, _-_, _≤_, _<_}
 use mathlib.Core.Path.{_≡_, refl, sym, ap, _∙_}
-use mathlib.Core.Bool.{false}
 use native.Mathlib.Omega.{arith}
-use lib.Dec.{ltb}
 use borrow.Author.Tests.{lt-ltb, le-ltb}
-use Rattle.format.specs.Tools.{pick, both}
 use Rattle.laws.proofs.Tools.{both-false}
 use Rattle.parts.specs.declared.Cursor.{Cursor}
 use Rattle.parts.specs.Walks.{sought}

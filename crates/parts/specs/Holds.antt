@@ -8,7 +8,7 @@ use lib.Dec.{leb, ltb, eqb}
 use Rattle.format.specs.declared.View.{View}
 use Rattle.format.specs.Tools.{both, same}
 use Rattle.format.specs.Picture.{mostCells}
-use Rattle.format.specs.Codec.{Codec, Parts}
+use Rattle.format.specs.Codec.{Codec}
 use Rattle.format.specs.Kinds.{codecOf}
 use Rattle.format.specs.Accepted.{headerNumber, checkNumber}
 use Rattle.format.specs.Opened.{viewOf}

@@ -1,14 +1,14 @@
 -- The positions that the first part says, and what they are where it holds stored positions. Assumes nothing.
-use Prim.Native.Nat.{ℕ, _+_, _-_, _*_, _^_, _≤_, _<_}
+use Prim.Native.Nat.{ℕ, _+_, _-_, _*_, _≤_, _<_}
 use mathlib.Core.Path.{_≡_, refl, sym, ap, _∙_}
 use mathlib.Core.Bool.{Bool, true, false, not}
-use mathlib.Core.List.{List, []}
+use mathlib.Core.List.{List}
 use native.Mathlib.Omega.{arith}
 use lib.ListN.{length, take, drop, getD, length-drop}
 use lib.Dec.{eqb}
 use borrow.Author.Tests.{eq-eqb, eqb-true}
 use Rattle.format.specs.declared.View.{View}
-use Rattle.format.specs.Tools.{Below, both, same}
+use Rattle.format.specs.Tools.{Below, both}
 use Rattle.format.specs.Bytes.{numbersOf, bytesOf}
 use Rattle.format.specs.Positions.{positionParts, positionsKind}
 use Rattle.laws.proofs.Tools.{both-true, both-one, same-eq}

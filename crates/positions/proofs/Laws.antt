@@ -1,26 +1,25 @@
 -- The cursor walks the stored positions, and the coder puts them out. Assumes nothing.
-use Prim.Native.Nat.{ℕ, zero, suc, _+_, _-_, _*_, _/_, _^_, _≤_}
+use Prim.Native.Nat.{ℕ, suc, _+_, _-_, _*_, _/_, _^_, _≤_}
 use mathlib.Core.Path.{_≡_, refl, sym, ap, _∙_}
-use mathlib.Core.Bool.{true, false}
+use mathlib.Core.Bool.{true}
 use mathlib.Core.List.{List, [], _∷_, _++_}
 use native.Mathlib.Nat.{add-zero}
-use native.Mathlib.Numerals.{add-one}
 use native.Mathlib.Omega.{arith}
-use lib.ListN.{length, take, drop, getD}
+use lib.ListN.{length, getD}
 use Rattle.format.specs.declared.View.{View}
 use Rattle.format.specs.Tools.{Below}
 use Rattle.format.specs.Bytes.{bytes, bytesOf}
 use Rattle.format.specs.Picture.{mostCells}
 use Rattle.format.specs.Positions.{positionParts, positionsKind}
 use Rattle.laws.proofs.Bytes.{length-bytes, length-bytesOf}
-use Rattle.laws.proofs.Stored.{Rising, rising-length}
+use Rattle.laws.proofs.Stored.{Rising}
 use Rattle.laws.proofs.Bounds.{below-rising, below-widen}
 use Rattle.parts.specs.declared.Cursor.{Cursor}
 use Rattle.parts.specs.declared.Encoder.{Encoder}
 use Rattle.parts.specs.Holds.{Holds}
 use Rattle.parts.specs.Walks.{Walks}
 use Rattle.parts.specs.Cursor.{add32, movedTo, before}
-use Rattle.parts.specs.Encoder.{Coder, unchanged, begun, takenBy, endedBy, takenAllBy, firstsBy}
+use Rattle.parts.specs.Encoder.{unchanged, begun, takenBy, endedBy, takenAllBy, firstsBy}
 use Rattle.parts.specs.Ready.{Next, moved}
 use Rattle.parts.specs.Codes.{sizesIn, PutOut, Codes}
 use Rattle.parts.proofs.Steps.{upper, RanksFit, upper-next, ranks-rest, kept-walk}

@@ -1,5 +1,5 @@
 -- A walk along the ranks of a file into an encoder. Assumes nothing.
-use Prim.Native.Nat.{ℕ, _-_}
+use Prim.Native.Nat.{ℕ}
 use mathlib.Core.List.{List, [], _∷_}
 use Rattle.format.specs.declared.Setting.{Setting}
 use Rattle.format.specs.declared.View.{View}

@@ -1,12 +1,11 @@
 -- The pairs of the first part as runs, by their place in the file; two small tools. Assumes nothing.
-use Prim.Native.Nat.{ℕ, zero, suc, _+_, _*_, _<_}
-use mathlib.Core.Path.{_≡_, refl, ap, _∙_}
+use Prim.Native.Nat.{ℕ, zero, suc, _+_, _*_}
+use mathlib.Core.Path.{_≡_, refl, ap}
 use mathlib.Core.Bool.{true, false}
 use mathlib.Core.List.{List, [], _∷_}
 use native.Mathlib.Omega.{arith}
-use lib.ListN.{length, getD, drop}
+use lib.ListN.{length, drop}
 use lib.Seq.{drop-drop}
-use Rattle.format.specs.Tools.{Below}
 use Rattle.format.specs.Bytes.{field, numbersOf}
 use Rattle.format.specs.Runs.{Run, flatRuns, runsIn}
 

@@ -1,8 +1,8 @@
 -- The word of a cell by its rank. Assumes nothing.
-use Prim.Native.Nat.{ℕ, zero, suc, _+_, _*_, _≤_, _<_}
-use mathlib.Core.Path.{_≡_, refl, sym, ap, _∙_}
+use Prim.Native.Nat.{ℕ, zero, suc, _+_, _*_, _<_}
+use mathlib.Core.Path.{_≡_, sym, ap, _∙_}
 use mathlib.Core.Logic.{_⊎_, ⊎-elim}
-use mathlib.Core.Bool.{true, false}
+use mathlib.Core.Bool.{false}
 use mathlib.Core.List.{List, [], _∷_}
 use native.Mathlib.Omega.{arith}
 use lib.ListN.{length, getD, take}
@@ -16,7 +16,7 @@ use Rattle.format.specs.declared.RankAnswer.{RankAnswer}
 use Rattle.format.specs.declared.RankAnswer.the-variants as ra
 use Rattle.format.specs.Answers.{Answer, refused, empty, given, rankSays}
 use Rattle.format.specs.Stored.{stored, kept, rankAt}
-use Rattle.format.specs.Accepted.{settingOf, emptyOf, wordsOf, wordsCount, wordsAt, keptOf}
+use Rattle.format.specs.Accepted.{emptyOf, wordsOf, wordsCount, wordsAt, keptOf}
 use Rattle.format.specs.Lookups.{cellIn, rankIn}
 use Rattle.format.specs.Opened.{viewOf, Free, FreeWord}
 use Rattle.wire.specs.Wire.{whole}

@@ -1,7 +1,7 @@
 -- The answers of the searches on an accepted file. Assumes nothing.
-use Prim.Native.Nat.{ℕ, _+_, _≤_, _<_}
-use mathlib.Core.Path.{_≡_, sym, ap, ap₂, _∙_}
-use mathlib.Core.Bool.{Bool, true, false}
+use Prim.Native.Nat.{ℕ, _≤_, _<_}
+use mathlib.Core.Path.{_≡_, sym, ap, _∙_}
+use mathlib.Core.Bool.{true}
 use mathlib.Core.List.{List}
 use native.Mathlib.Nat.{zero-add}
 use native.Mathlib.Omega.{arith}
@@ -20,7 +20,7 @@ use Rattle.parts.specs.declared.Found.{Found}
 use Rattle.parts.specs.Holds.{ViewOf, kindOf}
 use Rattle.parts.specs.Found.{countBelow, among, FoundIn, PositionIn}
 use Rattle.parts.proofs.Places.{rising-below, rank-found}
-use Rattle.parts.proofs.Seen.{Seen, seen}
+use Rattle.parts.proofs.Seen.{seen}
 use Rattle.search.specs.Searched.{rankFrom, RankSearched, PositionSearched}
 
 module _ (b : List ℕ) (v : View) where

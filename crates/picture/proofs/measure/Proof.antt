@@ -10,7 +10,7 @@ use Rattle.parts.specs.declared.Encoder.{Encoder}
 use Rattle.parts.specs.Encoder.{begun}
 use Rattle.parts.specs.Batch.{Along}
 use Rattle.kinds.specs.Coding.{takenAll}
-use Rattle.layout.specs.Laid.{measuredBy, Bounded, Measures}
+use Rattle.layout.specs.Laid.{measuredBy, Bounded}
 use Rattle.layout.proofs.Measuring.{measures, bounded}
 use Rattle.picture.proofs.Chunks.{left, next-cut, along-begun, left-all, all-done, length-chunk, along-chunk, along-left, all-left}
 use borrow.Author.Needs.{needs}

@@ -1,4 +1,3 @@
-use borrow.Author.Needs.{needs}
 use Rattle.search.proofs.rank_answer.Statement.{statement}
 use Rattle.search.proofs.rank_answer.Tie as tie
 

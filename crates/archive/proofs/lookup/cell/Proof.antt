@@ -1,5 +1,4 @@
 use borrow.Author.Needs.{needs}
-use Rattle.format.specs.Answers.{cellSays}
 use Rattle.archive.proofs.Answers.{cell-refused, cell-found}
 use Rattle.archive.proofs.lookup.cell.Statement.{statement}
 use Rattle.archive.proofs.lookup.cell.Tie as tie

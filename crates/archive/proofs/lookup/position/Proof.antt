@@ -1,5 +1,4 @@
 use borrow.Author.Needs.{needs}
-use Rattle.format.specs.Answers.{positionSays}
 use Rattle.archive.proofs.Answers.{position-refused, position-found}
 use Rattle.archive.proofs.lookup.position.Statement.{statement}
 use Rattle.archive.proofs.lookup.position.Tie as tie

@@ -1,5 +1,4 @@
 use borrow.Author.Needs.{needs}
-use Rattle.format.specs.Answers.{rankSays}
 use Rattle.archive.proofs.Answers.{rank-refused, rank-found}
 use Rattle.archive.proofs.lookup.rank.Statement.{statement}
 use Rattle.archive.proofs.lookup.rank.Tie as tie

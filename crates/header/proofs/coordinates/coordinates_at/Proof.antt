@@ -18,7 +18,7 @@ use prog.Wp.{Heap, Env, Calls, Loops, WpFn, Tables}
 use ghost.Atoms.{Atoms, sem}
 use contract.Monad.{Fun, fact}
 use contract.Running.{givenOf, tables, tablesOf}
-use types.Kit.{Given, Item, Sq, runs, ‵, raw, prop, frees, atRet, _⊛_, some as any, later, _$_, _∵_, !, qed, by, move, keep, drop, use0, use1, split, join, pick, fjoin, suffices, frame, await, rewrite, done}
+use types.Kit.{Given, Item, Sq, runs, ‵, raw, prop, frees, atRet, _⊛_, some as any, later, _$_, _∵_, !, qed, by, move, keep, drop, use0, use1, split, pick, fjoin, suffices, frame, await, rewrite, done}
 use types.Run.{look, init, forget, stop, from, load, lit, bin, and-then, no-more, assigns, land, first, skips, branches, exec, returns, returns-within, enter, alloc1, alloc0, params1, pass1, pass0, free1, free0}
 use types.Part.{agg}
 use sound.WpLaws.{FmC, fmOf, WpFn-mono}

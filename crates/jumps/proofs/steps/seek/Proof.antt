@@ -1,5 +1,5 @@
 -- What is left of the walk gives the whole, and the ranks ahead fall. Assumes nothing.
-use Prim.Native.Nat.{_+_, _-_, _<_, _^_}
+use Prim.Native.Nat.{_+_, _-_}
 use mathlib.Core.Path.{_≡_, refl, ap, _∙_}
 use native.Mathlib.Omega.{arith}
 use Rattle.parts.specs.Walks.{sought}

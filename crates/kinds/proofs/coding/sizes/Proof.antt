@@ -1,6 +1,5 @@
 use Rattle.kinds.proofs.At.{setting-allowed, setting-sizes}
 use Rattle.kinds.proofs.None.{no-setting}
-use borrow.Author.Needs.{needs}
 use Rattle.kinds.proofs.coding.sizes.Statement.{statement}
 use Rattle.kinds.proofs.coding.sizes.Tie as tie
 

@@ -1,6 +1,5 @@
 use Rattle.kinds.proofs.At.{setting-allowed, setting-taken}
 use Rattle.kinds.proofs.None.{no-setting}
-use borrow.Author.Needs.{needs}
 use Rattle.kinds.proofs.coding.take_all.Statement.{statement}
 use Rattle.kinds.proofs.coding.take_all.Tie as tie
 

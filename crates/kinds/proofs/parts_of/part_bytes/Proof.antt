@@ -1,6 +1,5 @@
 use Rattle.kinds.proofs.At.{view-allowed, view-sized}
 use Rattle.kinds.proofs.None.{not-allowed}
-use borrow.Author.Needs.{needs}
 use Rattle.kinds.proofs.parts_of.part_bytes.Statement.{statement}
 use Rattle.kinds.proofs.parts_of.part_bytes.Tie as tie
 

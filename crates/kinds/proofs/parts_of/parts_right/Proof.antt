@@ -1,6 +1,5 @@
 use Rattle.kinds.proofs.At.{view-counted, view-right}
 use Rattle.kinds.proofs.None.{not-allowed}
-use borrow.Author.Needs.{needs}
 use Rattle.kinds.proofs.parts_of.parts_right.Statement.{statement}
 use Rattle.kinds.proofs.parts_of.parts_right.Tie as tie
 

@@ -1,5 +1,4 @@
-use mathlib.Core.Path.{_≡_, refl, sym, _∙_}
-use mathlib.Core.Bool.{true, false}
+use mathlib.Core.Path.{sym, _∙_}
 use native.Mathlib.Omega.{arith}
 use Rattle.kinds.proofs.Numbers.{number-low, number-high, number-right, number-wrong}
 use borrow.Author.Needs.{needs}

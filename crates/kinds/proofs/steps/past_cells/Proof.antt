@@ -3,7 +3,6 @@ use mathlib.Core.Path.{sym, ap, _∙_}
 use mathlib.Core.Logic.{⊎-elim}
 use Rattle.parts.specs.Cursor.{steppedAs}
 use Rattle.kinds.specs.Steps.{nextBy, nextOf, steppedBy}
-use borrow.Author.Needs.{needs}
 use Rattle.kinds.proofs.steps.past_cells.Statement.{statement}
 use Rattle.kinds.proofs.steps.past_cells.Tie as tie
 

@@ -1,5 +1,4 @@
 use mathlib.Core.Path.{ap, _∙_}
-use Rattle.parts.specs.declared.Cursor.{Cursor}
 use Rattle.kinds.specs.Steps.{nextOf, startOf}
 use borrow.Author.Needs.{needs}
 use Rattle.kinds.proofs.steps.start.Statement.{statement}

@@ -1,5 +1,4 @@
 use Rattle.lent_parts.proofs.Range.{file-refused, range-crossed, range-beyond, range-inside}
-use borrow.Author.Needs.{needs}
 use Rattle.lent_parts.proofs.ranks.range_number.Statement.{statement}
 use Rattle.lent_parts.proofs.ranks.range_number.Tie as tie
 

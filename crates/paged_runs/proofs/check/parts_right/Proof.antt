@@ -1,10 +1,7 @@
 use Rattle.laws.proofs.Bounds.{below-elements}
 -- `parts_right` meets its contract. Assumes nothing.
-use Prim.Native.Nat.{ℕ, suc, _<_}
 use mathlib.Core.Path.{sym, _∙_}
-use mathlib.Core.List.{List, [], _∷_}
 use native.Mathlib.Omega.{arith}
-use lib.ListN.{getD}
 use Rattle.format.specs.Tools.{Below}
 use Rattle.paged_runs.proofs.Held.{inside}
 use Rattle.paged_runs.proofs.PartsAgain.{parts-tested}

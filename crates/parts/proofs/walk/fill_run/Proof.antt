@@ -1,5 +1,4 @@
 use native.Mathlib.Omega.{arith}
-use lib.ListN.{length}
 use Rattle.parts.proofs.Fills.{fill-less}
 use borrow.Author.Needs.{needs}
 use Rattle.parts.proofs.walk.fill_run.Statement.{statement}

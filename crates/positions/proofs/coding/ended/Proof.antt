@@ -1,4 +1,3 @@
-use mathlib.Core.Path.{sym}
 use native.Mathlib.Nat.{add-zero}
 use Rattle.parts.specs.Encoder.{endedBy}
 use Rattle.positions.specs.Coding.{coder}

@@ -1,11 +1,8 @@
 use Prim.Native.Nat.{_+_, _≤_}
-use mathlib.Core.Path.{_≡_, sym, _∙_}
-use mathlib.Core.List.{List, [], _∷_}
 use native.Mathlib.Omega.{arith}
-use lib.ListN.{length, getD}
+use lib.ListN.{length}
 use Rattle.laws.proofs.Stored.{rising-length}
 use Rattle.parts.specs.Ready.{passed}
-use Rattle.parts.specs.Encoder.{takenAllBy}
 use Rattle.positions.proofs.Laws.{taken-none, taken-some}
 use borrow.Author.Needs.{needs}
 use Rattle.positions.proofs.coding.take_all.Statement.{statement}

@@ -1,6 +1,6 @@
 -- `runs::search::ranks_before` meets its contract. Assumes nothing.
 use Prim.Native.Nat.{_-_}
-use mathlib.Core.Path.{_≡_, ap, _∙_}
+use mathlib.Core.Path.{_≡_, ap}
 use native.Mathlib.Omega.{arith}
 use Rattle.wire.specs.declared.Pair.{Pair}
 use Rattle.runs.specs.Edge.{lastAt, emptyAt}
