@@ -1,4 +1,4 @@
--- An allowed setting is one of five shapes: the case analysis by kind, once. Assumes nothing.
+-- An allowed setting has one of the shapes of the kinds: the case analysis by kind, once. Assumes nothing.
 use Prim.Native.Nat.{ℕ, zero, suc, _≤_, _<_}
 use mathlib.Core.Path.{_≡_, refl, sym, subst, subst₂}
 use mathlib.Core.Bool.{true, false}
@@ -20,7 +20,7 @@ abbrev pub setting : ℕ → ℕ → ℕ → Setting
 setting k w l = record { kind = k; width = w; step = l }
 
 -- what is to be shown for each kind
-pub record FiveKinds {ℓ} (P : Setting → Type ℓ) : Type ℓ where
+pub record EachKind {ℓ} (P : Setting → Type ℓ) : Type ℓ where
   pub runs : P (setting 1 0 0)
   pub positions : P (setting 2 0 0)
   pub based : (w l : ℕ) → 1 ≤ w → w ≤ 2 → 1 ≤ l → l ≤ 255 → P (setting 3 w l)
@@ -30,31 +30,31 @@ pub record FiveKinds {ℓ} (P : Setting → Type ℓ) : Type ℓ where
 never : false ≡ true → ⊥
 never e = let y : _≡_ {A = ℕ} 0 1 = cc in omega arith
 
-pub by-kind {ℓ} : (P : Setting → Type ℓ) → FiveKinds P → (s : Setting) → settingAllowed s ≡ true → P s
+pub by-kind {ℓ} : (P : Setting → Type ℓ) → EachKind P → (s : Setting) → settingAllowed s ≡ true → P s
 unfolding settingAllowed codec runsKind positionsKind basedKind jumpsKind pagesKind
-by-kind P five s h = go (s .kind) (s .width) (s .step) h
+by-kind P each s h = go (s .kind) (s .width) (s .step) h
   where
     go : (k w l : ℕ) → settingAllowed (setting k w l) ≡ true → P (setting k w l)
     go zero w l h = absurd (never h)
     go (suc zero) w l h =
         let t = both-true (eqb w 0) (eqb l 0) h in
-        subst₂ (λ (x y : ℕ). P (setting 1 x y)) (sym (eqb-true w 0 (t .0))) (sym (eqb-true l 0 (t .1))) (five .runs)
+        subst₂ (λ (x y : ℕ). P (setting 1 x y)) (sym (eqb-true w 0 (t .0))) (sym (eqb-true l 0 (t .1))) (each .runs)
     go (suc (suc zero)) w l h =
         let t = both-true (eqb w 0) (eqb l 0) h in
-        subst₂ (λ (x y : ℕ). P (setting 2 x y)) (sym (eqb-true w 0 (t .0))) (sym (eqb-true l 0 (t .1))) (five .positions)
+        subst₂ (λ (x y : ℕ). P (setting 2 x y)) (sym (eqb-true w 0 (t .0))) (sym (eqb-true l 0 (t .1))) (each .positions)
     go (suc (suc (suc zero))) w l h =
         let t = both-true (within 1 2 w) (within 1 255 l) h in
         let a = within-true 1 2 w (t .0) in
         let b = within-true 1 255 l (t .1) in
-        five .based w l (a .0) (a .1) (b .0) (b .1)
+        each .based w l (a .0) (a .1) (b .0) (b .1)
     go (suc (suc (suc (suc zero)))) w l h =
         let t = both-true (within 1 2 w) (eqb l 0) h in
         let a = within-true 1 2 w (t .0) in
-        subst (λ (y : ℕ). P (setting 4 w y)) (sym (eqb-true l 0 (t .1))) (five .jumps w (a .0) (a .1))
+        subst (λ (y : ℕ). P (setting 4 w y)) (sym (eqb-true l 0 (t .1))) (each .jumps w (a .0) (a .1))
     go (suc (suc (suc (suc (suc zero))))) w l h =
         let t = both-true (eqb w 0) (within 2 64 l) h in
         let b = within-true 2 64 l (t .1) in
-        subst (λ (y : ℕ). P (setting 5 y l)) (sym (eqb-true w 0 (t .0))) (five .paged l (b .0) (b .1))
+        subst (λ (y : ℕ). P (setting 5 y l)) (sym (eqb-true w 0 (t .0))) (each .paged l (b .0) (b .1))
     go (suc (suc (suc (suc (suc (suc n)))))) w l h = absurd (never h)
 
 -- an allowed setting fits its fields
