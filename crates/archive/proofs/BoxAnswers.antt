@@ -10,7 +10,7 @@ use Rattle.format.specs.declared.Dimensions.{Dimensions}
 use Rattle.format.specs.Tools.{pick}
 use Rattle.format.specs.Signals.{BEYOND, SMALL}
 use Rattle.format.specs.Answers.{leaves}
-use Rattle.format.specs.Picture.{dimensionsAllowed}
+use Rattle.format.specs.Picture.{dimensionsAllowed, mostDimensions}
 use Rattle.format.specs.Accepted.{dimensionsOf, checkNumber}
 use Rattle.format.specs.Opened.{viewOf}
 use Rattle.format.specs.Box.{boxAllowed, boxWords, boxNumber, Boxed}
@@ -31,7 +31,7 @@ dimensions-right b d z e = rw e (header-right b (accepted b z .header) .dims)
 
 module _ (b low high before : List ℕ) (d : Dimensions) (count : ℕ) (right : checkNumber b ≡ 0) (e : d ≡ dimensionsOf b)
     (counts : count ≡ pick (boxAllowed d low high) (boxCount (d .extents) low high) 0) where
-  pub box-beyond : length low ≡ 4 → length high ≡ 4 → count ≡ 0 → Boxed b low high before BEYOND before
+  pub box-beyond : length low ≡ mostDimensions → length high ≡ mostDimensions → count ≡ 0 → Boxed b low high before BEYOND before
   unfolding boxNumber
   box-beyond l h z =
       let not-allowed : boxAllowed d low high ≡ false

@@ -12,7 +12,7 @@ use lib.Dec.{leb, ltb}
 use borrow.Author.Tests.{leb-true, ltb-true, le-leb, lt-leb, lt-ltb, le-ltb}
 use Rattle.format.specs.declared.Dimensions.{Dimensions}
 use Rattle.format.specs.Tools.{pick, both, first, others, range, joined}
-use Rattle.format.specs.Picture.{product, insideExtents, inside}
+use Rattle.format.specs.Picture.{product, insideExtents, inside, mostDimensions}
 use Rattle.format.specs.Box.{ordered, boxAllowed, boxFrom}
 use Rattle.laws.proofs.Tools.{cases, both-true, both-false, length-range}
 use Rattle.header.proofs.RowOrder.{rest-least}
@@ -44,7 +44,7 @@ allowed-bounded (e ∷ es) low high =
       both-false (both (ltb (first low) e) (insideExtents es (others low))),
     ))
 
-pub allowed-as : (d : Dimensions) (low high : List ℕ) → length low ≡ 4 → length high ≡ 4 → boxAllowed d low high ≡ bounded (d .extents) low high
+pub allowed-as : (d : Dimensions) (low high : List ℕ) → length low ≡ mostDimensions → length high ≡ mostDimensions → boxAllowed d low high ≡ bounded (d .extents) low high
 unfolding boxAllowed inside
 allowed-as d low high l h = rw (l, h) (allowed-bounded (d .extents) low high)
 
@@ -103,7 +103,7 @@ count-end n i es low high h = rw (drop-of-length-le es {i = i} h, mul-one n)
 pub count-small : (m n i : ℕ) (es : List ℕ) → 1 ≤ product es → n * product (drop i es) ≤ m → n ≤ m
 count-small m n i es k r = let b = le-mul-of-pos-right n (rest-least i es k) in omega arith
 
-pub count-all : (d : Dimensions) (low high : List ℕ) → length low ≡ 4 → length high ≡ 4
+pub count-all : (d : Dimensions) (low high : List ℕ) → length low ≡ mostDimensions → length high ≡ mostDimensions
     → counted 1 (d .extents) low high ≡ pick (boxAllowed d low high) (boxCount (d .extents) low high) 0
 count-all d low high l h = rw (allowed-as d low high l h, one-mul (boxCount (d .extents) low high))
 

@@ -8,7 +8,7 @@ use lib.ListN.{length}
 use Rattle.format.specs.declared.Dimensions.{Dimensions}
 use Rattle.format.specs.declared.View.{View}
 use Rattle.format.specs.Answers.{leaves}
-use Rattle.format.specs.Picture.{product, cells}
+use Rattle.format.specs.Picture.{product, cells, mostDimensions}
 use Rattle.format.specs.Accepted.{dimensionsOf}
 use Rattle.format.specs.Box.{boxAllowed, boxFrom, boxPositions, boxWords}
 use Rattle.stores.specs.Put.{put}
@@ -34,7 +34,7 @@ module _ (b : List ℕ) (v : View) (d : Dimensions) (low high : List ℕ) (o : V
   unfolding cells
   cells-all = ap cells e ∙ sym (seen b v o .header .cells)
 
-  pub box-placed : length low ≡ 4 → length high ≡ 4 → boxAllowed d low high ≡ true → Placed region
+  pub box-placed : length low ≡ mostDimensions → length high ≡ mostDimensions → boxAllowed d low high ≡ true → Placed region
   box-placed l h a = record { bounds = sym (allowed-as d low high l h) ∙ a; few = rw cells-all (seen b v o .header .counted .cells-most) }
 
   pub box-goes : (r : Region) → SameCells region r → (c : Cursor) (room : ℕ) → c ≡ startOf b v → boxCount (d .extents) low high ≤ room

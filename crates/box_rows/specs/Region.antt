@@ -3,7 +3,7 @@ use Prim.Native.Nat.{_≤_}
 use mathlib.Core.Path.{_≡_}
 use mathlib.Core.Bool.{true}
 use lib.ListN.{length}
-use Rattle.format.specs.Picture.{product}
+use Rattle.format.specs.Picture.{product, mostDimensions}
 use Rattle.format.specs.Box.{boxFrom}
 use Rattle.box_rows.specs.declared.region.Region.{Region}
 use Rattle.box_rows.specs.Bounds.{bounded}
@@ -15,7 +15,7 @@ pub record Placed (r : Region) : Type 0 where
 
 -- four dimensions
 abbrev pub Four : Region → Type 0
-Four r = (length (r .extents) ≡ 4) × (length (r .low) ≡ 4) × (length (r .high) ≡ 4)
+Four r = (length (r .extents) ≡ mostDimensions) × (length (r .low) ≡ mostDimensions) × (length (r .high) ≡ mostDimensions)
 
 -- the same positions in the same order
 pub record SameCells (r s : Region) : Type 0 where

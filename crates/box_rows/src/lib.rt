@@ -25,6 +25,7 @@ ghost use lib.ListN.{length, drop, replicate};
 ghost use Rattle.format.specs.Answers.{leaves};
 ghost use Rattle.format.specs.Accepted.{dimensionsOf};
 ghost use Rattle.format.specs.Box.{boxAllowed, boxWords};
+ghost use Rattle.format.specs.Picture.{mostDimensions};
 ghost use Rattle.stores.specs.Put.{put};
 ghost use Rattle.parts.specs.Holds.{ViewOf};
 ghost use Rattle.box_rows.specs.Bounds.{boxCount};
@@ -88,7 +89,7 @@ fn put_from(
     mut s: Filled,
     dst: &mut [u32],
 ) -> Filled
-    requires { ⌜ (i < 4) × BoxGoes (now file) v (drop i extents) (drop i low) (drop i high) p s (length (now dst)) ⌝ }
+    requires { ⌜ (i < mostDimensions) × BoxGoes (now file) v (drop i extents) (drop i low) (drop i high) p s (length (now dst)) ⌝ }
     ensures { λ r. ⌜ BoxFilled (now (file .entry)) v (drop i extents) (drop i low) (drop i high) p s (now (dst .entry)) r (now (dst .exit)) ⌝ }
 {
     let before = p * extents[i];

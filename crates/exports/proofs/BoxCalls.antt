@@ -7,18 +7,18 @@ use native.Mathlib.Omega.{arith}
 use lib.ListN.{length}
 use Rattle.format.specs.declared.Dimensions.{Dimensions}
 use Rattle.format.specs.Signals.{BEYOND, orElse}
-use Rattle.format.specs.Picture.{inside}
+use Rattle.format.specs.Picture.{inside, mostDimensions}
 use Rattle.format.specs.Accepted.{dimensionsOf, checkNumber}
 use Rattle.format.specs.Box.{boxAllowed, boxNumber, Boxed}
 use Rattle.laws.proofs.Tools.{cases, orElse-zero}
 use Rattle.exports.proofs.Four.{not-inside, unaltered}
 
 module _ (d : Dimensions) (low high : List ℕ) where
-  low-not-four : (length low ≡ 4 → ⊥) → boxAllowed d low high ≡ false
+  low-not-four : (length low ≡ mostDimensions → ⊥) → boxAllowed d low high ≡ false
   unfolding boxAllowed
   low-not-four h = rw (not-inside d low h)
 
-  high-not-four : (length high ≡ 4 → ⊥) → boxAllowed d low high ≡ false
+  high-not-four : (length high ≡ mostDimensions → ⊥) → boxAllowed d low high ≡ false
   unfolding boxAllowed
   high-not-four h = cases (inside d low) (λ t. rw (t, not-inside d high h)) (λ t. rw t)
 
@@ -30,10 +30,10 @@ module _ (b low high before : List ℕ) (n : ℕ) (e : n ≡ orElse (checkNumber
   unfolding boxNumber
   outside h = record { number = rw h e; left = unaltered n _ before some }
 
-  pub low-corner : (length low ≡ 4 → ⊥) → Boxed b low high before n before
+  pub low-corner : (length low ≡ mostDimensions → ⊥) → Boxed b low high before n before
   low-corner h = outside (low-not-four (dimensionsOf b) low high h)
 
-  pub high-corner : (length high ≡ 4 → ⊥) → Boxed b low high before n before
+  pub high-corner : (length high ≡ mostDimensions → ⊥) → Boxed b low high before n before
   high-corner h = outside (high-not-four (dimensionsOf b) low high h)
 
 -- the same corners

@@ -28,10 +28,10 @@ copy-turn d s i h k =
 -- ---- coordinates to position
 
 -- another number of extents counts no cells
-pub no-count : (d : Dimensions) → (length (d .extents) ≡ 4 → ⊥) → countOf d ≡ 0
+pub no-count : (d : Dimensions) → (length (d .extents) ≡ mostDimensions → ⊥) → countOf d ≡ 0
 no-count d h = rw (not-four d h)
 
-pub position-not-four : (d : Dimensions) (cs : List ℕ) → (countOf d ≡ 0 → ⊥) → (length cs ≡ 4 → ⊥) → PositionOf d cs (refused BEYOND)
+pub position-not-four : (d : Dimensions) (cs : List ℕ) → (countOf d ≡ 0 → ⊥) → (length cs ≡ mostDimensions → ⊥) → PositionOf d cs (refused BEYOND)
 unfolding positionNumber
 position-not-four d cs some h = record { said = rw (count-some d some, not-inside d cs h) }
 
@@ -50,11 +50,11 @@ module _ (d : Dimensions) (p : ℕ) (before : List ℕ) where
   pub out-refused : (n : ℕ) → n ≡ coordinatesNumber d p → (n ≡ 0 → ⊥) → CoordinatesOut d p before n before
   out-refused n e h = record { number = first-refused n (coordinatesNumber d p) _ e h; left = unaltered n _ before h }
 
-  pub out-extent : (length (d .extents) ≡ 4 → ⊥) → CoordinatesOut d p before 4 before
+  pub out-extent : (length (d .extents) ≡ mostDimensions → ⊥) → CoordinatesOut d p before 4 before
   out-extent h = out-refused 4 (number-extent d p (no-count d h)) (λ z. omega arith)
 
   module _ (none : coordinatesNumber d p ≡ 0) where
-    pub out-small : length before < 4 → CoordinatesOut d p before SMALL before
+    pub out-small : length before < mostDimensions → CoordinatesOut d p before SMALL before
     out-small h = record { number = rw (none, lt-ltb (length before) mostDimensions h); left = refl }
 
     pub out-given : (cs after : List ℕ) → cs ≡ coordinatesAt d p → 4 ≤ length before → after ≡ cs ++ drop (length cs) before → CoordinatesOut d p before 0 after

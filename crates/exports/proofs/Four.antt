@@ -19,7 +19,7 @@ use Rattle.checked.proofs.Number.{setting-later}
 use Rattle.archive.proofs.Making.{setting-refused, make-refused}
 use Rattle.laws.proofs.Tools.{cases}
 
-pub four-numbers : (l : List ℕ) → length l ≡ 4 → getD l 0 0 ∷ getD l 1 0 ∷ getD l 2 0 ∷ getD l 3 0 ∷ [] ≡ l
+pub four-numbers : (l : List ℕ) → length l ≡ mostDimensions → getD l 0 0 ∷ getD l 1 0 ∷ getD l 2 0 ∷ getD l 3 0 ∷ [] ≡ l
 four-numbers [] h = absurd (omega arith)
 four-numbers (a ∷ []) h = absurd (omega arith)
 four-numbers (a ∷ b ∷ []) h = absurd (omega arith)
@@ -28,11 +28,11 @@ four-numbers (a ∷ b ∷ c ∷ d ∷ []) h = refl
 four-numbers (a ∷ b ∷ c ∷ d ∷ e ∷ l) h = absurd (omega arith)
 
 -- another number of extents is not allowed
-pub not-four : (d : Dimensions) → (length (d .extents) ≡ 4 → ⊥) → dimensionsAllowed d ≡ false
+pub not-four : (d : Dimensions) → (length (d .extents) ≡ mostDimensions → ⊥) → dimensionsAllowed d ≡ false
 unfolding dimensionsAllowed
 not-four d h = cases (within 1 mostDimensions (d .count)) (λ t. rw (t, ne-eqb (length (d .extents)) mostDimensions h)) (λ t. rw t)
 
-module _ (s : Setting) (d : Dimensions) (E : ℕ) (ws before : List ℕ) (h : length (d .extents) ≡ 4 → ⊥) where
+module _ (s : Setting) (d : Dimensions) (E : ℕ) (ws before : List ℕ) (h : length (d .extents) ≡ mostDimensions → ⊥) where
   pub four-setting : (n : ℕ) → n ≡ settingNumber s 0 → (n ≡ 0 → ⊥) → Made s d E ws before n before
   four-setting n e z = make-refused s d E ws before n (setting-refused s d (length ws) n e z) z
 
@@ -52,7 +52,7 @@ pub same-made : (s : Setting) (c : ℕ) (es fs : List ℕ) → es ≡ fs → (E 
 same-made s c es fs e E ws before n after m = subst (λ (t : List ℕ). Made s (dimensions c t) E ws before n after) e m
 
 -- another number of coordinates lies not inside
-pub not-inside : (d : Dimensions) (cs : List ℕ) → (length cs ≡ 4 → ⊥) → inside d cs ≡ false
+pub not-inside : (d : Dimensions) (cs : List ℕ) → (length cs ≡ mostDimensions → ⊥) → inside d cs ≡ false
 unfolding inside
 not-inside d cs h = rw (ne-eqb (length cs) mostDimensions h)
 

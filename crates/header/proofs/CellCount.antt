@@ -64,7 +64,7 @@ count-is n c (e ∷ es) h =
         rw (r, lt-leb (c * e * product es) mostCells g)
 
 -- the number of cells of allowed dimensions, else 0
-pub count-cells : (d : Dimensions) → 1 ≤ d .count → d .count ≤ 4 → length (d .extents) ≡ 4
+pub count-cells : (d : Dimensions) → 1 ≤ d .count → d .count ≤ mostDimensions → length (d .extents) ≡ mostDimensions
     → countFrom (d .count) 1 (d .extents) ≡ pick (dimensionsAllowed d) (cells d) 0
 unfolding dimensionsAllowed cells
 count-cells d a b l =

@@ -10,7 +10,7 @@ use borrow.Author.Tests.{lt-ltb, le-ltb, ltb-true, ne-eqb}
 use Rattle.format.specs.declared.Dimensions.{Dimensions}
 use Rattle.format.specs.Tools.{pick}
 use Rattle.format.specs.Answers.{refused, given}
-use Rattle.format.specs.Picture.{product, cells, dimensionsAllowed, rowOrder, positionAt, insideExtents, inside, coordinatesAt}
+use Rattle.format.specs.Picture.{product, cells, dimensionsAllowed, rowOrder, positionAt, insideExtents, inside, coordinatesAt, mostDimensions}
 use Rattle.format.specs.Coordinates.{PositionOf, CoordinatesOf, positionNumber, coordinatesNumber}
 use Rattle.laws.proofs.Tools.{refuse-zero, not-false}
 use Rattle.header.proofs.CellCount.{count-none, count-some}
@@ -35,7 +35,7 @@ module _ (d : Dimensions) (cs : List ℕ) where
   unfolding positionNumber
   position-extent h = record { said = rw (count-none d h) }
 
-  module _ (some : countOf d ≡ 0 → ⊥) (four : length cs ≡ 4) where
+  module _ (some : countOf d ≡ 0 → ⊥) (four : length cs ≡ mostDimensions) where
     pub position-beyond : insideExtents (d .extents) cs ≡ false → PositionOf d cs (refused 8)
     unfolding positionNumber inside
     position-beyond t = record { said = rw (count-some d some, four, t) }

@@ -10,7 +10,7 @@ use lib.Dec.{eqb, leb}
 use borrow.Author.Tests.{eqb-true, leb-true, le-leb}
 use Rattle.format.specs.Tools.{Below, within, every}
 use Rattle.format.specs.declared.Dimensions.{Dimensions}
-use Rattle.format.specs.Picture.{product, cells, dimensionsAllowed, mostCells}
+use Rattle.format.specs.Picture.{product, cells, dimensionsAllowed, mostCells, mostDimensions}
 use Rattle.laws.proofs.Tools.{both-true, both-make, within-true}
 
 -- each extent is at least 1
@@ -44,11 +44,11 @@ extent-most M (e ∷ es) h k =
 
 -- the extents fit the header's four fields
 pub record FourExtents (d : Dimensions) : Type 0 where
-  pub four : length (d .extents) ≡ 4
+  pub four : length (d .extents) ≡ mostDimensions
   pub small : Below (256 ^ 4) (d .extents)
 
 pub record SmallDims (d : Dimensions) : Type 0 where
-  pub count : d .count ≤ 4
+  pub count : d .count ≤ mostDimensions
   pub extents : FourExtents d
   pub most : cells d ≤ mostCells
 

@@ -44,7 +44,7 @@ fields E n =
     ∷ []
 
 -- the header in three pieces
-pub put-pieces : (s : Setting) (d : Dimensions) (E : ℕ) (n : Counts) (b0 : List ℕ) {b1 b2 b3 : List ℕ} → length (d .extents) ≡ 4
+pub put-pieces : (s : Setting) (d : Dimensions) (E : ℕ) (n : Counts) (b0 : List ℕ) {b1 b2 b3 : List ℕ} → length (d .extents) ≡ mostDimensions
     → b1 ≡ put b0 0 (bytesOf 1 (s .kind ∷ d .count ∷ s .width ∷ s .step ∷ [])) → b2 ≡ put b1 4 (bytesOf 4 (d .extents)) → b3 ≡ put b2 20 (bytesOf 4 (fields E n))
     → b3 ≡ put b0 0 (header s d E n)
 unfolding header

@@ -6,6 +6,7 @@ use mathlib.Core.List.{List, [], _∷_}
 use native.Mathlib.Nat.{le-refl}
 use lib.Arith.{lt-of-le-ne}
 use lib.ListN.{length, getD, drop, drop-of-length-le}
+use Rattle.format.specs.Picture.{mostDimensions}
 use Rattle.box_rows.specs.Filling.{BoxGoes}
 use Rattle.box_rows.proofs.Turns.{first-goes, first-filled, in-order, cell-small, row-goes, row-filled, BoxLeft, box-start, box-down, box-turn, box-end}
 use borrow.Author.Needs.{needs}
@@ -20,7 +21,7 @@ use Rattle.box_rows.proofs.+put_from.{statement}
 use Rattle.box_rows.proofs.+put_from.Tie.{close}
 
 abbrev μ-put-from : Measures 2 put-from-kinds.ps ℕ
-μ-put-from κs a = 4 - a .1 .1 .1 .1 .1 .0
+μ-put-from κs a = mostDimensions - a .1 .1 .1 .1 .1 .0
 
 abbrev put-from-at : ℕ → In 2 put-from-kinds.ps
 put-from-at t = and 2 put-from-kinds.ps (is 2 put-from-kinds.ps μ-put-from t) put-from.Pre
@@ -55,7 +56,7 @@ low t c = getD (c .args .t4) (c .args .i) 0
 abbrev high : (t : ℕ) → Start t → ℕ
 high t c = getD (c .args .t5) (c .args .i) 0
 
-four : (t : ℕ) (c : Start t) → (length (c .args .t3) ≡ 4) × (length (c .args .t4) ≡ 4) × (length (c .args .t5) ≡ 4)
+four : (t : ℕ) (c : Start t) → (length (c .args .t3) ≡ mostDimensions) × (length (c .args .t4) ≡ mostDimensions) × (length (c .args .t5) ≡ mostDimensions)
 four t c = (search needs, search needs, search needs)
 
 abbrev Goes : (t : ℕ) → Start t → List ℕ → Type 0
@@ -79,11 +80,11 @@ ordered t c = in-order (file t c) (c .args .v) (extent t c) _ (low t c) _ (high 
 reach : (t : ℕ) (c : put-from-lts.In-loop (put-from-calls t) (put-from-at t) put-from.Post put-from-Inv-loop put-from-μ-loop) → c .before .loop .a ≤ high t (c .before .before .before .before .before)
 reach t c = omega (arith, c .loop-test .taken)
 
-before-last : (i : ℕ) → i < 4 → (i + 1 ≡ 4 → ⊥) → i + 1 < 4
-before-last i h k = let m : i + 1 ≤ 4 = omega arith in lt-of-le-ne m k
+before-last : (i : ℕ) → i < mostDimensions → (i + 1 ≡ mostDimensions → ⊥) → i + 1 < mostDimensions
+before-last i h k = let m : i + 1 ≤ mostDimensions = omega arith in lt-of-le-ne m k
 
 -- no extent is left after the last
-none : (t : ℕ) (c : Start t) → c .args .i + 1 ≡ 4 → drop (c .args .i + 1) (c .args .t3) ≡ []
+none : (t : ℕ) (c : Start t) → c .args .i + 1 ≡ mostDimensions → drop (c .args .i + 1) (c .args .t3) ≡ []
 none t c e = let f = four t c in drop-of-length-le (c .args .t3) {i = c .args .i + 1} (omega arith)
 
 put-from-mul-before-2 : (t : ℕ) → put-from-lts.Need-mul-before-2 (put-from-calls t) (put-from-at t) put-from.Post put-from-Inv-loop put-from-μ-loop
@@ -126,7 +127,7 @@ put-from-put-from-requires t c κs =
     let l = c .before .before .loop in
     let k = s .pre .1 .0 in
     let m = s .pre .0 in
-    let n : s .args .i + 1 < 4 = before-last _ k (c .before .before .before .if1 .left) in
+    let n : s .args .i + 1 < mostDimensions = before-last _ k (c .before .before .before .if1 .left) in
     (omega arith, (n, box-down (file t s) (s .args .v) (extent t s) _ _ _ (s .args .p) (high t s) (low t s) (s .args .s) (s .args .dst .now) (goes t s) (l .s) (l .dst) (l .a) (l .inv) (reach t (c .before))))
 
 put-from-add-a : (t : ℕ) → put-from-lts.Need-add-a (put-from-calls t) (put-from-at t) put-from.Post put-from-Inv-loop put-from-μ-loop

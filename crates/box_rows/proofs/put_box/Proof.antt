@@ -2,6 +2,7 @@
 use mathlib.Core.Path.{_≡_}
 use native.Mathlib.Omega.{arith}
 use lib.ListN.{length}
+use Rattle.format.specs.Picture.{mostDimensions}
 use Rattle.parts.proofs.Seen.{seen}
 use Rattle.box_rows.proofs.Whole.{box-placed, box-goes, box-done}
 use borrow.Author.Needs.{needs}
@@ -11,8 +12,8 @@ use Rattle.box_rows.proofs.put_box.Tie as tie
 long-rows-requires : tie.Need-long-rows-requires
 long-rows-requires c κs =
     let s = c .before .before .before in
-    let low : length (s .args .low) ≡ 4 = search needs in
-    let high : length (s .args .high) ≡ 4 = search needs in
+    let low : length (s .args .low) ≡ mostDimensions = search needs in
+    let high : length (s .args .high) ≡ mostDimensions = search needs in
     box-placed (s .args .file .now) (s .args .v) (s .args .d) (s .args .low) (s .args .high) (s .pre .0) (s .pre .1) low high (s .pre .2)
 
 start-requires : tie.Need-start-requires

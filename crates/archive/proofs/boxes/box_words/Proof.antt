@@ -1,6 +1,7 @@
 use mathlib.Core.Path.{_≡_, sym, _∙_}
 use lib.ListN.{length}
 use Rattle.format.specs.Accepted.{checkNumber}
+use Rattle.format.specs.Picture.{mostDimensions}
 use Rattle.laws.proofs.Acceptance as laws
 use Rattle.archive.proofs.BoxAnswers.{box-refused, dimensions-right, box-beyond, allowed, counted, box-small, box-fills}
 use borrow.Author.Needs.{needs}
@@ -25,8 +26,8 @@ box-count-requires c κs = dimensions-right (c .before .before .before .before .
 returns-2 : tie.Need-returns-2
 returns-2 c =
     let a = c .before .before .before .before .before .before .before .before .args in
-    let low : length (a .low) ≡ 4 = search needs in
-    let high : length (a .high) ≡ 4 = search needs in
+    let low : length (a .low) ≡ mostDimensions = search needs in
+    let high : length (a .high) ≡ mostDimensions = search needs in
     let d = c .before .before .read-dimensions in
     box-beyond (a .file .now) (a .low) (a .high) (a .dst .now) (d .result) (c .before .box-count .result) (accepted (c .before .before .before)) (d .ensures)
     (c .before .box-count .ensures .0) low high (c .if2 .taken)

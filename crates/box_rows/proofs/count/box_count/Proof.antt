@@ -7,7 +7,7 @@ use native.Mathlib.Nat.{one-mul, le-refl}
 use native.Mathlib.Omega.{arith}
 use lib.ListN.{length, drop, getD}
 use Rattle.format.specs.Tools.{pick}
-use Rattle.format.specs.Picture.{product, cells}
+use Rattle.format.specs.Picture.{product, cells, mostDimensions}
 use Rattle.format.specs.Box.{boxAllowed}
 use Rattle.laws.proofs.Limits.{small-dims}
 use Rattle.header.proofs.CellCount.{cells-least}
@@ -19,13 +19,13 @@ use Rattle.box_rows.proofs.count.box_count.Tie as tie
 
 abbrev Inv-loop : tie.InvT-loop
 Inv-loop low high extents count₀ i₀ count i =
-    (i ≤ 4) × (count * product (drop i extents) ≤ product extents)
+    (i ≤ mostDimensions) × (count * product (drop i extents) ≤ product extents)
     × (counted count (drop i extents) (drop i low) (drop i high) ≡ counted 1 extents low high)
 
 abbrev μ-loop : tie.MeasureT-loop
-μ-loop low high extents count₀ i₀ count i = 4 - i
+μ-loop low high extents count₀ i₀ count i = mostDimensions - i
 
-four : (c : tie.Start Inv-loop μ-loop) → (length (c .args .d .extents) ≡ 4) × (length (c .args .t2) ≡ 4) × (length (c .args .t3) ≡ 4)
+four : (c : tie.Start Inv-loop μ-loop) → (length (c .args .d .extents) ≡ mostDimensions) × (length (c .args .t2) ≡ mostDimensions) × (length (c .args .t3) ≡ mostDimensions)
 four c = (search needs, search needs, search needs)
 
 most : (c : tie.Start Inv-loop μ-loop) → (1 ≤ product (c .args .d .extents)) × (product (c .args .d .extents) ≤ 16777216)

@@ -5,7 +5,7 @@ use Prim.Native.Nat.{_+_, _-_, _*_, _≤_, _<_}
 use native.Mathlib.Omega.{arith}
 use lib.ListN.{length, drop, getD, length-set}
 use borrow.Author.Needs.{needs}
-use Rattle.format.specs.Picture.{product, rowOrder, insideExtents, coordinatesAt}
+use Rattle.format.specs.Picture.{product, rowOrder, insideExtents, coordinatesAt, mostDimensions}
 use Rattle.header.proofs.RowOrder.{extent-least, row-end, inside-end, room-end, back-row, back-inside, back-room, back-end}
 use Rattle.header.proofs.CoordinateAnswers.{inside-product}
 use Rattle.header.proofs.coordinates.coordinates_inside.Statement.{statement}
@@ -13,8 +13,8 @@ use Rattle.header.proofs.coordinates.coordinates_inside.Tie as tie
 
 abbrev Inv-loop : tie.InvT-loop
 Inv-loop extents at₀ rest₀ i₀ at rest i =
-    (i ≤ 4)
-    × (length at ≡ 4)
+    (i ≤ mostDimensions)
+    × (length at ≡ mostDimensions)
     × (rowOrder rest (drop i extents) (drop i at) ≡ rest₀)
     × (insideExtents (drop i extents) (drop i at) ≡ true)
     × (rest * product (drop i extents) ≤ rest₀)
@@ -22,7 +22,7 @@ Inv-loop extents at₀ rest₀ i₀ at rest i =
 abbrev μ-loop : tie.MeasureT-loop
 μ-loop extents at₀ rest₀ i₀ at rest i = i
 
-four : (c : tie.Start Inv-loop μ-loop) → length (c .args .d .extents) ≡ 4
+four : (c : tie.Start Inv-loop μ-loop) → length (c .args .d .extents) ≡ mostDimensions
 four c = search needs
 
 few : (c : tie.Start Inv-loop μ-loop) → c .args .p .0 < product (c .args .d .extents)
@@ -40,7 +40,7 @@ loop-holds c =
     let s = c .before in
     let p = s .args .p .0 in
     let h = four s in
-    let l : length (s .args .d .extents) ≤ 4 = omega arith in
+    let l : length (s .args .d .extents) ≤ mostDimensions = omega arith in
     (omega arith, refl, row-end 4 p (s .args .d .extents) _ l, inside-end 4 p (s .args .d .extents) _ l, room-end 4 p (s .args .d .extents) l)
 
 loop-again : tie.Need-loop-again Inv-loop μ-loop

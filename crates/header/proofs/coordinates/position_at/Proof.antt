@@ -4,7 +4,7 @@ use Prim.Native.Nat.{suc, _+_, _-_, _*_, _≤_, _<_}
 use native.Mathlib.Omega.{arith}
 use lib.ListN.{length, drop, getD}
 use borrow.Author.Needs.{needs}
-use Rattle.format.specs.Picture.{product, rowOrder, insideExtents}
+use Rattle.format.specs.Picture.{product, rowOrder, insideExtents, mostDimensions}
 use Rattle.header.proofs.RowOrder.{row-turn, inside-turn, inside-stop, room-turn, room-below, row-end, inside-end}
 use Rattle.header.proofs.CoordinateAnswers.{countOf, count-product, product-some, position-extent, position-beyond, position-given}
 use Rattle.header.proofs.coordinates.position_at.Statement.{statement}
@@ -12,15 +12,15 @@ use Rattle.header.proofs.coordinates.position_at.Tie as tie
 
 abbrev Inv-loop : tie.InvT-loop
 Inv-loop at extents p₀ i₀ p i =
-    (i ≤ 4)
+    (i ≤ mostDimensions)
     × (rowOrder p (drop i extents) (drop i at) ≡ rowOrder 0 extents at)
     × (insideExtents (drop i extents) (drop i at) ≡ insideExtents extents at)
     × (suc p * product (drop i extents) ≤ product extents)
 
 abbrev μ-loop : tie.MeasureT-loop
-μ-loop at extents p₀ i₀ p i = 4 - i
+μ-loop at extents p₀ i₀ p i = mostDimensions - i
 
-four : (c : tie.Start Inv-loop μ-loop) → (length (c .args .d .extents) ≡ 4) × (length (c .args .t2) ≡ 4)
+four : (c : tie.Start Inv-loop μ-loop) → (length (c .args .d .extents) ≡ mostDimensions) × (length (c .args .t2) ≡ mostDimensions)
 four c = (search needs, search needs)
 
 some : (c : tie.Else1 Inv-loop μ-loop) → countOf (c .before .before .args .d) ≡ 0 → ⊥

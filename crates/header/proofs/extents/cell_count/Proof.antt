@@ -11,7 +11,7 @@ use lib.ListN.{length, drop, getD}
 use borrow.Author.Needs.{needs}
 use borrow.Author.Tests.{le-leb, lt-leb}
 use Rattle.format.specs.Tools.{pick}
-use Rattle.format.specs.Picture.{cells, dimensionsAllowed}
+use Rattle.format.specs.Picture.{cells, dimensionsAllowed, mostDimensions}
 use Rattle.header.specs.CellCount.{extentAllowed, countFrom}
 use Rattle.header.proofs.CellCount.{count-cells, count-outside, dimension-allowed, past-allowed, past-refused}
 use Rattle.header.proofs.CellCount.{count-step, count-refused, count-zero, count-past, count-end}
@@ -20,13 +20,13 @@ use Rattle.header.proofs.extents.cell_count.Tie as tie
 
 abbrev Inv-loop : tie.InvT-loop
 Inv-loop count extents dimensions cells₀ i₀ cells i =
-    (i ≤ 4) × (cells ≤ 16777216) × (countFrom (count - i) cells (drop i extents) ≡ countFrom count 1 extents)
+    (i ≤ mostDimensions) × (cells ≤ 16777216) × (countFrom (count - i) cells (drop i extents) ≡ countFrom count 1 extents)
 
 abbrev μ-loop : tie.MeasureT-loop
-μ-loop count extents dimensions cells₀ i₀ cells i = 4 - i
+μ-loop count extents dimensions cells₀ i₀ cells i = mostDimensions - i
 
 -- an array of four
-four : (c : tie.Start Inv-loop μ-loop) → length (c .args .d .extents) ≡ 4
+four : (c : tie.Start Inv-loop μ-loop) → length (c .args .d .extents) ≡ mostDimensions
 four c = search needs
 
 -- where it stops, what it counts is the number of cells, or 0

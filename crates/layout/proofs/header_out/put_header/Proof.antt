@@ -1,13 +1,14 @@
 -- `put_header` meets its contract. Assumes nothing.
 use mathlib.Core.Path.{_≡_}
 use lib.ListN.{length}
+use Rattle.format.specs.Picture.{mostDimensions}
 use Rattle.layout.specs.Laid.{countsIn}
 use Rattle.layout.proofs.Header.{put-pieces}
 use borrow.Author.Needs.{needs}
 use Rattle.layout.proofs.header_out.put_header.Statement.{statement}
 use Rattle.layout.proofs.header_out.put_header.Tie as tie
 
-four : (c : tie.Start) → length (c .args .d .extents) ≡ 4
+four : (c : tie.Start) → length (c .args .d .extents) ≡ mostDimensions
 four c = search needs
 
 put-numbers-requires : tie.Need-put-numbers-requires
