@@ -121,7 +121,7 @@ pub fn put_derived(dst: &mut [u8], s: Setting, z: Sizes, start: usize)
 {
     let kind = s.kind;
     match kind {
-        5 => paged_runs::levels::put_derived(dst, s.width, s.step, z, start),
+        5 => paged_runs::coding::put_derived(dst, s.width, s.step, z, start),
         _ => (),
     }
 }

@@ -20,16 +20,9 @@ use Rattle.parts.specs.Encoder.{leftAfter}
 use Rattle.paged_runs.specs.declared.check.Sum.{Sum}
 use Rattle.paged_runs.specs.declared.check.Passed.{Passed}
 use Rattle.paged_runs.specs.Passing.{follows, sumWith, Small, passedWith, passedAll, noSum, passedNone, runsEnd, runsRight}
-use Rattle.paged_runs.proofs.Bounded.{cellsOf, emptyOf}
+use Rattle.levels.proofs.Bounded.{cellsOf, emptyOf}
+use Rattle.levels.proofs.Above.{and-both, and-three}
 use Rattle.paged_runs.proofs.GoodPairs.{Good, good-moved}
-
-pub and-both : (s t : Bool) → (s && t) ≡ both s t
-and-both true t = refl
-and-both false t = refl
-
-pub and-three : (r s t : Bool) → (r && s) && t ≡ both r (both s t)
-and-three true s t = and-both s t
-and-three false s t = refl
 
 pub follows-path : (a s : Sum) (n : ℕ) → n ≡ leastEmpty (a .cells)
     → (leb (n + a .empty) (s .empty) && ltb (s .empty + a .cells) (s .cells + a .empty)) ≡ follows a s

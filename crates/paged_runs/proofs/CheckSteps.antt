@@ -15,9 +15,9 @@ use Rattle.format.specs.Runs.{Span}
 use Rattle.format.specs.PagedRuns.{none, Place, lost, at, walkFrom, stepDown, through}
 use Rattle.laws.proofs.Tools.{cases}
 use Rattle.paged_runs.specs.declared.search.Reached.the-variants.{Run, Nowhere}
-use Rattle.paged_runs.specs.Levels.{entries, cut}
+use Rattle.levels.specs.Levels.{entries, cut}
 use Rattle.paged_runs.specs.Descent.{counted, ofEmpty, foundAt, descended, walked, PageFits, LevelsFit}
-use Rattle.paged_runs.proofs.Reading.{length-entries}
+use Rattle.levels.proofs.Reading.{length-entries}
 
 -- ---- places that differ in sums of cells only
 

@@ -28,7 +28,7 @@ use Rattle.parts.proofs.Taking.{if-suc, run-ends, no-firsts, same-fit, rank-all
 use Rattle.paged_runs.specs.Coding.{pageEntry, paged, pageSizes, pagesCoder, coder}
 use Rattle.paged_runs.proofs.Allowed.{page-step}
 use Rattle.paged_runs.proofs.OneEntry.{pages-fit, keeps-pages}
-use Rattle.paged_runs.proofs.LevelBytes.{flat-cons, length-entries}
+use Rattle.levels.proofs.LevelBytes.{flat-cons, length-entries}
 use Rattle.paged_runs.proofs.FirstPart.{levels-made}
 
 -- the entry of the pair x, where k more entries belong to the page that has the sum a so far

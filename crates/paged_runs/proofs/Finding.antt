@@ -17,11 +17,11 @@ use Rattle.laws.proofs.Descent.{descent-finds, cells-add, stored-add}
 use Rattle.parts.specs.Holds.{Holds}
 use Rattle.parts.specs.Found.{FoundAmong}
 use Rattle.parts.proofs.Places.{rising-below}
-use Rattle.paged_runs.specs.Levels.{entries, sizesOf, sizesAbove, total, cut}
-use Rattle.paged_runs.specs.Passing.{Inside}
+use Rattle.levels.specs.Levels.{entries, sizesOf, sizesAbove, total, cut}
+use Rattle.levels.specs.Comparing.{Inside}
 use Rattle.paged_runs.specs.Descent.{counted, foundAt, descended, viewFits, searched, placeBy, positionBy}
-use Rattle.paged_runs.proofs.Cutting.{sizes-enough, Cut, cut-levels}
-use Rattle.paged_runs.proofs.Bounded.{proper-runs}
+use Rattle.levels.proofs.Cutting.{sizes-enough, Cut, cut-levels}
+use Rattle.levels.proofs.Bounded.{proper-runs}
 use Rattle.paged_runs.proofs.Held.{inside, seconds-held, firsts-held, entries-held}
 use Rattle.paged_runs.proofs.Answering.{place-along, stored-at, position-at}
 

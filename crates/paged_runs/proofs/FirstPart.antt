@@ -16,10 +16,10 @@ use Rattle.stores.proofs.Laws.{length-put, put-comm}
 use Rattle.parts.specs.declared.Sizes.{Sizes}
 use Rattle.parts.specs.Codes.{sizesIn}
 use Rattle.parts.proofs.Outright.{seconds-in, first-in, second-in}
-use Rattle.paged_runs.specs.LevelZero.{levelIn, pairSum, LevelZero}
+use Rattle.levels.specs.LevelZero.{levelIn, pairSum, LevelZero}
 use Rattle.paged_runs.proofs.Allowed.{page-step}
-use Rattle.paged_runs.proofs.LevelSums.{level-sum, runs-sum}
-use Rattle.paged_runs.proofs.LevelBytes.{length-entries, put-back, level-back}
+use Rattle.levels.proofs.LevelSums.{level-sum, runs-sum}
+use Rattle.levels.proofs.LevelBytes.{length-entries, put-back, level-back}
 
 module _ (w b : ℕ) (allowed : pagesKind w b .allowed ≡ true) (B : ℕ) (ls : List ℕ) (most : B ≤ 16777216) (r : Rising 0 B ls) where
   -- the length pairs, and the parts

@@ -8,7 +8,7 @@ use Rattle.format.specs.Runs.{Run, Span, runs, spansFrom, spans, positionsFrom}
 use Rattle.laws.proofs.Stored.{Rising}
 use Rattle.laws.proofs.Levels.{span-path}
 use Rattle.laws.proofs.RunsBack.{leastEmpty, InOrder', lastEnd, lastEmpty, weaker, runs-again, rising-again, length-again, runs-ordered}
-use Rattle.paged_runs.proofs.Bounded.{cellsOf, emptyOf}
+use Rattle.levels.proofs.Bounded.{cellsOf, emptyOf}
 
 -- pairs past so many cells
 abbrev pub Good : ℕ → List Span → Type 0

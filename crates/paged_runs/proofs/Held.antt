@@ -13,11 +13,11 @@ use Rattle.format.specs.PagedRuns.{level, upperLevels, upperEntries, flatSpans,
 use Rattle.laws.proofs.Tools.{both-true}
 use Rattle.laws.proofs.Bounds.{length-level}
 use Rattle.parts.specs.Holds.{Counted, Holds}
-use Rattle.paged_runs.specs.Levels.{entries}
-use Rattle.paged_runs.specs.Passing.{Inside}
+use Rattle.levels.specs.Levels.{entries}
+use Rattle.levels.specs.Comparing.{Inside}
 use Rattle.paged_runs.proofs.Allowed.{page-step}
-use Rattle.paged_runs.proofs.Reading.{pairs-back, entries-take, entries-next}
-use Rattle.paged_runs.proofs.Bounded.{cellsOf, emptyOf, level-below, upper-below, cells-runs, empty-runs}
+use Rattle.levels.proofs.Reading.{pairs-back, entries-take, entries-next}
+use Rattle.levels.proofs.Bounded.{cellsOf, emptyOf, level-below, upper-below, cells-runs, empty-runs}
 
 -- ---- right counts
 

@@ -11,9 +11,9 @@ use Rattle.format.specs.Tools.{both, within}
 use Rattle.format.specs.PagedRuns.{none, at}
 use Rattle.laws.proofs.Tools.{both-false}
 use Rattle.paged_runs.specs.declared.search.Reached.the-variants.{Nowhere}
-use Rattle.paged_runs.specs.Levels.{entries, sizesOf, total, cut, Sized}
+use Rattle.levels.specs.Levels.{entries, sizesOf, total, cut, Sized}
 use Rattle.paged_runs.specs.Descent.{foundAt, descended, viewFits, searched, LevelsFit}
-use Rattle.paged_runs.proofs.Sizes.{total-take, cut-take}
+use Rattle.levels.proofs.LevelSizes.{total-take, cut-take}
 
 -- ---- refused views
 

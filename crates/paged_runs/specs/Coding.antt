@@ -8,7 +8,7 @@ use Rattle.stores.specs.Put.{put, pair}
 use Rattle.parts.specs.declared.Encoder.{Encoder}
 use Rattle.parts.specs.declared.Sizes.{Sizes}
 use Rattle.parts.specs.Encoder.{Coder, Inside, ifZero, unchanged, leftAfter, runEnds}
-use Rattle.paged_runs.specs.LevelZero.{levelIn}
+use Rattle.levels.specs.LevelZero.{levelIn}
 
 -- all cells, and the empty ones, from the page's start through the run
 unfoldable pub pageEntry : Encoder → List ℕ

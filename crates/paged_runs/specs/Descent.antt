@@ -11,7 +11,7 @@ use Rattle.format.specs.PagedRuns.{none, allCells, storedCells, Place, lost, at
 use Rattle.parts.specs.declared.Found.{Found}
 use Rattle.paged_runs.specs.declared.search.Reached.{Reached}
 use Rattle.paged_runs.specs.declared.search.Reached.the-variants.{Run, Nowhere}
-use Rattle.paged_runs.specs.Levels.{entries, sizesOf, total, cut}
+use Rattle.levels.specs.Levels.{entries, sizesOf, total, cut}
 
 -- what a search counts of a pair: its stored cells, or all its cells
 abbrev pub counted : Bool → Span → ℕ

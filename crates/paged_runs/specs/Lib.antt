@@ -1,6 +1,4 @@
-pub mod Levels
 pub mod Descent
 pub mod Passing
 pub mod Steps
 pub mod Coding
-pub mod LevelZero

@@ -1,4 +1,4 @@
--- The entries of a level as the check goes along them. Assumes nothing.
+-- Level 0 as the check goes along it. Assumes nothing.
 use Prim.Native.Nat.{ℕ, _+_, _*_, _^_, _≤_, _<_}
 use mathlib.Core.Path.{_≡_}
 use mathlib.Core.Bool.{Bool, true}
@@ -14,9 +14,6 @@ use Rattle.wire.specs.declared.Pair.{Pair}
 use Rattle.parts.specs.Encoder.{leftAfter}
 use Rattle.paged_runs.specs.declared.check.Sum.{Sum}
 use Rattle.paged_runs.specs.declared.check.Passed.{Passed}
-use Rattle.paged_runs.specs.declared.check.Compared.{Compared}
-
--- ---- level 0
 
 -- the sums after a run follow on those before it: it has empty cells before it, and a stored cell
 abbrev pub follows : Sum → Sum → Bool
@@ -56,39 +53,3 @@ runsEnd cells words s = both (s .right) (both (leb (s .sum .cells) cells) (eqb (
 
 unfoldable pub runsRight : ℕ → ℕ → ℕ → List Span → Bool
 runsRight b cells words ys = runsEnd cells words (passedAll b passedNone ys)
-
--- ---- a level above
-
--- past one more entry, with the last entry of its page below
-abbrev pub comparedWith : ℕ → Compared → Pair → Span → Compared
-comparedWith b s u x =
-    record {
-      left = leftAfter b (s .left);
-      sum = u;
-      right =
-          both (s .right)
-          (both (eqb (u .first) (pick (eqb (s .left) 0) 0 (s .sum .first) + x .cells)) (eqb (u .second) (pick (eqb (s .left) 0) 0 (s .sum .second) + x .empty)));
-    }
-
-abbrev pub sameSpans : List Span → List Span → Bool
-sameSpans xs ys = same (flatSpans xs) (flatSpans ys)
-
--- ---- what the header tells
-
--- both parts are in the file, one behind the other, and their counts are those of kind 5
-pub record Inside (file : List ℕ) (v : View) : Type 0 where
-  pub low : 2 ≤ v .step
-  pub high : v .step ≤ 64
-  pub firsts : v .firsts ≡ upperEntries (v .step) (v .seconds)
-  pub seconds : v .seconds ≤ 16777216
-  pub second : v .second ≡ v .start + 8 * v .firsts
-  pub long : v .start + 8 * (v .firsts + v .seconds) ≤ length file
-
--- a level and the one below it are in the file
-pub record LevelInside (file : List ℕ) (start step first size below under : ℕ) : Type 0 where
-  pub low : 2 ≤ step
-  pub high : step ≤ 64
-  pub size-of : size ≡ upTo under step
-  pub most : under ≤ 16777216
-  pub long : start + 8 * (first + size) ≤ length file
-  pub long-below : start + 8 * (below + under) ≤ length file

@@ -1,5 +1,6 @@
 // Positions into level 0, to measure and to write. The upper levels are made of level 0 afterwards.
-use super::setting::upper_count;
+use levels::put::put_levels;
+use levels::sizes::upper_count;
 use parts::Encoder;
 use parts::Sizes;
 use parts::encode::grow;
@@ -17,6 +18,7 @@ ghost use Rattle.stores.specs.Put.{put};
 ghost use Rattle.parts.specs.Encoder.{takenBy, takenAllBy, endedBy};
 ghost use Rattle.parts.specs.Ready.{passed, Sound, Next, Room, putBy};
 ghost use Rattle.parts.specs.Batch.{Along, RoomAll, putAllBy};
+ghost use Rattle.parts.specs.Codes.{Standing};
 ghost use Rattle.paged_runs.specs.Coding.{pagesCoder, coder};
 
 // ---- one position
@@ -148,4 +150,12 @@ pub fn sizes(width: u32, step: u32, e: Encoder) -> Sizes
         first: 8 * upper,
         second,
     }
+}
+
+// The first part, made of the second, which stands in dst behind the room for it.
+pub fn put_derived(dst: &mut [u8], width: u32, step: u32, z: Sizes, start: usize)
+    requires { ⌜ (pagesKind width step .allowed ≡ true) × (start ≤ 4294967296) × Standing (coder width step) (pagesKind width step) z start (now dst) ⌝ }
+    ensures { λ _. ⌜ now (dst .exit) ≡ coder width step .derived z start (now (dst .entry)) ⌝ }
+{
+    put_levels(dst, start, step, z.seconds, start + z.first as usize);
 }

@@ -1,20 +1,21 @@
 // The searches (document 01, "The file", kind 5): along a page to the first entry whose count exceeds the number, and from there to the page
 // below it. For a position a search counts all cells of an entry, for a rank its stored cells.
-use crate::entry::pair_at;
 use format::Position;
 use format::Rank;
 use format::View;
+use levels::entry::pair_at;
+use levels::sizes::level_sizes;
+use levels::sizes::size_at;
 use parts::Found;
 use wire::Pair;
 use wire::numbers::index;
 use wire::numbers::lesser;
 use wire::numbers::long;
 ghost use mathlib.Core.Path.{_≡_};
-ghost use Prim.Native.Nat.{_-_, _≤_, _<_, _^_};
-ghost use lib.ListN.{length, getD};
+ghost use Prim.Native.Nat.{_-_, _<_};
 ghost use Rattle.format.specs.PagedRuns.{none, at, pagesKind};
 ghost use Rattle.parts.specs.Found.{FoundIn, PositionIn};
-ghost use Rattle.paged_runs.specs.Levels.{entries, spanOf, Sized};
+ghost use Rattle.levels.specs.Levels.{entries, spanOf};
 ghost use Rattle.paged_runs.specs.Descent.{counted, ofEmpty, foundAt, descended, walked, PageFits, LevelsFit, searched, placeBy, positionBy};
 
 // Where a search ends: the empty cells before a run, those that it begins with, and the number that is left within it.
@@ -28,38 +29,6 @@ fn less(x: u32, y: u32) -> u32
     ensures { λ r. ⌜ r ≡ x - y ⌝ }
 {
     if y < x { x - y } else { 0 }
-}
-
-// How many entries a level has.
-fn size_at(sizes: &[u32; 24], level: usize) -> usize
-    requires { ⌜ level < 24 ⌝ }
-    ensures { λ r. ⌜ (r ≡ getD (now (sizes .entry)) level 0) × (r < 2 ^ 32) ⌝ }
-{
-    index(sizes[level])
-}
-
-// How many levels there are, and how many entries they have together.
-struct Levels {
-    count: usize,
-    entries: usize,
-}
-
-// Stores the size of each level, level 0 first.
-fn level_sizes(step: u32, seconds: u32, sizes: &mut [u32; 24]) -> Levels
-    requires { ⌜ (2 ≤ step) × (step ≤ 64) × (seconds ≤ 16777216) × (length (now sizes) ≡ 24) ⌝ }
-    ensures { λ r. ⌜ Sized step seconds (now (sizes .exit)) (r .count) (r .entries) ⌝ }
-{
-    let mut size = seconds;
-    let mut count = 1;
-    let mut entries = index(seconds);
-    sizes[0] = seconds;
-    while step < size {
-        size = (size + (step - 1)) / step;
-        sizes[count] = size;
-        count += 1;
-        entries += index(size);
-    }
-    Levels { count, entries }
 }
 
 // What a search counts of an entry.

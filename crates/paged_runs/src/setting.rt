@@ -1,11 +1,12 @@
 // Kind 5's setting and counts (document 01, "The file").
 use format::View;
+use levels::sizes::upper_count;
 use parts::PartBytes;
 use wire::numbers::index;
 ghost use mathlib.Core.Path.{_≡_};
 ghost use mathlib.Core.Bool.{true};
-ghost use Prim.Native.Nat.{_*_, _≤_};
-ghost use Rattle.format.specs.PagedRuns.{upperEntries, pagesKind};
+ghost use Prim.Native.Nat.{_≤_};
+ghost use Rattle.format.specs.PagedRuns.{pagesKind};
 ghost use Rattle.parts.specs.Holds.{Sized};
 
 // Width is 0, step is 2 to 64.
@@ -19,20 +20,6 @@ pub fn allowed(width: u32, step: u32) -> bool
         },
         _ => false,
     }
-}
-
-// The entries above a level of v entries: while a level has more than b entries, one more for each of its pages.
-pub fn upper_count(b: u32, v: u32) -> u32
-    requires { ⌜ (2 ≤ b) × (b ≤ 64) × (v ≤ 16777216) ⌝ }
-    ensures { λ r. ⌜ (r ≡ upperEntries b v) × (r ≤ 2 * v) ⌝ }
-{
-    let mut level = v;
-    let mut entries: u32 = 0;
-    while b < level {
-        level = (level + (b - 1)) / b;
-        entries += level;
-    }
-    entries
 }
 
 // Runs, at most N, and the entries above them.

@@ -3,8 +3,8 @@ use Prim.Native.Nat.{_+_, _-_, _≤_, _<_}
 use mathlib.Core.Path.{_∙_}
 use native.Mathlib.Omega.{arith}
 use lib.ListN.{length}
-use Rattle.paged_runs.specs.Levels.{entries, spanOf}
-use Rattle.paged_runs.proofs.Reading.{length-entries}
+use Rattle.levels.specs.Levels.{entries, spanOf}
+use Rattle.levels.proofs.Reading.{length-entries}
 use Rattle.paged_runs.proofs.Along.{Going, going-first, going-small, going-on, going-done, ends-both}
 use borrow.Author.Needs.{needs}
 use Rattle.paged_runs.proofs.check.runs_right.Statement.{statement}

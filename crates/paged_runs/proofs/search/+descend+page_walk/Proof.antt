@@ -6,7 +6,7 @@ use lib.ListN.{getD}
 use borrow.Author.Needs.{needs}
 use borrow.Fn.Kinds.{In}
 use borrow.Fn.PlainCycle.{Measures, is, falls, and}
-use Rattle.paged_runs.specs.Levels.{spanOf}
+use Rattle.levels.specs.Levels.{spanOf}
 use Rattle.paged_runs.proofs.CheckSteps.{walk-end, descent-leaf, descent-page, first-fits, page-fits, Walking, walking-first, walking-inside, walking-on, walking-here, walking-down, walking-none}
 use Rattle.paged_runs.proofs.search.descend.Reads as descend
 use Rattle.paged_runs.proofs.search.descend.Kinds as descend-kinds
@@ -14,11 +14,11 @@ use Rattle.paged_runs.proofs.search.+descend+page_walk.Lts-descend as d
 use Rattle.paged_runs.proofs.search.page_walk.Reads as page-walk
 use Rattle.paged_runs.proofs.search.page_walk.Kinds as page-walk-kinds
 use Rattle.paged_runs.proofs.search.+descend+page_walk.Lts-page_walk as page-walk-lts
-use Rattle.paged_runs.proofs.entry.pair_at.Reads as pair-at-reads
+use Rattle.levels.proofs.entry.pair_at.Reads as pair-at-reads
 use Rattle.paged_runs.proofs.search.count.Reads as count-reads
 use Rattle.paged_runs.proofs.search.less.Reads as less-reads
 use Rattle.wire.proofs.numbers.lesser.Reads as lesser-reads
-use Rattle.paged_runs.proofs.search.size_at.Reads as size-at-reads
+use Rattle.levels.proofs.sizes.size_at.Reads as size-at-reads
 use Rattle.paged_runs.proofs.search.+descend+page_walk.{statement}
 use Rattle.paged_runs.proofs.search.+descend+page_walk.Tie.{close}
 
