@@ -17,9 +17,7 @@ pub fn words_right(file: &[u8], at: usize, n: u32, empty: u32) -> bool
     let mut place = at;
     let mut left = n;
     while 0 < left {
-        if get_u32(file, place) == empty {
-            right = false;
-        }
+        right = right & (get_u32(file, place) != empty);
         place += 4;
         left -= 1;
     }

@@ -1,11 +1,10 @@
-use mathlib.Core.Logic.{⊎-elim}
 use Prim.Native.Nat.{_+_, _*_, _≤_}
-use mathlib.Core.Path.{_≡_, _∙_, sym}
+use mathlib.Core.Path.{_≡_, _∙_}
 use native.Mathlib.Omega.{arith}
 use lib.ListN.{length, drop}
 use Rattle.format.specs.Tools.{both}
 use Rattle.format.specs.Bytes.{numbersOf}
-use Rattle.words.proofs.Turn.{none, none-here, none-other, none-end}
+use Rattle.words.proofs.Turn.{none, none-turn, none-end}
 use borrow.Author.Needs.{needs}
 use Rattle.words.proofs.words_right.Statement.{statement}
 use Rattle.words.proofs.words_right.Tie as tie
@@ -17,30 +16,12 @@ Inv-loop file at n empty right₀ place₀ left₀ right place left =
 abbrev μ-loop : tie.MeasureT-loop
 μ-loop file at n empty right₀ place₀ left₀ right place left = left
 
-loop-holds : tie.Need-loop-holds Inv-loop μ-loop
-loop-holds c = search needs
-
-get-u32-requires : tie.Need-get-u32-requires Inv-loop μ-loop
-get-u32-requires c κs = search needs
-
-add-place : tie.Need-add-place Inv-loop μ-loop
-add-place c = search needs
-
-sub-left : tie.Need-sub-left Inv-loop μ-loop
-sub-left c = search needs
-
-loop-less : tie.Need-loop-less Inv-loop μ-loop
-loop-less c = search needs
-
 loop-again : tie.Need-loop-again Inv-loop μ-loop
 loop-again c =
-    let a = c .before .before .before .before .before .args in
-    let l = c .before .before .before .loop in (
+    let a = c .before .before .before .before .args in
+    let l = c .before .before .loop in (
       omega arith,
-      ⊎-elim
-          (λ w. rw (w .1) (none-here (a .empty) (l .left) (l .place) (a .file .now) (l .right) (c .before .before .loop-test .taken) (sym (c .before .get-u32 .ensures .0) ∙ w .0 .taken) ∙ l .inv .1))
-          (λ w. rw (w .1) (none-other (a .empty) (l .left) (l .place) (a .file .now) (l .right) (c .before .before .loop-test .taken) (λ e. w .0 .left (c .before .get-u32 .ensures .0 ∙ e)) ∙ l .inv .1))
-          (c .if1 .came),
+      rw (c .get-u32 .ensures .0) (none-turn (a .empty) (l .left) (l .place) (a .file .now) (l .right) (c .before .loop-test .taken) ∙ l .inv .1),
     )
 
 returns : tie.Need-returns Inv-loop μ-loop
@@ -55,10 +36,10 @@ words-right-spec =
     (tie.spec
     Inv-loop
     μ-loop
-    loop-holds
-    get-u32-requires
-    add-place
-    sub-left
-    loop-less
+    (λ c. search needs)
+    (λ c κs. search needs)
+    (λ c. search needs)
+    (λ c. search needs)
+    (λ c. search needs)
     loop-again
     returns)
