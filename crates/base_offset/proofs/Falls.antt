@@ -169,6 +169,23 @@ pub falls-turn : (w n at count : ℕ) (b : List ℕ) → 0 < n
 unfolding fallsAfter
 falls-turn w n at count b h = rw (numbers-turn w n (at + w) b h) (omega arith)
 
+-- the first k of n numbers, and those behind them
+pub falls-block : (w k n at : ℕ) (b : List ℕ) → k ≤ n
+    → fallsAfter (field w at b) (numbersOf w k (drop (at + w) b)) + fallsAfter (field w (at + w * k) b) (numbersOf w (n - k) (drop (at + w * k + w) b))
+    ≡ fallsAfter (field w at b) (numbersOf w n (drop (at + w) b))
+unfolding fallsAfter
+falls-block w zero n at b h =
+    let z : n - 0 ≡ n = omega arith in
+    rw (mul-zero w, add-zero at, z, numbers-end w 0 (drop (at + w) b) (omega arith)) (zero-add _)
+falls-block w (suc k) zero at b h = absurd (omega arith)
+falls-block w (suc k) (suc n) at b h =
+    let r = falls-block w k n (at + w) b (omega arith) in
+    let e : at + w * suc k ≡ at + w + w * k = omega (arith, mul-suc w k) in
+    let d : suc n - suc k ≡ n - k = omega arith in
+    let x : suc k - 1 ≡ k = omega arith in
+    let y : suc n - 1 ≡ n = omega arith in
+    rw (e, d, numbers-turn w (suc k) (at + w) b (omega arith), numbers-turn w (suc n) (at + w) b (omega arith), x, y) (omega (arith, r))
+
 pub falls-end : (w n count p : ℕ) (b : List ℕ) → n ≤ 0 → count ≡ count + fallsAfter p (numbersOf w n b)
 unfolding fallsAfter
 falls-end w n count p b h = rw (numbers-end w n b h) (omega arith)
