@@ -15,7 +15,8 @@ use Rattle.wire.proofs.Laws.{field-zero, size-none}
 use Rattle.laws.proofs.Tools.{cases, both-true, both-false}
 use Rattle.laws.proofs.Bounds.{upTo-suc, upTo-zero}
 use Rattle.laws.proofs.Numbers.{numbers-turn, numbers-end}
-use Rattle.base_offset.specs.Group.{fallen, fallsAfter, lastAfter, falls, groupEnds, endsRight}
+use Rattle.parts.specs.Falls.{fallen}
+use Rattle.base_offset.specs.Group.{fallsAfter, lastAfter, falls, groupEnds, endsRight}
 use Rattle.base_offset.proofs.Climb.{climbs}
 use Rattle.base_offset.proofs.Groups.{groupRight, groupsRight}
 

@@ -1,6 +1,6 @@
 -- A group: a base and the offsets of the ranks that it serves. Assumes nothing.
 use Prim.Native.Nat.{ℕ, _+_, _-_}
-use mathlib.Core.Bool.{Bool, true, false}
+use mathlib.Core.Bool.{Bool}
 use mathlib.Core.List.{List, [], _∷_}
 use lib.ListN.{take, drop}
 use lib.Dec.{eqb, ltb}
@@ -8,11 +8,7 @@ use Rattle.format.specs.declared.View.{View}
 use Rattle.format.specs.Tools.{both, first, others}
 use Rattle.format.specs.Bytes.{field, numbersOf}
 use Rattle.wire.specs.Wire.{entrySize}
-
--- 0 where a test of a rise holds, and 1 where it fails
-unfoldable pub fallen : Bool → ℕ
-fallen true = 0
-fallen false = 1
+use Rattle.parts.specs.Falls.{fallen}
 
 -- how many numbers are not above the one before them, which is p for the first
 unfoldable pub fallsAfter : ℕ → List ℕ → ℕ

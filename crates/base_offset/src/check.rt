@@ -13,7 +13,8 @@ ghost use Rattle.format.specs.Bytes.{field, numbersOf};
 ghost use Rattle.format.specs.BaseOffset.{basedKind};
 ghost use Rattle.wire.specs.Wire.{entrySize};
 ghost use Rattle.parts.specs.Holds.{Counted, partsRight};
-ghost use Rattle.base_offset.specs.Group.{fallen, fallsAfter, falls, groupEnds, endsOf};
+ghost use Rattle.parts.specs.Falls.{fallen};
+ghost use Rattle.base_offset.specs.Group.{fallsAfter, falls, groupEnds, endsOf};
 
 // 1 where y is not above x.
 fn fall(x: u32, y: u32) -> u8

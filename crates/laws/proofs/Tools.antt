@@ -1,7 +1,7 @@
 -- Laws of the small tools. Assumes nothing.
 use Prim.Native.Nat.{ℕ, zero, suc, _+_, _-_, _≤_, _<_}
 use mathlib.Core.Path.{_≡_, refl, sym, ap, _∙_}
-use mathlib.Core.Bool.{Bool, true, false, not}
+use mathlib.Core.Bool.{Bool, true, false, not, _&&_}
 use mathlib.Core.List.{List, [], _∷_, _++_}
 use native.Mathlib.Nat.{le-of-suc-le-suc, not-suc-le-zero, add-suc, suc-add}
 use native.Mathlib.Omega.{arith}
@@ -37,6 +37,23 @@ both-one false = refl
 pub both-assoc : (a b c : Bool) → both (both a b) c ≡ both a (both b c)
 both-assoc true b c = refl
 both-assoc false b c = refl
+
+-- the code's "and"
+pub and-both : (a b : Bool) → (a && b) ≡ both a b
+and-both true b = refl
+and-both false b = refl
+
+pub and-three : (a b c : Bool) → (a && b) && c ≡ both a (both b c)
+and-three true b c = and-both b c
+and-three false b c = refl
+
+pub and-four : (a b c d : Bool) → ((a && b) && c) && d ≡ both a (both b (both c d))
+and-four true b c d = and-three b c d
+and-four false b c d = refl
+
+pub both-and : (a b c : Bool) → both (a && b) c ≡ both a (both b c)
+both-and true b c = refl
+both-and false b c = refl
 
 pub not-false : (a : Bool) → not a ≡ false → a ≡ true
 not-false true h = refl

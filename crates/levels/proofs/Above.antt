@@ -13,7 +13,7 @@ use borrow.Author.Tests.{eqb-true, ne-eqb}
 use Rattle.format.specs.Tools.{pick, both, same, upTo}
 use Rattle.format.specs.Runs.{Span}
 use Rattle.format.specs.PagedRuns.{plus, none, sumsFrom, level, lasts, upperLevels, upperEntries, flatSpans, spansIn}
-use Rattle.laws.proofs.Tools.{both-false, both-one, both-assoc, same-true}
+use Rattle.laws.proofs.Tools.{and-three, both-false, both-one, both-assoc, same-true}
 use Rattle.laws.proofs.Levels.{span-path}
 use Rattle.laws.proofs.Bounds.{index-inside, length-lasts, length-upperLevels, upTo-half}
 use Rattle.laws.proofs.Positions.{spans-in-flat, length-flatSpans}
@@ -24,16 +24,6 @@ use Rattle.levels.specs.declared.check.Compared.{Compared}
 use Rattle.levels.specs.Levels.{spanOf}
 use Rattle.levels.specs.Comparing.{comparedWith, sameSpans}
 use Rattle.levels.proofs.LevelBytes.{flat-append}
-
--- ---- the code's "and"
-
-pub and-both : (s t : Bool) → (s && t) ≡ both s t
-and-both true t = refl
-and-both false t = refl
-
-pub and-three : (r s t : Bool) → (r && s) && t ≡ both r (both s t)
-and-three true s t = and-both s t
-and-three false s t = refl
 
 -- ---- one entry
 

@@ -13,7 +13,7 @@ use borrow.Author.Tests.{leb-true, ltb-true, eqb-true, le-leb, lt-ltb, ne-eqb}
 use Rattle.format.specs.Tools.{pick, both}
 use Rattle.format.specs.Runs.{Span}
 use Rattle.format.specs.PagedRuns.{plus, less, none, sumsFrom, level, pairsFrom, pairsOf}
-use Rattle.laws.proofs.Tools.{both-true, both-make}
+use Rattle.laws.proofs.Tools.{and-both, and-three, both-true, both-make}
 use Rattle.laws.proofs.Levels.{span-path}
 use Rattle.laws.proofs.RunsBack.{leastEmpty}
 use Rattle.parts.specs.Encoder.{leftAfter}
@@ -21,7 +21,6 @@ use Rattle.paged_runs.specs.declared.check.Sum.{Sum}
 use Rattle.paged_runs.specs.declared.check.Passed.{Passed}
 use Rattle.paged_runs.specs.Passing.{follows, sumWith, Small, passedWith, passedAll, noSum, passedNone, runsEnd, runsRight}
 use Rattle.levels.proofs.Bounded.{cellsOf, emptyOf}
-use Rattle.levels.proofs.Above.{and-both, and-three}
 use Rattle.paged_runs.proofs.GoodPairs.{Good, good-moved}
 
 pub follows-path : (a s : Sum) (n : ℕ) → n ≡ leastEmpty (a .cells)

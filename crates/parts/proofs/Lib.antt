@@ -14,6 +14,7 @@ pub mod Outright
 pub mod Added
 pub mod Grown
 -- The parts, and the facts of an accepted file.
+pub mod Falls
 pub mod Last
 pub mod Places
 pub mod Seen

@@ -8,3 +8,4 @@ pub mod Ready
 pub mod Batch
 pub mod Codes
 pub mod Last
+pub mod Falls

@@ -10,7 +10,7 @@ use borrow.Author.Tests.{leb-true, ltb-true, ltb-false, le-leb, lt-leb}
 use Rattle.format.specs.Tools.{both}
 use Rattle.format.specs.Bytes.{field, numbersOf}
 use Rattle.parts.specs.Holds.{rises}
-use Rattle.laws.proofs.Tools.{cases}
+use Rattle.laws.proofs.Tools.{cases, both-and}
 use Rattle.laws.proofs.Numbers.{numbers-turn, numbers-end}
 
 -- each number is above the one before, the first is at least `least`, and the last is below `bound`
@@ -40,10 +40,6 @@ unfolding rises
 rises-none w B n b h = rw (numbers-end w n b (omega arith))
 
 -- ---- a loop along numbers of w bytes
-
-both-and : (r t s : Bool) → both (r && t) s ≡ both r (both t s)
-both-and true t s = refl
-both-and false t s = refl
 
 pub climb-first : (w n at B : ℕ) (b : List ℕ) → 0 < n
     → climbs (suc (field w at b)) B (numbersOf w (n - 1) (drop (at + w) b)) ≡ climbs 0 B (numbersOf w n (drop at b))

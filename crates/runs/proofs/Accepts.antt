@@ -1,17 +1,20 @@
 -- The check along runs, as the loop goes: it passes exactly for runs in strict order that end below cells and hold as many stored cells as there are words.
 -- Assumes nothing.
-use Prim.Native.Nat.{ℕ, zero, suc, _+_, _-_, _≤_, _<_}
-use mathlib.Core.Path.{_≡_, refl, sym}
+use Prim.Native.Nat.{ℕ, zero, suc, _+_, _-_, _*_, _≤_, _<_}
+use mathlib.Core.Path.{_≡_, refl, sym, ap, _∙_}
 use mathlib.Core.Bool.{Bool, true, false, not, _||_}
 use mathlib.Core.List.{List, [], _∷_}
-use native.Mathlib.Numerals.{add-one}
+use native.Mathlib.Nat.{zero-add}
 use native.Mathlib.Omega.{arith}
 use lib.Dec.{eqb, leb, ltb}
-use borrow.Author.Tests.{eqb-true, eq-eqb, leb-true, le-leb, lt-leb, ltb-false, le-ltb, not-true}
+use borrow.Author.Tests.{eqb-true, eqb-false, eq-eqb, ne-eqb, leb-true, leb-false, le-leb, ltb-true, ltb-false, lt-ltb, le-ltb, not-true}
 use Rattle.format.specs.Tools.{both}
 use Rattle.format.specs.Runs.{Run}
-use Rattle.laws.proofs.Tools.{both-true, both-make}
+use Rattle.laws.proofs.Tools.{cases, both-true, both-false, both-make}
 use Rattle.laws.proofs.RunsBack.{leastEmpty, InOrder', lastEnd, lastEmpty}
+use Rattle.wire.specs.declared.Pair.{Pair}
+use Rattle.wire.specs.Wire.{fieldPair}
+use Rattle.parts.specs.Falls.{fallen, follows, pairFalls}
 use Rattle.runs.proofs.Pairs.{unlike, pairAt, pairs, pairs-cons, pairs-none}
 
 -- the pair does not follow on: V is below the least, or no cell of the run is stored
@@ -56,36 +59,70 @@ true-right C N e v (x ∷ xs) r =
     rw (le-ltb (x .empty) (leastEmpty e + v) a, le-ltb (x .last + v) (e + x .empty) (omega arith))
     (true-right C N (suc (x .last)) (x .empty) xs (record { order = r .order .2; cells = r .cells; words = r .words }))
 
--- ---- a turn of the loop, and its end
+-- ---- as the code tests it
 
-both-or : (s t u : Bool) (k : Bool) → both (not s) (both (not (t || u)) k) ≡ both (not ((s || t) || u)) k
-both-or true t u k = refl
-both-or false t u k = refl
+-- past a run: the next pair is not wrong exactly where it follows
+not-wrong : (x y : Pair) → not (wrong (suc (x .first)) (x .second) (record { last = y .first; empty = y .second })) ≡ follows x y
+unfolding wrong follows
+not-wrong x y =
+    let l = x .first in
+    let e = x .second in
+    let m = y .first in
+    let g = y .second in
+    cases (ltb e g)
+    (λ t.
+    let k = ltb-true e g t in
+    cases (ltb l m)
+    (λ u.
+    let h = ltb-true l m u in
+    cases (ltb (m + e) (suc l + g))
+    (λ w. let z = ltb-true (m + e) (suc l + g) w in rw (t, u, w, le-ltb g (1 + e) (omega arith), le-ltb (g - e) (m - l) (omega arith)))
+    (λ w. let z = ltb-false (m + e) (suc l + g) w in rw (t, u, w, le-ltb g (1 + e) (omega arith), lt-ltb (g - e) (m - l) (omega arith))))
+    (λ u. let h = ltb-false l m u in rw (u, le-ltb g (1 + e) (omega arith), lt-ltb (m + e) (suc l + g) (omega arith))))
+    (λ t. let k = ltb-false e g t in rw (t, lt-ltb g (1 + e) (omega arith)) (sym (both-false (ltb l m))))
 
--- of the pair at a place: l and y are its numbers, `least` is the least V
-pub turn : (C N at left e v least l y : ℕ) (bad : Bool) (b : List ℕ) → 0 < left → least ≡ leastEmpty e + v
-    → l ≡ pairAt at b .last → y ≡ pairAt at b .empty
-    → both (not bad) (rightFrom C N e v (pairs left at b))
-    ≡ both (not ((bad || ltb y least) || ltb (l + v) (e + y))) (rightFrom C N (l + 1) y (pairs (left - 1) (at + 8) b))
-unfolding rightFrom wrong
-turn C N at zero e v least l y bad b h m p q = absurd (omega arith)
-turn C N at (suc left) e v least l y bad b h m p q =
-    let k : suc left - 1 ≡ left = omega arith in
-    rw (k, m, p, q, add-one (pairAt at b .last), pairs-cons left at b)
-    (both-or bad (ltb (pairAt at b .empty) (leastEmpty e + v)) (ltb (pairAt at b .last + v) (e + pairAt at b .empty)) _)
+fallen-turn : (f t : Bool) (n : ℕ) → both f (both (eqb n 0) t) ≡ both (eqb (fallen f + n) 0) t
+unfolding fallen
+fallen-turn true t n = rw (zero-add n)
+fallen-turn false t n = rw (ne-eqb (1 + n) 0 (λ e. omega arith))
 
--- past a run the least V is one more than the V before
-pub next-least : (l y : ℕ) → y + 1 ≡ leastEmpty (l + 1) + y
-next-least l y = rw (add-one l) (omega arith)
+-- at the last pair: it ends below cells, and its empty cells with the words make up its end
+abbrev pub endsBy : ℕ → ℕ → Pair → Bool
+endsBy C N y = both (leb (suc (y .first)) C) (eqb (suc (y .first)) (y .second + N))
 
-module _ (C N at left e v : ℕ) (b : List ℕ) (h : left ≤ 0) where
-  none-left : pairs left at b ≡ []
-  none-left = let z : left ≡ 0 = omega arith in rw z (pairs-none at b)
+after-next : (C N n at : ℕ) (b : List ℕ) → rightFrom C N (suc (fieldPair at b .first)) (fieldPair at b .second) (pairs (suc n) (at + 8) b)
+    ≡ both (follows (fieldPair at b) (fieldPair (at + 8) b))
+    (rightFrom C N (suc (fieldPair (at + 8) b .first)) (fieldPair (at + 8) b .second) (pairs n (at + 8 + 8) b))
+unfolding rightFrom fieldPair
+after-next C N n at b =
+    let r = rightFrom C N (suc (fieldPair (at + 8) b .first)) (fieldPair (at + 8) b .second) (pairs n (at + 8 + 8) b) in
+    rw (pairs-cons n (at + 8) b) (ap (λ (t : Bool). both t r) (not-wrong (fieldPair at b) (fieldPair (at + 8) b)))
 
-  pub end-long : C < e → rightFrom C N e v (pairs left at b) ≡ false
-  unfolding rightFrom
-  end-long k = rw (none-left, lt-leb e C k)
+after : (C N n at : ℕ) (b : List ℕ) → rightFrom C N (suc (fieldPair at b .first)) (fieldPair at b .second) (pairs n (at + 8) b)
+    ≡ both (eqb (pairFalls n at b) 0) (endsBy C N (fieldPair (at + 8 * n) b))
+unfolding rightFrom pairFalls
+after C N zero at b =
+    let z : at + 8 * 0 ≡ at = omega arith in
+    rw (z, pairs-none (at + 8) b)
+after C N (suc n) at b =
+    let z : at + 8 * suc n ≡ at + 8 + 8 * n = omega arith in
+    let f = follows (fieldPair at b) (fieldPair (at + 8) b) in
+    rw z
+    (after-next C N n at b ∙ ap (λ (t : Bool). both f t) (after C N n (at + 8) b)
+    ∙ fallen-turn f (endsBy C N (fieldPair (at + 8 + 8 * n) b)) (pairFalls n (at + 8) b))
 
-  pub end-right : e ≤ C → rightFrom C N e v (pairs left at b) ≡ eqb e (v + N)
-  unfolding rightFrom
-  end-right k = rw (none-left, le-leb e C k)
+pub right-none : (C N at : ℕ) (b : List ℕ) → rightFrom C N 0 0 (pairs 0 at b) ≡ eqb N 0
+unfolding rightFrom
+right-none C N at b =
+    cases (eqb N 0) (λ t. rw (pairs-none at b, t, le-leb 0 C (omega arith)) (eq-eqb 0 (0 + N) (omega (arith, eqb-true N 0 t))))
+    (λ t. rw (pairs-none at b, t, le-leb 0 C (omega arith)) (ne-eqb 0 (0 + N) (λ e. eqb-false N 0 t (omega (arith, e)))))
+
+pub right-some : (C N n at : ℕ) (b : List ℕ) → rightFrom C N 0 0 (pairs (suc n) at b)
+    ≡ both (leb (fieldPair at b .second) (fieldPair at b .first)) (both (eqb (pairFalls n at b) 0) (endsBy C N (fieldPair (at + 8 * n) b)))
+unfolding rightFrom wrong fieldPair
+right-some C N n at b =
+    let l = fieldPair at b .first in
+    let e = fieldPair at b .second in
+    cases (leb e l)
+    (λ t. rw (pairs-cons n at b, t, le-ltb e (leastEmpty 0 + 0) (omega arith), le-ltb (l + 0) (0 + e) (omega (arith, leb-true e l t))) (after C N n at b))
+    (λ t. rw (pairs-cons n at b, t, le-ltb e (leastEmpty 0 + 0) (omega arith), lt-ltb (l + 0) (0 + e) (omega (arith, leb-false e l t))))

@@ -1,27 +1,30 @@
 -- The parts of kind 1 are right exactly when its pairs are. Assumes nothing.
-use Prim.Native.Nat.{ℕ, _+_, _*_, _^_, _≤_}
+use Prim.Native.Nat.{ℕ, suc, _+_, _-_, _*_, _^_, _≤_, _<_}
 use mathlib.Core.Path.{_≡_, refl, sym, ap, _∙_}
-use mathlib.Core.Bool.{true}
+use mathlib.Core.Bool.{true, _&&_}
 use mathlib.Core.List.{List}
 use native.Mathlib.Omega.{arith}
 use lib.ListN.{length, take, drop, length-drop}
-use lib.Dec.{leb}
+use lib.Dec.{leb, eqb}
 use borrow.Author.Tests.{eqb-true}
 use Rattle.format.specs.declared.View.{View}
 use Rattle.format.specs.Tools.{Below}
 use Rattle.format.specs.Bytes.{bytesOf}
 use Rattle.format.specs.Runs.{runs, spans, positionsFrom, flatRuns, runsIn, runParts, runsKind}
-use Rattle.laws.proofs.Tools.{cases, both-true}
+use Rattle.laws.proofs.Tools.{cases, both-true, and-four}
 use Rattle.laws.proofs.Bytes.{below-drop}
 use Rattle.laws.proofs.Bounds.{below-runs, below-widen}
 use Rattle.laws.proofs.Positions.{runs-in-flat, length-flatRuns}
 use Rattle.laws.proofs.Check.{bytesOf-numbersOf}
 use Rattle.laws.proofs.RunsBack.{weaker, runs-again, rising-again, length-again, runs-ordered, runs-end, runs-length}
+use Rattle.wire.specs.declared.Pair.{Pair}
+use Rattle.wire.specs.Wire.{fieldPair}
+use Rattle.parts.specs.Falls.{pairFalls}
 use Rattle.parts.specs.Holds.{Counted, said, partsRight, Holds}
 use Rattle.parts.proofs.Seen.{right-holds, holds-right}
 use Rattle.parts.proofs.Entries.{Entries, all-entries}
 use Rattle.runs.proofs.Pairs.{pairs, length-pairs, flat-pairs}
-use Rattle.runs.proofs.Accepts.{Right, rightFrom, right-true, true-right}
+use Rattle.runs.proofs.Accepts.{Right, rightFrom, right-true, true-right, right-none, right-some}
 
 -- the pairs are inside the file, and there is no second part
 pub record Inside (b : List ℕ) (v : View) : Type 0 where
@@ -99,8 +102,24 @@ module _ (b : List ℕ) (v : View) (s : Below 256 b) (c : Counted (runsKind (v .
         second = refl;
       })
 
-  pub parts-pairs : partsRight (runsKind (v .width) (v .step)) b v ≡ rightFrom (v .cells) (v .words) 0 0 (pairs (v .firsts) (v .start) b)
+  parts-pairs : partsRight (runsKind (v .width) (v .step)) b v ≡ rightFrom (v .cells) (v .words) 0 0 (pairs (v .firsts) (v .start) b)
   parts-pairs =
       cases (rightFrom (v .cells) (v .words) 0 0 (pairs (v .firsts) (v .start) b))
       (λ e. right-pairs (right-true _ _ _ _ _ e) ∙ sym e)
       (λ e. cases (partsRight (runsKind (v .width) (v .step)) b v) (λ p. p ∙ sym (true-right _ _ _ _ _ (pairs-right p))) (λ p. p ∙ sym e))
+
+  -- ---- as the code tests it
+
+  pub no-parts : v .firsts ≡ 0 → eqb (v .words) 0 ≡ partsRight (runsKind (v .width) (v .step)) b v
+  no-parts z = sym (parts-pairs ∙ rw z (right-none (v .cells) (v .words) (v .start) b))
+
+  pub parts-by : 0 < v .firsts → (x y : Pair) (falls : ℕ) → x ≡ fieldPair (v .start) b → y ≡ fieldPair (v .start + 8 * (v .firsts - 1)) b
+      → falls ≡ pairFalls (v .firsts - 1) (v .start) b
+      → ((leb (x .second) (x .first) && eqb falls 0) && leb (y .first + 1) (v .cells)) && eqb (y .first + 1) (y .second + v .words)
+      ≡ partsRight (runsKind (v .width) (v .step)) b v
+  parts-by k x y falls e f g =
+      let n : v .firsts ≡ suc (v .firsts - 1) = omega arith in
+      let w : suc (y .first) ≡ y .first + 1 = omega arith in
+      let r = ap (λ (m : ℕ). rightFrom (v .cells) (v .words) 0 0 (pairs m (v .start) b)) n ∙ right-some (v .cells) (v .words) (v .firsts - 1) (v .start) b in
+      and-four (leb (x .second) (x .first)) (eqb falls 0) (leb (y .first + 1) (v .cells)) (eqb (y .first + 1) (y .second + v .words))
+      ∙ sym (parts-pairs ∙ rw (← e, ← f, ← g, w) at r)

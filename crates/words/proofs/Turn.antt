@@ -7,15 +7,12 @@ use lib.ListN.{drop}
 use lib.Dec.{eqb}
 use Rattle.format.specs.Tools.{both, every}
 use Rattle.format.specs.Bytes.{field, numbersOf}
+use Rattle.laws.proofs.Tools.{both-and}
 use Rattle.laws.proofs.Numbers.{numbers-turn, numbers-end}
 
 -- no number of the list is e
 abbrev pub none : ℕ → List ℕ → Bool
 none e xs = every (λ x. not (eqb x e)) xs
-
-both-and : (r t s : Bool) → both (r && t) s ≡ both r (both t s)
-both-and true t s = refl
-both-and false t s = refl
 
 pub none-turn : (e n at : ℕ) (b : List ℕ) (right : Bool) → 0 < n
     → both (right && not (eqb (field 4 at b) e)) (none e (numbersOf 4 (n - 1) (drop (at + 4) b))) ≡ both right (none e (numbersOf 4 n (drop at b)))
