@@ -1,3 +1,4 @@
 pub mod Climb
 pub mod Held
 pub mod Laws
+pub mod Ahead

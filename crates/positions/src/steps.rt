@@ -2,11 +2,13 @@
 use format::View;
 use parts::Cursor;
 use std::num::wrapping_add_u32;
+use wire::get_u32;
 use wire::load_u32;
 ghost use mathlib.Core.Path.{_≡_};
+ghost use mathlib.Core.Bool.{true};
 ghost use lib.ListN.{length};
 ghost use Rattle.parts.specs.Cursor.{Batch};
-ghost use Rattle.positions.specs.Steps.{next};
+ghost use Rattle.positions.specs.Steps.{next, There};
 
 // The next rank.
 pub fn next(file: &[u8], v: View, mut c: Cursor) -> Cursor
@@ -17,10 +19,46 @@ pub fn next(file: &[u8], v: View, mut c: Cursor) -> Cursor
     c
 }
 
+// Whether the entries of the n ranks after the cursor's are all there.
+fn all_there(file: &[u8], v: View, c: Cursor, n: usize) -> bool
+    ensures { λ r. ⌜ (r ≡ true → There (now (file .entry)) v c n) ⌝ }
+{
+    if 65536 < n {
+        return false;
+    }
+    let end = c.rank as usize + n;
+    if 4294967295 < end {
+        return false;
+    }
+    v.start as usize + 4 * end + 4 <= file.len()
+}
+
+// The positions of the ranks from the cursor on where the next entries are all there.
+fn along(file: &[u8], v: View, mut c: Cursor, out: &mut [u32]) -> Cursor
+    requires { ⌜ There (now file) v c (length (now out)) ⌝ }
+    ensures { λ r. ⌜ Batch (next (now (file .entry)) v) c (length (now (out .entry))) r (now (out .exit)) ⌝ }
+{
+    let mut at = c.at;
+    let mut place = v.start as usize + 4 * c.rank as usize + 4;
+    let mut i: usize = 0;
+    while i < out.len() {
+        out[i] = at;
+        at = get_u32(file, place);
+        place += 4;
+        i += 1;
+    }
+    c.rank += i as u32;
+    c.at = at;
+    c
+}
+
 // The positions of the ranks from the cursor on, as many as `out` has elements; the cursor after them.
 pub fn positions(file: &[u8], v: View, mut c: Cursor, out: &mut [u32]) -> Cursor
     ensures { λ r. ⌜ Batch (next (now (file .entry)) v) c (length (now (out .entry))) r (now (out .exit)) ⌝ }
 {
+    if all_there(file, v, c, out.len()) {
+        return along(file, v, c, out);
+    }
     let mut i: usize = 0;
     while i < out.len() {
         out[i] = c.at;

@@ -1,0 +1,55 @@
+-- The entries ahead of the cursor, where they are all there. Assumes nothing.
+use Prim.Native.Nat.{ℕ, _+_, _-_, _*_, _≤_, _<_}
+use mathlib.Core.Path.{_≡_, ap, _∙_}
+use mathlib.Core.List.{List}
+use native.Mathlib.Nat.{add-zero}
+use native.Mathlib.Omega.{arith}
+use lib.ListN.{length, set}
+use Rattle.format.specs.declared.View.{View}
+use Rattle.format.specs.Bytes.{field}
+use Rattle.wire.specs.Wire.{whole}
+use Rattle.wire.proofs.Laws.{whole-there}
+use Rattle.parts.specs.declared.Cursor.{Cursor}
+use Rattle.parts.specs.Cursor.{add32, movedTo, Batch}
+use Rattle.parts.proofs.Steps.{add32-small}
+use Rattle.parts.proofs.Batches.{Partly, batch-turn, batch-end}
+use Rattle.positions.specs.Steps.{next, There}
+
+-- i ranks further, at a position
+abbrev pub stand : Cursor → ℕ → ℕ → Cursor
+stand c i p = record { rank = c .rank + i; at = p; next = c .next; last = c .last; used = c .used; base = c .base; empty = c .empty }
+
+pub stand-first : (c : Cursor) → stand c 0 (c .at) ≡ c
+stand-first c = ap (λ (r : ℕ). record { rank = r; at = c .at; next = c .next; last = c .last; used = c .used; base = c .base; empty = c .empty }) (add-zero (c .rank))
+
+-- the step by the first part's place, which is told by that of the entry after the cursor's
+unfoldable pub nextBy : List ℕ → Cursor → ℕ → Cursor → Cursor
+nextBy b c place d = movedTo (whole 4 (place - 4 * c .rank - 4 + 4 * add32 (d .rank) 1) b) d
+
+module _ (b : List ℕ) (v : View) (c : Cursor) (n : ℕ) (t : There b v c n) where
+  abbrev place : ℕ
+  place = v .start + 4 * c .rank + 4
+
+  next-by : nextBy b c place ≡ next b v
+  unfolding nextBy next
+  next-by =
+      let e : place - 4 * c .rank - 4 ≡ v .start = omega arith in
+      ap {B = Cursor → Cursor} (λ (s : ℕ). λ d. movedTo (whole 4 (s + 4 * add32 (d .rank) 1) b) d) e
+
+  stand-next : (i p q : ℕ) → i < n → q ≡ field 4 (place + 4 * i) b → stand c (i + 1) q ≡ next b v (stand c i p)
+  unfolding next movedTo
+  stand-next i p q h f =
+      let long = t .long in
+      let ranks = t .ranks in
+      let r : add32 (c .rank + i) 1 ≡ c .rank + (i + 1) = add32-small (c .rank + i) 1 (omega arith) ∙ omega arith in
+      let e : place + 4 * i ≡ v .start + 4 * (c .rank + (i + 1)) = omega arith in
+      rw (r, f, e, whole-there 4 (v .start + 4 * (c .rank + (i + 1))) b (omega arith))
+
+  pub ahead-turn : (i p q : ℕ) (out : List ℕ) → i < length out → length out ≡ n → q ≡ field 4 (place + 4 * i) b
+      → Partly (nextBy b c place) c n (stand c i p) out i → Partly (nextBy b c place) c n (stand c (i + 1) q) (set out i p) (i + 1)
+  ahead-turn i p q out h l f g =
+      rw next-by (batch-turn (next b v) c n (stand c i p) (stand c (i + 1) q) out i h l (stand-next i p q (omega arith) f) (rw next-by at g))
+
+  pub ahead-end : (i p : ℕ) (out : List ℕ) → length out ≤ i → length out ≡ n → Partly (nextBy b c place) c n (stand c i p) out i
+      → Batch (next b v) c n (stand c i p) out
+  ahead-end i p out h l g = batch-end (next b v) c n (stand c i p) out i h l (rw next-by at g)
