@@ -107,4 +107,4 @@ module _ (b : List ℕ) (v : View) (ls : List ℕ) (h : Holds (K v) b v ls) wher
       find-first k =
           let i = inside in
           let n = h .size in
-          found-gap (v .cells) p ls (h .rising) r (omega arith) (λ g. let low = last .low (omega arith) in absurd (omega arith)) (λ g. rw (← entry-at r i) k) f
+          found-gap (v .cells) p ls (h .rising) r (omega arith) (λ g. let low = last .low ascending (omega arith) in absurd (omega arith)) (λ g. rw (← entry-at r i) k) f

@@ -1,55 +1,54 @@
-use Prim.Native.Nat.{_+_, _*_}
-use mathlib.Core.Logic.{⊎-elim}
+use Prim.Native.Nat.{_+_, _*_, _/_, _≤_, _<_}
+use mathlib.Core.Path.{_≡_, refl}
+use native.Mathlib.Nat.{mul-le-mul-left}
 use native.Mathlib.Omega.{arith}
-use Rattle.wire.specs.Wire.{whole}
-use Rattle.parts.proofs.Last.{Left, left-all, left-upper, left-lower, left-one}
+use lib.ListN.{length}
+use Rattle.parts.proofs.Last.{Left, left-all, numbers, last-none, last-cut, eighth, last-part}
 use borrow.Author.Needs.{needs}
 use Rattle.parts.proofs.search.last_at_most.Statement.{statement}
 use Rattle.parts.proofs.search.last_at_most.Tie as tie
 
+-- what is left is in the file
 abbrev Inv-loop : tie.InvT-loop
-Inv-loop file at n x low₀ size₀ low size = Left (λ i. whole 4 (at + 4 * i) file) n x low size
+Inv-loop file at n x start low₀ size₀ low size = (start ≡ at) × (at + 4 * n ≤ length file) × (n < 4294967296) × Left (numbers file at) n x low size
 
 abbrev μ-loop : tie.MeasureT-loop
-μ-loop file at n x low₀ size₀ low size = size
+μ-loop file at n x start low₀ size₀ low size = size
 
 loop-holds : tie.Need-loop-holds Inv-loop μ-loop
-loop-holds c = left-all _ _ _
+loop-holds c =
+    let n = c .before .if1 .left in
+    let l = c .if2 .left in
+    (refl, omega arith, omega arith, left-all _ _ _ (omega arith))
 
-add-middle : tie.Need-add-middle Inv-loop μ-loop
-add-middle c = search needs
+mul-low : tie.Need-mul-low Inv-loop μ-loop
+mul-low c =
+    let l = c .before .before .loop in
+    let w = l .inv .3 .within in
+    let s = l .inv .2 in
+    let m = mul-le-mul-left (l .size / 8) (c .at-most .ensures .1) in
+    omega arith
 
-cast-load-u32 : tie.Need-cast-load-u32 Inv-loop μ-loop
-cast-load-u32 c = search needs
-
-mul-load-u32 : tie.Need-mul-load-u32 Inv-loop μ-loop
-mul-load-u32 c = search needs
-
-add-load-u32 : tie.Need-add-load-u32 Inv-loop μ-loop
-add-load-u32 c = search needs
-
-load-u32-requires : tie.Need-load-u32-requires Inv-loop μ-loop
-load-u32-requires c κs = search needs
-
-sub-size : tie.Need-sub-size Inv-loop μ-loop
-sub-size c = search needs
-
-loop-less : tie.Need-loop-less Inv-loop μ-loop
-loop-less c = search needs
+add-low : tie.Need-add-low Inv-loop μ-loop
+add-low c =
+    let l = c .before .before .loop in
+    let w = l .inv .3 .within in
+    let s = l .inv .2 in
+    let m = mul-le-mul-left (l .size / 8) (c .at-most .ensures .1) in
+    omega arith
 
 loop-again : tie.Need-loop-again Inv-loop μ-loop
 loop-again c =
-    let a = c .before .before .before .before .before .args in
-    let l = c .before .before .before .loop in
-    let e = c .before .load-u32 .ensures .0 in
-    let t = c .before .before .loop-test .taken in
-    ⊎-elim
-    (λ w. rw (w .1) (left-upper _ (a .n) (a .x) (l .low) (l .size) (l .inv) t (omega (arith, e, w .0 .taken))))
-    (λ w. rw (w .1) (left-lower _ (a .n) (a .x) (l .low) (l .size) (l .inv) t (omega (arith, e, w .0 .left))))
-    (c .if1 .came)
+    let a = c .before .before .before .before .before .before .args in
+    let l = c .before .before .loop in
+    let i = l .inv in
+    (i .0, i .1, i .2, eighth (a .file .now) (a .at) (a .n) (a .x) (l .low) (l .size) (i .3) (c .at-most .result) (c .before .loop-test .taken) (c .at-most .ensures .0) (c .at-most .ensures .1))
 
-returns : tie.Need-returns Inv-loop μ-loop
-returns c = left-one _ _ _ _ _ (c .before .loop .inv) (c .loop-test .left)
+returns-3 : tie.Need-returns-3 Inv-loop μ-loop
+returns-3 c =
+    let a = c .before .before .before .before .before .before .args in
+    let l = c .before .before .loop in
+    last-part (a .file .now) (a .at) (a .n) (a .x) (l .low) (l .size) (l .inv .3) (c .at-most2 .result) (c .at-most2 .ensures .0) (c .at-most2 .ensures .1)
 
 pub last-at-most-spec : {M : Type 1} → statement M
 last-at-most-spec =
@@ -57,13 +56,25 @@ last-at-most-spec =
     (tie.spec
     Inv-loop
     μ-loop
+    (λ c. last-none _ _ _ (c .if1 .taken))
+    (λ c. search needs)
+    (λ c. search needs)
+    (λ c. last-cut _ _ _ _ (c .before .if1 .left) (c .if2 .taken))
     loop-holds
-    add-middle
-    cast-load-u32
-    mul-load-u32
-    add-load-u32
-    load-u32-requires
-    sub-size
-    loop-less
+    (λ c. let w = c .before .loop .inv .3 .within in let s = c .before .loop .inv .2 in omega arith)
+    (λ c. let w = c .before .loop .inv .3 .within in let s = c .before .loop .inv .1 in omega arith)
+    (λ c. let w = c .before .loop .inv .3 .within in let s = c .before .loop .inv .2 in omega arith)
+    (λ c κs. let w = c .before .loop .inv .3 .within in let s = c .before .loop .inv .1 in omega arith)
+    mul-low
+    add-low
+    (λ c. let w = c .before .before .loop .inv .3 .within in let s = c .before .before .loop .inv .2 in omega arith)
+    (λ c. search needs)
+    (λ c. let h = c .before .loop-test .taken in omega arith)
     loop-again
-    returns)
+    (λ c. let w = c .before .loop .inv .3 .within in let s = c .before .loop .inv .2 in omega arith)
+    (λ c. let w = c .before .loop .inv .3 .within in let s = c .before .loop .inv .1 in omega arith)
+    (λ c. let w = c .before .loop .inv .3 .some in omega arith)
+    (λ c κs. let w = c .before .loop .inv .3 .within in let t = c .before .loop .inv .3 .some in let s = c .before .loop .inv .1 in omega arith)
+    (λ c. let w = c .before .before .loop .inv .3 .within in let s = c .before .before .loop .inv .2 in let m = c .at-most2 .ensures .1 in omega arith)
+    (λ c. let w = c .before .before .loop .inv .3 .within in let s = c .before .before .loop .inv .2 in let t = c .before .before .loop .inv .3 .some in let m = c .at-most2 .ensures .1 in omega arith)
+    returns-3)
