@@ -30,7 +30,7 @@ module _ (L : ℕ → ℕ) (N l : ℕ) (base : ℕ → ℕ) (m : ℕ) (s : Bases
     -- below the first base
     pub below-first : p < base j → p < L 0
     below-first h =
-        let z : j ≡ 0 = cases (eqb j 0) (λ t. eqb-true j 0 t) (λ t. let n = eqb-false j 0 t in let y = last .low (omega arith) in absurd (omega arith)) in
+        let z : j ≡ 0 = cases (eqb j 0) (λ t. eqb-true j 0 t) (λ t. let n = eqb-false j 0 t in let y = last .low bases-rise (omega arith) in absurd (omega arith)) in
         let e : base 0 ≡ L 0 = s .value 0 some ∙ ap L (zero-mul l) in
         let g : p < base 0 = rw z at h in
         omega arith
@@ -52,7 +52,7 @@ module _ (L : ℕ → ℕ) (N l : ℕ) (base : ℕ → ℕ) (m : ℕ) (s : Bases
           (λ t.
           let z : L (j * l + i) ≡ base j = ap (λ (x : ℕ). L x) (rw (eqb-true i 0 t) (omega arith)) ∙ sym (s .value j (last .within some)) in
           omega arith)
-          (λ t. let z = eqb-false i 0 t in let y = found .low (omega arith) in omega arith)
+          (λ t. let z = eqb-false i 0 t in let y = found .low offsets-rise (omega arith) in omega arith)
 
       pub above : (k : ℕ) → j * l + i < k → k < N → p < L k
       above k h g =

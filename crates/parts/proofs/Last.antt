@@ -30,10 +30,6 @@ passing-none t = refl
 pub passing-next : (t : ℕ → Bool) (n m : ℕ) → m ≡ pick (t (n + 1)) 1 0 → passing t n + m ≡ passing t (n + 1)
 passing-next t n m h = rw (h, add-one n) (unfold passing in refl)
 
-pub one-most : (t : Bool) → pick t 1 0 ≤ 1
-one-most true = omega arith
-one-most false = omega arith
-
 -- the tests 1 to c pass, and those after them up to n fail
 record Upto (t : ℕ → Bool) (n c : ℕ) : Type 0 where
   most : c ≤ n
@@ -140,6 +136,21 @@ left-one e n x low size l h =
     let w = l .within in
     let s = l .some in
     record { within = λ z. omega arith; low = l .below; high = λ a k i j. l .above a k (omega arith) j }
+
+-- of the same numbers
+pub last-as : (e t : ℕ → ℕ) (n x r : ℕ) → ((i : ℕ) → e i ≡ t i) → LastAtMost e n x r → LastAtMost t n x r
+last-as e t n x r s l =
+    let rise : Ascending t n → Ascending e n = λ a i j h g. rw (s i, s j) (a i j h g) in
+    record { within = l .within; low = λ a h. rw (← s r) (l .low (rise a) h); high = λ a k i j. rw (← s k) (l .high (rise a) k i j) }
+
+-- all of n numbers counted but the first
+pub last-counted : (e t : ℕ → ℕ) (n x c : ℕ) → 0 < n → ((i : ℕ) → t i ≡ e i) → c ≡ passing (λ i. leb (t i) x) (n - 1) → c ≤ n - 1 → LastAtMost e n x c
+last-counted e t n x c h s f g =
+    let z : 0 + 1 * c ≡ c = omega arith in
+    let p : passing (λ i. leb (t i) x) (n - 1) ≡ passing (λ i. leb (e (0 + 1 * i)) x) (n - 1)
+    = passing-as _ _ (n - 1) (λ i. let y : 0 + 1 * i ≡ i = omega arith in rw (y, s i)) in
+    rw z at
+    (left-one e n x (0 + 1 * c) (n - 1 * (n - 1)) (left-part e n x 0 n 1 (n - 1) (left-all e n x h) (omega arith) (omega arith) c (f ∙ p) g) (omega arith))
 
 -- ---- among numbers of 4 bytes
 

@@ -9,8 +9,8 @@ ghost use Rattle.wire.specs.Wire.{whole};
 ghost use Rattle.parts.specs.Last.{LastAtMost, passing};
 
 // 1 for a number that is at most x.
-fn counted(y: u32, x: u32) -> usize
-    ensures { λ r. ⌜ r ≡ pick (leb y x) 1 0 ⌝ }
+pub fn counted(y: u32, x: u32) -> usize
+    ensures { λ r. ⌜ (r ≡ pick (leb y x) 1 0) × (r ≤ 1) ⌝ }
 {
     if y <= x { 1 } else { 0 }
 }

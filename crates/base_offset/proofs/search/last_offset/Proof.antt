@@ -1,49 +1,34 @@
-use Prim.Native.Nat.{_+_}
-use mathlib.Core.Logic.{⊎-elim}
+use Prim.Native.Nat.{_+_, _-_}
+use mathlib.Core.Path.{sym}
 use native.Mathlib.Omega.{arith}
-use Rattle.parts.specs.Cursor.{entryOf}
-use Rattle.parts.proofs.Last.{Left, left-all, left-upper, left-lower, left-one}
+use Rattle.parts.proofs.Steps.{entry-1, entry-2, entry-other}
+use Rattle.parts.proofs.Last.{last-none, last-zero, last-as}
 use borrow.Author.Needs.{needs}
 use Rattle.base_offset.proofs.search.last_offset.Statement.{statement}
 use Rattle.base_offset.proofs.search.last_offset.Tie as tie
 
-abbrev Inv-loop : tie.InvT-loop
-Inv-loop file v rank n x low₀ size₀ low size = Left (λ i. entryOf file v (rank + i)) n x low size
+returns-2 : tie.Need-returns-2
+returns-2 c =
+    let a = c .before .before .before .before .args in
+    last-as _ _ (a .n) (a .x) (c .last-u8 .result) (λ i. entry-1 (a .file .now) (a .v) (a .rank + i) (c .before .match .keys1)) (c .last-u8 .ensures)
 
-abbrev μ-loop : tie.MeasureT-loop
-μ-loop file v rank n x low₀ size₀ low size = size
+returns-3 : tie.Need-returns-3
+returns-3 c =
+    let a = c .before .before .before .before .args in
+    last-as _ _ (a .n) (a .x) (c .last-u16 .result) (λ i. entry-2 (a .file .now) (a .v) (a .rank + i) (c .before .match .keys2)) (c .last-u16 .ensures)
 
-add-entry-of : tie.Need-add-entry-of Inv-loop μ-loop
-add-entry-of c =
-    let w = c .before .loop .inv .within in
-    let p = c .before .before .before .pre in
-    omega arith
-
-loop-again : tie.Need-loop-again Inv-loop μ-loop
-loop-again c =
-    let a = c .before .before .before .before .before .args in
-    let l = c .before .before .before .loop in
-    let e = c .before .entry-of .ensures in
-    let t = c .before .before .loop-test .taken in
-    ⊎-elim
-    (λ w. rw (w .1) (left-upper _ (a .n) (a .x) (l .low) (l .size) (l .inv) t (omega (arith, e, w .0 .taken))))
-    (λ w. rw (w .1) (left-lower _ (a .n) (a .x) (l .low) (l .size) (l .inv) t (omega (arith, e, w .0 .left))))
-    (c .if1 .came)
-
-returns : tie.Need-returns Inv-loop μ-loop
-returns c = left-one _ _ _ _ _ (c .before .loop .inv) (c .loop-test .left)
+returns-4 : tie.Need-returns-4
+returns-4 c =
+    let a = c .before .before .before .args in
+    last-zero _ (a .n) (a .x) (sym (entry-other (a .file .now) (a .v) (a .rank + (a .n - 1)) (c .match .rest .0 .1) (c .match .rest .1)))
 
 pub last-offset-spec : {M : Type 1} → statement M
 last-offset-spec =
     tie.close
     (tie.spec
-    Inv-loop
-    μ-loop
-    (λ c. left-all _ _ _)
-    (λ c. search needs)
-    add-entry-of
+    (λ c. last-none _ _ _ (c .if1 .taken))
     (λ c κs. search needs)
-    (λ c. search needs)
-    (λ c. search needs)
-    loop-again
-    returns)
+    (λ c κs. search needs)
+    returns-2
+    returns-3
+    returns-4)

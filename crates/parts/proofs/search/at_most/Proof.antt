@@ -7,7 +7,7 @@ use lib.Dec.{leb}
 use Rattle.wire.specs.Wire.{whole}
 use Rattle.wire.proofs.Laws.{whole-there}
 use Rattle.parts.specs.Last.{passing}
-use Rattle.parts.proofs.Last.{passing-none, passing-next, one-most}
+use Rattle.parts.proofs.Last.{passing-none, passing-next}
 use borrow.Author.Needs.{needs}
 use Rattle.parts.proofs.search.at_most.Statement.{statement}
 use Rattle.parts.proofs.search.at_most.Tie as tie
@@ -32,12 +32,10 @@ room c =
 
 add-count : tie.Need-add-count Inv-loop μ-loop
 add-count c =
-    let a = c .before .before .before .before .before .args in
     let l = c .before .before .before .loop in
     let h = c .before .before .loop-test .taken in
     let k = l .inv .1 in
-    let e = c .counted .ensures in
-    let m = one-most (leb (c .before .get-u32 .result) (a .x)) in
+    let m = c .counted .ensures .1 in
     omega arith
 
 loop-again : tie.Need-loop-again Inv-loop μ-loop
@@ -45,8 +43,8 @@ loop-again c =
     let a = c .before .before .before .before .before .args in
     let l = c .before .before .before .loop in
     let h = c .before .before .loop-test .taken in
-    let e = c .counted .ensures in
-    let m = one-most (leb (c .before .get-u32 .result) (a .x)) in
+    let e = c .counted .ensures .0 in
+    let m = c .counted .ensures .1 in
     let g = c .before .get-u32 .ensures .0 ∙ sym (whole-there 4 (a .at + a .stride * (l .i + 1)) (a .file .now) (room (c .before .before))) in (
       omega arith,
       omega arith,
