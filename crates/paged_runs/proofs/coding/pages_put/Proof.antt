@@ -1,10 +1,8 @@
-use Prim.Native.Nat.{_+_, _-_}
 use mathlib.Core.Bool.{true, false}
 use mathlib.Core.Path.{_≡_, refl, sym, ap, _∙_}
 use mathlib.Core.Logic.{⊎-elim}
 use native.Mathlib.Omega.{arith}
 use lib.ListN.{length}
-use Rattle.stores.specs.Put.{put, pair}
 use Rattle.parts.specs.Encoder.{runEnds}
 use Rattle.parts.proofs.Taking.{put-second, put-none, length-putBy}
 use Rattle.paged_runs.specs.Coding.{pageEntry, pagesCoder}
@@ -33,12 +31,10 @@ returns c =
       ⊎-elim
           (λ w.
           let t : runEnds e (a .p) ≡ true = sym (c .before .before .run-ends .ensures) ∙ w .0 .taken in
-          let q : i .dst ≡ put (a .dst .now) (e .second) (pair (e .last + 1 - e .cells) (e .last + 1 - e .rank - e .empty)) = cc in
-          q ∙ (put-second (pagesCoder (a .step)) (a .dst .now) e (a .p) (pageEntry e) refl (pages-entry (a .step) e (a .p) t)))
+          w .10 ∙ w .7 .ensures ∙ put-second (pagesCoder (a .step)) (a .dst .now) e (a .p) (pageEntry e) refl (pages-entry (a .step) e (a .p) t))
           (λ w.
           let t : runEnds e (a .p) ≡ false = sym (c .before .before .run-ends .ensures) ∙ w .0 .left in
-          let q : i .dst ≡ a .dst .now = cc in
-          q ∙ (put-none (pagesCoder (a .step)) (a .dst .now) e (a .p) refl (pages-none (a .step) e (a .p) t)))
+          w .1 ∙ put-none (pagesCoder (a .step)) (a .dst .now) e (a .p) refl (pages-none (a .step) e (a .p) t))
           (i .came),
     )
 
