@@ -13,10 +13,10 @@ use Rattle.paged_runs.proofs.coding.pages_put.Tie as tie
 
 put-pair-requires : tie.Need-put-pair-requires
 put-pair-requires c κs =
-    let p = c .before .before .before .before .before .before .before .before .before in
+    let i = c .before .before .before .before .before in
+    let p = i .before .before .before in
     let a = p .args in
-    let u = c .before .before .before .before .before .before .before .run-ends .ensures in
-    let t : runEnds (a .e) (a .p) ≡ true = sym u ∙ c .before .before .before .before .before .before .if1 .taken in
+    let t : runEnds (a .e) (a .p) ≡ true = sym (i .before .run-ends .ensures) ∙ i .if1 .taken in
     let n : length (pagesCoder (a .step) .second (a .e) (a .p)) ≡ 8 = ap length (pages-entry (a .step) (a .e) (a .p) t) ∙ length-entry (a .e) in
     let r = p .pre .1 .second in
     omega arith
@@ -31,7 +31,7 @@ returns c =
       ⊎-elim
           (λ w.
           let t : runEnds e (a .p) ≡ true = sym (c .before .before .run-ends .ensures) ∙ w .0 .taken in
-          w .10 ∙ w .7 .ensures ∙ put-second (pagesCoder (a .step)) (a .dst .now) e (a .p) (pageEntry e) refl (pages-entry (a .step) e (a .p) t))
+          w .9 ∙ w .6 .ensures ∙ put-second (pagesCoder (a .step)) (a .dst .now) e (a .p) (pageEntry e) refl (pages-entry (a .step) e (a .p) t))
           (λ w.
           let t : runEnds e (a .p) ≡ false = sym (c .before .before .run-ends .ensures) ∙ w .0 .left in
           w .1 ∙ put-none (pagesCoder (a .step)) (a .dst .now) e (a .p) refl (pages-none (a .step) e (a .p) t))
@@ -48,7 +48,6 @@ pages-put-spec =
     tie.close
     (tie.spec
     (λ c κs. search needs)
-    (λ c. omega arith)
     (λ c. omega arith)
     (λ c. omega arith)
     (λ c. omega arith)

@@ -23,7 +23,7 @@ returns-2 c =
     let t : runEnds (a .e) (a .p) ≡ true = sym (b .before .before .run-ends .ensures) ∙ not-false _ (b .before .if1 .left) in
     let turn = pages-turn (a .step) (a .e) (a .p) (l .result) (i .cells) (i .empty) t (l .ensures) in
     ⊎-elim
-    (λ w. turn (w .4 ∙ sym (if-zero (l .result) _ _ (w .0 .taken))) (w .5 ∙ sym (if-zero (l .result) _ _ (w .0 .taken))))
+    (λ w. turn (w .3 ∙ sym (if-zero (l .result) _ _ (w .0 .taken))) (w .4 ∙ sym (if-zero (l .result) _ _ (w .0 .taken))))
     (λ w. turn (w .1 ∙ sym (if-more (l .result) _ _ (w .0 .left))) (w .2 ∙ sym (if-more (l .result) _ _ (w .0 .left))))
     (i .came)
 
@@ -35,7 +35,6 @@ pages-taken-spec =
     (λ c κs. search needs)
     returns
     (λ c κs. search needs)
-    (λ c. search needs)
     (λ c. search needs)
     (λ c. search needs)
     (λ c. search needs)
