@@ -9,8 +9,8 @@ unfolding entered add32
 returns c =
     let w = c .before .before in
     let x = w .before .before in
-    rw (c .wrapping-add-u325 .ensures, c .before .wrapping-add-u324 .ensures, w .wrapping-add-u323 .ensures, w .before .wrapping-add-u322 .ensures,
-      x .wrapping-add-u32 .ensures, x .before .load-pair .ensures)
+    rw (c .wrapping-add-u325 .ensures, c .before .wrapping-add-u324 .ensures, w .wrapping-add-u323 .ensures)
+    (rw (w .before .wrapping-add-u322 .ensures, x .wrapping-add-u32 .ensures, x .before .load-pair .ensures))
 
 pub enter-spec : {M : Type 1} → statement M
 enter-spec =
