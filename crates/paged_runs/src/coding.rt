@@ -36,7 +36,7 @@ fn pages_taken(step: u32, e: Encoder, p: u32) -> Encoder
     let mut empty = e.empty;
     if left == 0 {
         cells = e.last + 1;
-        empty = e.last + 1 - e.rank;
+        empty = cells - e.rank;
     }
     Encoder {
         rank: e.rank + 1,
@@ -57,12 +57,8 @@ fn pages_put(dst: &mut [u8], step: u32, e: Encoder, p: u32) -> Encoder
     ensures { λ r. ⌜ (r ≡ takenBy (pagesCoder step) e p) × (now (dst .exit) ≡ putBy (pagesCoder step) (now (dst .entry)) e p) ⌝ }
 {
     if run_ends(e, p) {
-        put_pair(
-            dst,
-            e.second,
-            e.last + 1 - e.cells,
-            e.last + 1 - e.rank - e.empty,
-        );
+        let end = e.last + 1;
+        put_pair(dst, e.second, end - e.cells, end - e.rank - e.empty);
     }
     pages_taken(step, e, p)
 }
@@ -127,12 +123,8 @@ pub fn finish(dst: &mut [u8], width: u32, step: u32, e: Encoder)
     if e.rank == 0 {
         return;
     }
-    put_pair(
-        dst,
-        e.second,
-        e.last + 1 - e.cells,
-        e.last + 1 - e.rank - e.empty,
-    );
+    let end = e.last + 1;
+    put_pair(dst, e.second, end - e.cells, end - e.rank - e.empty);
 }
 
 // The sizes after the end: the upper levels have yet to be put.

@@ -18,7 +18,7 @@ returns c =
 put-pair-requires : tie.Need-put-pair-requires
 unfolding coder
 put-pair-requires c κs =
-    let i = c .before .before .before .before .before .before in
+    let i = c .before .before .before .before .before in
     let p = i .before .before .before in
     let a = p .args in
     let n : length (pagesCoder (a .step) .endSecond (a .e)) ≡ 8 = ap length (end-entry (a .step) (a .e) (i .if1 .left)) ∙ length-entry (a .e) in
@@ -28,7 +28,7 @@ put-pair-requires c κs =
 returns-2 : tie.Need-returns-2
 unfolding coder pageEntry
 returns-2 c =
-    let i = c .before .before .before .before .before .before .before .before .before in
+    let i = c .before .before .before .before .before .before .before .before in
     let a = i .before .before .before .args in
     c .before .before .put-pair .ensures ∙ end-put (a .step) (a .e) (a .dst .now) (pageEntry (a .e)) (end-entry (a .step) (a .e) (i .if1 .left))
 
@@ -37,7 +37,6 @@ finish-spec =
     tie.close
     (tie.spec
     returns
-    (λ c. search needs)
     (λ c. search needs)
     (λ c. search needs)
     (λ c. search needs)

@@ -1,10 +1,8 @@
-use Prim.Native.Nat.{_+_, _-_}
 use mathlib.Core.Bool.{true, false}
 use mathlib.Core.Path.{_≡_, refl, sym, ap, _∙_}
 use mathlib.Core.Logic.{⊎-elim}
 use native.Mathlib.Omega.{arith}
 use lib.ListN.{length}
-use Rattle.stores.specs.Put.{put, pair}
 use Rattle.parts.specs.Encoder.{runEnds}
 use Rattle.parts.proofs.Taking.{put-second, put-none, length-putBy}
 use Rattle.paged_runs.specs.Coding.{pageEntry, pagesCoder}
@@ -15,10 +13,10 @@ use Rattle.paged_runs.proofs.coding.pages_put.Tie as tie
 
 put-pair-requires : tie.Need-put-pair-requires
 put-pair-requires c κs =
-    let p = c .before .before .before .before .before .before .before .before .before in
+    let i = c .before .before .before .before .before in
+    let p = i .before .before .before in
     let a = p .args in
-    let u = c .before .before .before .before .before .before .before .run-ends .ensures in
-    let t : runEnds (a .e) (a .p) ≡ true = sym u ∙ c .before .before .before .before .before .before .if1 .taken in
+    let t : runEnds (a .e) (a .p) ≡ true = sym (i .before .run-ends .ensures) ∙ i .if1 .taken in
     let n : length (pagesCoder (a .step) .second (a .e) (a .p)) ≡ 8 = ap length (pages-entry (a .step) (a .e) (a .p) t) ∙ length-entry (a .e) in
     let r = p .pre .1 .second in
     omega arith
@@ -33,12 +31,10 @@ returns c =
       ⊎-elim
           (λ w.
           let t : runEnds e (a .p) ≡ true = sym (c .before .before .run-ends .ensures) ∙ w .0 .taken in
-          let q : i .dst ≡ put (a .dst .now) (e .second) (pair (e .last + 1 - e .cells) (e .last + 1 - e .rank - e .empty)) = cc in
-          q ∙ (put-second (pagesCoder (a .step)) (a .dst .now) e (a .p) (pageEntry e) refl (pages-entry (a .step) e (a .p) t)))
+          w .9 ∙ w .6 .ensures ∙ put-second (pagesCoder (a .step)) (a .dst .now) e (a .p) (pageEntry e) refl (pages-entry (a .step) e (a .p) t))
           (λ w.
           let t : runEnds e (a .p) ≡ false = sym (c .before .before .run-ends .ensures) ∙ w .0 .left in
-          let q : i .dst ≡ a .dst .now = cc in
-          q ∙ (put-none (pagesCoder (a .step)) (a .dst .now) e (a .p) refl (pages-none (a .step) e (a .p) t)))
+          w .1 ∙ put-none (pagesCoder (a .step)) (a .dst .now) e (a .p) refl (pages-none (a .step) e (a .p) t))
           (i .came),
     )
 
@@ -52,7 +48,6 @@ pages-put-spec =
     tie.close
     (tie.spec
     (λ c κs. search needs)
-    (λ c. omega arith)
     (λ c. omega arith)
     (λ c. omega arith)
     (λ c. omega arith)

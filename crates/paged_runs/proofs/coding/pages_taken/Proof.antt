@@ -1,9 +1,8 @@
-use Prim.Native.Nat.{_+_, _-_}
 use mathlib.Core.Bool.{true}
 use mathlib.Core.Path.{_≡_, sym, _∙_}
 use mathlib.Core.Logic.{⊎-elim}
 use borrow.Author.Tests.{not-true, not-false}
-use Rattle.parts.specs.Encoder.{ifZero, runEnds}
+use Rattle.parts.specs.Encoder.{runEnds}
 use Rattle.parts.proofs.Taking.{if-zero, if-more}
 use Rattle.paged_runs.proofs.OneEntry.{pages-on, pages-turn}
 use borrow.Author.Needs.{needs}
@@ -17,23 +16,16 @@ returns c =
 
 returns-2 : tie.Need-returns-2
 returns-2 c =
-    let a = c .before .before .before .before .before .before .args in
-    let e = a .e in
+    let b = c .before .before .before in
+    let a = b .before .before .before .args in
     let i = c .before .before .if2 in
-    let left = c .before .before .before .left-after .result in
-    let u = c .before .before .before .before .before .run-ends .ensures in
-    let t : runEnds e (a .p) ≡ true = sym u ∙ not-false _ (c .before .before .before .before .if1 .left) in
-    let cells : i .cells ≡ ifZero left (e .last + 1) (e .cells) =
+    let l = b .left-after in
+    let t : runEnds (a .e) (a .p) ≡ true = sym (b .before .before .run-ends .ensures) ∙ not-false _ (b .before .if1 .left) in
+    let turn = pages-turn (a .step) (a .e) (a .p) (l .result) (i .cells) (i .empty) t (l .ensures) in
     ⊎-elim
-    (λ w. cc (if-zero left (e .last + 1) (e .cells) (w .0 .taken)))
-    (λ w. cc (if-more left (e .last + 1) (e .cells) (w .0 .left)))
-    (i .came) in
-    let empty : i .empty ≡ ifZero left (e .last + 1 - e .rank) (e .empty) =
-    ⊎-elim
-    (λ w. cc (if-zero left (e .last + 1 - e .rank) (e .empty) (w .0 .taken)))
-    (λ w. cc (if-more left (e .last + 1 - e .rank) (e .empty) (w .0 .left)))
-    (i .came) in
-    pages-turn (a .step) e (a .p) left (i .cells) (i .empty) t (c .before .before .before .left-after .ensures) cells empty
+    (λ w. turn (w .3 ∙ sym (if-zero (l .result) _ _ (w .0 .taken))) (w .4 ∙ sym (if-zero (l .result) _ _ (w .0 .taken))))
+    (λ w. turn (w .1 ∙ sym (if-more (l .result) _ _ (w .0 .left))) (w .2 ∙ sym (if-more (l .result) _ _ (w .0 .left))))
+    (i .came)
 
 pub pages-taken-spec : {M : Type 1} → statement M
 pages-taken-spec =
@@ -43,7 +35,6 @@ pages-taken-spec =
     (λ c κs. search needs)
     returns
     (λ c κs. search needs)
-    (λ c. search needs)
     (λ c. search needs)
     (λ c. search needs)
     (λ c. search needs)

@@ -6,7 +6,11 @@ use Rattle.paged_runs.proofs.steps.enter.Tie as tie
 
 returns : tie.Need-returns
 unfolding entered add32
-returns c = cc
+returns c =
+    let w = c .before .before in
+    let x = w .before .before in
+    rw (c .wrapping-add-u325 .ensures, c .before .wrapping-add-u324 .ensures, w .wrapping-add-u323 .ensures)
+    (rw (w .before .wrapping-add-u322 .ensures, x .wrapping-add-u32 .ensures, x .before .load-pair .ensures))
 
 pub enter-spec : {M : Type 1} → statement M
 enter-spec =

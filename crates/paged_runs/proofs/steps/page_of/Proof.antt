@@ -18,8 +18,9 @@ returns-2 c = rw (le-ltb _ _ (c .before .before .before .if1 .left))
 returns-3 : tie.Need-returns-3
 unfolding pageOf
 returns-3 c =
-    let z : 0 ≡ c .before .before .before .before .args .c .at - c .before .before .before .before .args .c .rank = omega arith in
-    rw (le-ltb _ _ (c .before .before .if1 .left)) (cc)
+    let a = c .before .before .before .before .args .c in
+    let z : a .at - a .rank ≡ 0 = omega arith in
+    rw (le-ltb _ _ (c .before .before .if1 .left), z)
 
 pub page-of-spec : {M : Type 1} → statement M
 page-of-spec =

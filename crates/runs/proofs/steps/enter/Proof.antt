@@ -7,7 +7,9 @@ use Rattle.runs.proofs.steps.enter.Tie as tie
 
 returns : tie.Need-returns
 unfolding entered add32
-returns c = cc
+returns c =
+    let w = c .before .before in
+    rw (c .wrapping-add-u323 .ensures, c .before .wrapping-add-u322 .ensures, w .wrapping-add-u32 .ensures, w .before .load-pair .ensures)
 
 pub enter-spec : {M : Type 1} → statement M
 enter-spec =
