@@ -50,7 +50,11 @@ allowed-as d low high l h = rw (l, h) (allowed-bounded (d .extents) low high)
 
 -- ---- one extent
 
-module _ (n i : ℕ) (es low high : List ℕ) (he : i < length es) (hl : i < length low) (hh : i < length high) where
+-- a number for each dimension
+abbrev pub Four : List ℕ → List ℕ → List ℕ → Type 0
+Four es low high = (length es ≡ mostDimensions) × (length low ≡ mostDimensions) × (length high ≡ mostDimensions)
+
+module _ (n i : ℕ) (es low high : List ℕ) (k : i < mostDimensions) (f : Four es low high) where
   pub count-turn : getD low i 0 ≤ getD high i 0 → getD high i 0 < getD es i 0
       → counted n (drop i es) (drop i low) (drop i high)
       ≡ counted (n * (getD high i 0 - getD low i 0 + 1)) (drop (i + 1) es) (drop (i + 1) low) (drop (i + 1) high)
@@ -58,9 +62,9 @@ module _ (n i : ℕ) (es low high : List ℕ) (he : i < length es) (hl : i < len
   count-turn a b =
       let w : suc (getD high i 0) - getD low i 0 ≡ getD high i 0 - getD low i 0 + 1 = omega arith in
       rw (
-        drop-cons es i 0 he,
-        drop-cons low i 0 hl,
-        drop-cons high i 0 hh,
+        drop-cons es i 0 (rw (f .0) k),
+        drop-cons low i 0 (rw (f .1) k),
+        drop-cons high i 0 (rw (f .2) k),
         le-leb (getD low i 0) (getD high i 0) a,
         lt-ltb (getD high i 0) (getD es i 0) b,
         add-one i,
@@ -72,9 +76,9 @@ module _ (n i : ℕ) (es low high : List ℕ) (he : i < length es) (hl : i < len
   unfolding bounded
   count-past a =
       rw (
-        drop-cons es i 0 he,
-        drop-cons low i 0 hl,
-        drop-cons high i 0 hh,
+        drop-cons es i 0 (rw (f .0) k),
+        drop-cons low i 0 (rw (f .1) k),
+        drop-cons high i 0 (rw (f .2) k),
         le-ltb (getD high i 0) (getD es i 0) a,
         both-false (leb (getD low i 0) (getD high i 0)),
       )
@@ -82,7 +86,7 @@ module _ (n i : ℕ) (es low high : List ℕ) (he : i < length es) (hl : i < len
   pub count-above : getD high i 0 < getD low i 0 → counted n (drop i es) (drop i low) (drop i high) ≡ 0
   unfolding bounded
   count-above a =
-      rw (drop-cons es i 0 he, drop-cons low i 0 hl, drop-cons high i 0 hh, lt-leb (getD low i 0) (getD high i 0) a)
+      rw (drop-cons es i 0 (rw (f .0) k), drop-cons low i 0 (rw (f .1) k), drop-cons high i 0 (rw (f .2) k), lt-leb (getD low i 0) (getD high i 0) a)
 
   -- the product so far, and the extents that are left, stay in the picture
   pub count-room : (m : ℕ) → n * product (drop i es) ≤ m → getD high i 0 < getD es i 0
@@ -92,7 +96,7 @@ module _ (n i : ℕ) (es low high : List ℕ) (he : i < length es) (hl : i < len
       let q = product (drop (i + 1) es) in
       let w : getD high i 0 - getD low i 0 + 1 ≤ getD es i 0 = omega arith in
       let b : n * ((getD high i 0 - getD low i 0 + 1) * q) ≤ n * (getD es i 0 * q) = mul-le-mul-left n (mul-le-mul w (le-refl q)) in
-      let s : product (drop i es) ≡ getD es i 0 * q = rw (drop-cons es i 0 he, add-one i) in
+      let s : product (drop i es) ≡ getD es i 0 * q = rw (drop-cons es i 0 (rw (f .0) k), add-one i) in
       rw (mul-assoc n (getD high i 0 - getD low i 0 + 1) q) (omega (arith, rw s at r))
 
 pub count-end : (n i : ℕ) (es low high : List ℕ) → length es ≤ i → counted n (drop i es) low high ≡ n

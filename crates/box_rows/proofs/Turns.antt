@@ -12,7 +12,7 @@ use lib.Dec.{leb, ltb}
 use borrow.Author.Tests.{leb-true, ltb-true}
 use Rattle.format.specs.declared.View.{View}
 use Rattle.format.specs.Tools.{first, others, range, joined}
-use Rattle.format.specs.Picture.{product}
+use Rattle.format.specs.Picture.{product, mostDimensions}
 use Rattle.format.specs.Accepted.{wordsOf}
 use Rattle.format.specs.Box.{boxFrom}
 use Rattle.laws.proofs.Tools.{both-true, length-range}
@@ -24,6 +24,7 @@ use Rattle.box_rows.specs.Ready.{Ready}
 use Rattle.box_rows.specs.Filling.{wordsOn, RowGoes, RowFilled, BoxGoes, BoxFilled}
 use Rattle.parts.proofs.Seen.{seen}
 use Rattle.box_rows.proofs.Resumed.{ready-later}
+use Rattle.box_rows.proofs.Counted.{Four}
 
 -- ---- lists
 
@@ -58,16 +59,16 @@ product-bounded (e ∷ es) low high h =
 
 -- ---- the first of the dimensions that are left
 
-module _ (b : List ℕ) (v : View) (i : ℕ) (extents low high : List ℕ) (he : i < length extents) (hl : i < length low) (hh : i < length high) where
+module _ (b : List ℕ) (v : View) (i : ℕ) (extents low high : List ℕ) (k : i < mostDimensions) (f : Four extents low high) where
   pub first-goes : (p : ℕ) (s : Filled) (room : ℕ) → BoxGoes b v (drop i extents) (drop i low) (drop i high) p s room
       → BoxGoes b v (getD extents i 0 ∷ drop (i + 1) extents) (getD low i 0 ∷ drop (i + 1) low) (getD high i 0 ∷ drop (i + 1) high) p s room
-  first-goes p s room g = rw (add-one i, ← drop-cons extents i 0 he, ← drop-cons low i 0 hl, ← drop-cons high i 0 hh) g
+  first-goes p s room g = rw (add-one i, ← drop-cons extents i 0 (rw (f .0) k), ← drop-cons low i 0 (rw (f .1) k), ← drop-cons high i 0 (rw (f .2) k)) g
 
   pub first-filled : (p : ℕ) (s : Filled) (before : List ℕ) (r : Filled) (after : List ℕ)
       → BoxFilled b v (getD extents i 0 ∷ drop (i + 1) extents) (getD low i 0 ∷ drop (i + 1) low) (getD high i 0 ∷ drop (i + 1) high) p s before r after
       → BoxFilled b v (drop i extents) (drop i low) (drop i high) p s before r after
   first-filled p s before r after g =
-      rw (drop-cons extents i 0 he, drop-cons low i 0 hl, drop-cons high i 0 hh, ← add-one i) g
+      rw (drop-cons extents i 0 (rw (f .0) k), drop-cons low i 0 (rw (f .1) k), drop-cons high i 0 (rw (f .2) k), ← add-one i) g
 
 -- ---- of a box that goes
 

@@ -3,6 +3,7 @@ use Prim.Native.Nat.{ℕ, _+_, _-_, _*_, _≤_, _<_}
 use mathlib.Core.Path.{_≡_, refl, sym, ap}
 use mathlib.Core.Bool.{true, false}
 use mathlib.Core.List.{List}
+use native.Mathlib.Nat.{pos-of-ne-zero}
 use native.Mathlib.Omega.{arith}
 use lib.ListN.{length, getD}
 use lib.Dec.{eqb}
@@ -12,7 +13,6 @@ use Rattle.format.specs.declared.View.{View}
 use Rattle.format.specs.Codec.{Codec}
 use Rattle.format.specs.Jumps.{jumpsKind}
 use Rattle.laws.proofs.Tools.{cases}
-use Rattle.wire.specs.Wire.{whole}
 use Rattle.wire.proofs.Laws.{other-width}
 use Rattle.parts.specs.Holds.{Holds}
 use Rattle.parts.specs.Found.{FoundAmong, FoundIn, PositionIn}
@@ -20,6 +20,7 @@ use Rattle.parts.proofs.Places.{rising-lt, found-here, found-gap}
 use Rattle.jumps.specs.declared.search.Reached.{Reached}
 use Rattle.jumps.specs.Walk.{stepped, walked, OfWidth}
 use Rattle.jumps.proofs.Held.{Held, held}
+use Rattle.jumps.proofs.Walked.{origin}
 use Rattle.jumps.proofs.Ahead.{Reaches, reach-start, reach-next, reach-walk}
 
 -- a width that is not 1 is 2
@@ -41,6 +42,9 @@ Seeks b v w p r s = (ls : List ℕ) → Holds (jumpsKind (v .width) (v .step)) b
 pub next-below : {r n : ℕ} → r < n → (r + 1 ≡ n → ⊥) → r + 1 < n
 next-below {r} {n} h k = let m : r + 1 ≤ n = omega arith in lt-of-le-ne m k
 
+pub last-below : {r n : ℕ} → (n ≡ 0 → ⊥) → r ≤ n - 1 → r < n
+last-below h k = let m = pos-of-ne-zero h in omega arith
+
 module _ (b : List ℕ) (v : View) where
   abbrev K : Codec
   K = jumpsKind (v .width) (v .step)
@@ -57,13 +61,12 @@ module _ (b : List ℕ) (v : View) where
         omega arith
 
     -- what a walk of n ranks reaches
-    pub walk-reaches : (l n : ℕ) (t : Reached) → l ≡ whole 4 (v .start) b → n < v .words
-        → t ≡ walked w (v .start) (v .second) b 0 n (record { position = l; taken = 1 })
+    pub walk-reaches : (n : ℕ) (t : Reached) → n < v .words → t ≡ walked w (v .start) (v .second) b 0 n (origin (v .start) b)
         → (ls : List ℕ) → Held b v ls → Reaches b w (v .start) (v .second) ls n t
-    walk-reaches l n t e h q ls z =
+    walk-reaches n t h q ls z =
         let m = z .size in
-        rw (q, e, ← width ls z)
-        (reach-walk b (v .width) (v .start) (v .second) ls (record { position = whole 4 (v .start) b; taken = 1 }) (reach-start b v ls z (omega arith)) n (omega arith))
+        rw (q, ← width ls z)
+        (reach-walk b (v .width) (v .start) (v .second) ls (origin (v .start) b) (reach-start b v ls z (omega arith)) n (omega arith))
 
     pub short : (p : ℕ) → length b < v .second + w * v .words → FoundIn K b v p (record { below = 0; here = false })
     short p k = record { right = λ ls h. absurd (too-short k ls (held b v ls h)); free = λ e. absurd (never e) }
@@ -72,17 +75,17 @@ module _ (b : List ℕ) (v : View) where
     position-short r k = record { right = λ ls h n. absurd (too-short k ls (held b v ls h)) }
 
     -- the position of rank r is reached
-    pub position-found : (l r : ℕ) (t : Reached) → l ≡ whole 4 (v .start) b → r < v .words
-        → t ≡ walked w (v .start) (v .second) b 0 r (record { position = l; taken = 1 }) → PositionIn K b v r (t .position)
-    position-found l r t e h q = record { right = λ ls z n. walk-reaches l r t e h q ls (held b v ls z) .position }
+    pub position-found : (r : ℕ) (t : Reached) → r < v .words → t ≡ walked w (v .start) (v .second) b 0 r (origin (v .start) b)
+        → PositionIn K b v r (t .position)
+    position-found r t h q = record { right = λ ls z n. walk-reaches r t h q ls (held b v ls z) .position }
 
     -- ---- the place of p
 
-    pub seeks-walk : (p l n : ℕ) (t : Reached) → l ≡ whole 4 (v .start) b → n < v .words
-        → t ≡ walked w (v .start) (v .second) b 0 n (record { position = l; taken = 1 }) → (1 ≤ n → t .position < p) → Seeks b v w p n t
-    seeks-walk p l n t e h q k ls z =
+    pub seeks-walk : (p n : ℕ) (t : Reached) → n < v .words → t ≡ walked w (v .start) (v .second) b 0 n (origin (v .start) b)
+        → (1 ≤ n → t .position < p) → Seeks b v w p n t
+    seeks-walk p n t h q k ls z =
         let y = held b v ls z in
-        let g = walk-reaches l n t e h q ls y in
+        let g = walk-reaches n t h q ls y in
         let m = y .size in
         let a = g .position in
         record {

@@ -80,6 +80,10 @@ entry-room v b i z ew h =
     let m = entry-inside (v .width) (v .words) i h in
     rw ew (z .narrow, z .wide, omega arith)
 
+-- a jump that is left lies in the file
+pub jump-room : (v : View) (b : List ℕ) (t : ℕ) → Laid b v → t < v .firsts → v .start + 4 * t + 4 ≤ length b
+jump-room v b t z h = omega arith
+
 module _ (v : View) (b : List ℕ) (least t i : ℕ) where
   -- no rank is left
   pub over : {reach : ℕ} → reach ≡ 256 ^ v .width → v .words ≤ i → v .firsts ≤ t → passesFrom v b least t i ≡ ltb least (v .cells + reach)

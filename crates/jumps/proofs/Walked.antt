@@ -22,6 +22,10 @@ room {w} {second} {n} {r} b narrow wide h m k =
     let i = entry-inside w n r k in
     record { narrow = narrow; wide = wide; inside = omega arith; rank = omega arith }
 
+-- at rank 0, by the first jump
+abbrev pub origin : ℕ → List ℕ → Reached
+origin start b = record { position = whole 4 start b; taken = 1 }
+
 -- ---- the differences after rank r
 
 module _ (w second : ℕ) (b : List ℕ) where

@@ -8,6 +8,7 @@ use wire::load_u32;
 ghost use mathlib.Core.Path.{_≡_};
 ghost use Prim.Native.Nat.{_+_, _*_, _≤_, _<_};
 ghost use Rattle.format.specs.Jumps.{jumpsKind};
+ghost use Rattle.wire.specs.Wire.{whole};
 ghost use Rattle.parts.specs.Found.{FoundIn, PositionIn};
 ghost use Rattle.jumps.specs.Walk.{stepped, walked, plain, total, Within, Room, Stopped, OfWidth};
 
@@ -118,19 +119,14 @@ fn next_group(left: usize) -> usize
 }
 
 // From rank 0 on to rank n, group by group, as long as the position stays below the target.
-fn walk(
-    file: &[u8],
-    start: u32,
-    second: usize,
-    width: u32,
-    n: usize,
-    target: usize,
-    s: Reached,
-) -> Place
-    requires { ⌜ Room width second (now file) n × Within 1 s ⌝ }
-    ensures { λ t. ⌜ Stopped width start second (now (file .entry)) n target s t ⌝ }
+fn walk(file: &[u8], start: u32, second: usize, width: u32, n: usize, target: usize) -> Place
+    requires { ⌜ Room width second (now file) n ⌝ }
+    ensures { λ t. ⌜ Stopped width start second (now (file .entry)) n target (record { position = whole 4 start (now (file .entry)); taken = 1 }) t ⌝ }
 {
-    let mut t = s;
+    let mut t = Reached {
+        position: load_u32(file, start as usize) as usize,
+        taken: 1,
+    };
     let mut r: usize = 0;
     while r < n {
         let m = next_group(n - r);
@@ -169,19 +165,7 @@ fn seek(file: &[u8], v: View, width: u32, p: u32) -> Found
         };
     }
     let target = p as usize;
-    let origin = Reached {
-        position: load_u32(file, v.start as usize) as usize,
-        taken: 1,
-    };
-    let place = walk(
-        file,
-        v.start,
-        second,
-        width,
-        v.words as usize - 1,
-        target,
-        origin,
-    );
+    let place = walk(file, v.start, second, width, v.words as usize - 1, target);
     let mut s = place.reached;
     let mut r = place.rank as u32;
     while s.position < target {
@@ -209,19 +193,7 @@ fn seek_position(file: &[u8], v: View, width: u32, rank: u32) -> u64
     if file.len() < second + width as usize * v.words as usize {
         return 0;
     }
-    let origin = Reached {
-        position: load_u32(file, v.start as usize) as usize,
-        taken: 1,
-    };
-    let place = walk(
-        file,
-        v.start,
-        second,
-        width,
-        rank as usize,
-        NO_TARGET,
-        origin,
-    );
+    let place = walk(file, v.start, second, width, rank as usize, NO_TARGET);
     place.reached.position as u64
 }
 

@@ -1,5 +1,5 @@
 -- Each turn puts out the box in the dimensions after i, of which there are fewer. Assumes nothing.
-use Prim.Native.Nat.{suc, _+_, _-_, _*_, _≤_}
+use Prim.Native.Nat.{suc, _+_, _-_, _*_, _^_, _≤_}
 use mathlib.Core.Path.{_≡_}
 use native.Mathlib.Omega.{arith}
 use mathlib.Core.List.{List, [], _∷_}
@@ -8,6 +8,7 @@ use lib.Arith.{lt-of-le-ne}
 use lib.ListN.{length, getD, drop, drop-of-length-le}
 use Rattle.format.specs.Picture.{mostDimensions}
 use Rattle.box_rows.specs.Filling.{BoxGoes}
+use Rattle.box_rows.proofs.Counted.{Four}
 use Rattle.box_rows.proofs.Turns.{first-goes, first-filled, in-order, cell-small, row-goes, row-filled, BoxLeft, box-start, box-down, box-turn, box-end}
 use borrow.Author.Needs.{needs}
 use Prim.Native.Nat.{ℕ, _<_}
@@ -56,7 +57,7 @@ low t c = getD (c .args .t4) (c .args .i) 0
 abbrev high : (t : ℕ) → Start t → ℕ
 high t c = getD (c .args .t5) (c .args .i) 0
 
-four : (t : ℕ) (c : Start t) → (length (c .args .t3) ≡ mostDimensions) × (length (c .args .t4) ≡ mostDimensions) × (length (c .args .t5) ≡ mostDimensions)
+four : (t : ℕ) (c : Start t) → Four (c .args .t3) (c .args .t4) (c .args .t5)
 four t c = (search needs, search needs, search needs)
 
 abbrev Goes : (t : ℕ) → Start t → List ℕ → Type 0
@@ -66,9 +67,7 @@ Goes t c es =
 
 goes : (t : ℕ) (c : Start t) → Goes t c (drop (c .args .i + 1) (c .args .t3))
 goes t c =
-    let f = four t c in
-    let k = c .pre .1 .0 in
-    first-goes (file t c) (c .args .v) (c .args .i) (c .args .t3) (c .args .t4) (c .args .t5) (omega arith) (omega arith) (omega arith) (c .args .p) (c .args .s) _ (c .pre .1 .1)
+    first-goes (file t c) (c .args .v) (c .args .i) (c .args .t3) (c .args .t4) (c .args .t5) (c .pre .1 .0) (four t c) (c .args .p) (c .args .s) _ (c .pre .1 .1)
 
 small : (t : ℕ) (c : Start t) (a : ℕ) → a ≤ high t c → c .args .p * extent t c + a < 16777216
 small t c a h = cell-small (file t c) (c .args .v) (extent t c) _ (low t c) _ (high t c) _ (c .args .p) (c .args .s) _ (goes t c) a h
@@ -83,21 +82,28 @@ reach t c = omega (arith, c .loop-test .taken)
 before-last : (i : ℕ) → i < mostDimensions → (i + 1 ≡ mostDimensions → ⊥) → i + 1 < mostDimensions
 before-last i h k = let m : i + 1 ≤ mostDimensions = omega arith in lt-of-le-ne m k
 
+-- the numbers of a position below the most cells
+fitting : (x a l : ℕ) → x + a < 16777216 → (x < 2 ^ 32) × (x + a < 2 ^ 32) × (a - l + 1 < 2 ^ 32) × (a + 1 < 2 ^ 32)
+fitting x a l h = (omega arith, omega arith, omega arith, omega arith)
+
+fewer : (i t : ℕ) → i < mostDimensions → mostDimensions - i ≡ t → mostDimensions - (i + 1) < t
+fewer i t h e = omega arith
+
 -- no extent is left after the last
 none : (t : ℕ) (c : Start t) → c .args .i + 1 ≡ mostDimensions → drop (c .args .i + 1) (c .args .t3) ≡ []
-none t c e = let f = four t c in drop-of-length-le (c .args .t3) {i = c .args .i + 1} (omega arith)
+none t c e = drop-of-length-le (c .args .t3) {i = c .args .i + 1} (rw (four t c .0, e) (le-refl _))
 
 put-from-mul-before-2 : (t : ℕ) → put-from-lts.Need-mul-before-2 (put-from-calls t) (put-from-at t) put-from.Post put-from-Inv-loop put-from-μ-loop
-put-from-mul-before-2 t c = let h = small t (c .before .before) (low t (c .before .before)) (ordered t (c .before .before)) in record { fits = omega arith }
+put-from-mul-before-2 t c = record { fits = fitting _ _ 0 (small t (c .before .before) (low t (c .before .before)) (ordered t (c .before .before))) .0 }
 
 put-from-add-put-row : (t : ℕ) → put-from-lts.Need-add-put-row (put-from-calls t) (put-from-at t) put-from.Post put-from-Inv-loop put-from-μ-loop
-put-from-add-put-row t c = let h = small t (c .before .before .before) (low t (c .before .before .before)) (ordered t (c .before .before .before)) in record { fits = omega arith }
+put-from-add-put-row t c = record { fits = fitting _ _ 0 (small t (c .before .before .before) (low t (c .before .before .before)) (ordered t (c .before .before .before))) .1 }
 
 put-from-sub-put-row : (t : ℕ) → put-from-lts.Need-sub-put-row (put-from-calls t) (put-from-at t) put-from.Post put-from-Inv-loop put-from-μ-loop
 put-from-sub-put-row t c = ordered t (c .before .before .before)
 
 put-from-add-put-row-2 : (t : ℕ) → put-from-lts.Need-add-put-row-2 (put-from-calls t) (put-from-at t) put-from.Post put-from-Inv-loop put-from-μ-loop
-put-from-add-put-row-2 t c = let h = small t (c .before .before .before) (high t (c .before .before .before)) (le-refl _) in record { fits = omega arith }
+put-from-add-put-row-2 t c = record { fits = fitting _ _ (low t (c .before .before .before)) (small t (c .before .before .before) (high t (c .before .before .before)) (le-refl _)) .2 }
 
 put-from-put-row-requires : (t : ℕ) → put-from-lts.Need-put-row-requires (put-from-calls t) (put-from-at t) put-from.Post put-from-Inv-loop put-from-μ-loop
 put-from-put-row-requires t c κs =
@@ -107,10 +113,8 @@ put-from-put-row-requires t c κs =
 put-from-returns : (t : ℕ) → put-from-lts.Need-returns (put-from-calls t) (put-from-at t) put-from.Post put-from-Inv-loop put-from-μ-loop
 put-from-returns t c =
     let s = c .before .before .before .before .before .before .before in
-    let f = four t s in
-    let k = s .pre .1 .0 in
     let z = none t s (c .before .before .before .before .if1 .taken) in
-    first-filled (file t s) (s .args .v) (s .args .i) (s .args .t3) (s .args .t4) (s .args .t5) (omega arith) (omega arith) (omega arith) (s .args .p) (s .args .s) (s .args .dst .now) _ _
+    first-filled (file t s) (s .args .v) (s .args .i) (s .args .t3) (s .args .t4) (s .args .t5) (s .pre .1 .0) (four t s) (s .args .p) (s .args .s) (s .args .dst .now) _ _
     (rw z (row-filled (file t s) (s .args .v) (extent t s) (low t s) _ (high t s) _ (s .args .p) (s .args .s) _ (rw z at (goes t s)) (s .args .dst .now) _ _ (c .before .before .put-row .ensures)))
 
 put-from-loop-holds : (t : ℕ) → put-from-lts.Need-loop-holds (put-from-calls t) (put-from-at t) put-from.Post put-from-Inv-loop put-from-μ-loop
@@ -119,19 +123,18 @@ put-from-loop-holds t c =
     box-start (file t s) (s .args .v) (extent t s) _ _ _ (s .args .p) (high t s) (low t s) (s .args .s) (s .args .dst .now) (goes t s)
 
 put-from-add-put-from-2 : (t : ℕ) → put-from-lts.Need-add-put-from-2 (put-from-calls t) (put-from-at t) put-from.Post put-from-Inv-loop put-from-μ-loop
-put-from-add-put-from-2 t c = let h = small t (c .before .before .before .before .before) (c .before .loop .a) (reach t c) in record { fits = omega arith }
+put-from-add-put-from-2 t c = record { fits = fitting _ _ 0 (small t (c .before .before .before .before .before) (c .before .loop .a) (reach t c)) .1 }
 
 put-from-put-from-requires : (t : ℕ) → put-from-lts.Need-put-from-requires (put-from-calls t) (put-from-at t) put-from.Post put-from-Inv-loop put-from-μ-loop
 put-from-put-from-requires t c κs =
     let s = c .before .before .before .before .before .before in
     let l = c .before .before .loop in
     let k = s .pre .1 .0 in
-    let m = s .pre .0 in
     let n : s .args .i + 1 < mostDimensions = before-last _ k (c .before .before .before .if1 .left) in
-    (omega arith, (n, box-down (file t s) (s .args .v) (extent t s) _ _ _ (s .args .p) (high t s) (low t s) (s .args .s) (s .args .dst .now) (goes t s) (l .s) (l .dst) (l .a) (l .inv) (reach t (c .before))))
+    (fewer _ t k (s .pre .0), (n, box-down (file t s) (s .args .v) (extent t s) _ _ _ (s .args .p) (high t s) (low t s) (s .args .s) (s .args .dst .now) (goes t s) (l .s) (l .dst) (l .a) (l .inv) (reach t (c .before))))
 
 put-from-add-a : (t : ℕ) → put-from-lts.Need-add-a (put-from-calls t) (put-from-at t) put-from.Post put-from-Inv-loop put-from-μ-loop
-put-from-add-a t c = let h = small t (c .before .before .before .before .before .before .before .before .before) (c .before .before .before .before .before .loop .a) (reach t (c .before .before .before .before)) in record { fits = omega arith }
+put-from-add-a t c = record { fits = fitting _ _ 0 (small t (c .before .before .before .before .before .before .before .before .before) (c .before .before .before .before .before .loop .a) (reach t (c .before .before .before .before))) .3 }
 
 put-from-loop-again : (t : ℕ) → put-from-lts.Need-loop-again (put-from-calls t) (put-from-at t) put-from.Post put-from-Inv-loop put-from-μ-loop
 put-from-loop-again t c =
@@ -144,9 +147,7 @@ put-from-returns-2 : (t : ℕ) → put-from-lts.Need-returns-2 (put-from-calls t
 put-from-returns-2 t c =
     let s = c .before .before .before .before .before in
     let l = c .before .loop in
-    let f = four t s in
-    let k = s .pre .1 .0 in
-    first-filled (file t s) (s .args .v) (s .args .i) (s .args .t3) (s .args .t4) (s .args .t5) (omega arith) (omega arith) (omega arith) (s .args .p) (s .args .s) (s .args .dst .now) _ _
+    first-filled (file t s) (s .args .v) (s .args .i) (s .args .t3) (s .args .t4) (s .args .t5) (s .pre .1 .0) (four t s) (s .args .p) (s .args .s) (s .args .dst .now) _ _
     (box-end (file t s) (s .args .v) (extent t s) _ _ _ (s .args .p) (high t s) (low t s) (s .args .s) (s .args .dst .now) (goes t s) (l .s) (l .dst) (l .a) (l .inv) (omega (arith, c .loop-test .left)))
 
 pub +put-from-spec : {M : Type 1} → statement M

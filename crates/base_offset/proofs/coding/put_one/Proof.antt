@@ -22,11 +22,9 @@ first-put c =
     let a = c .before .before .before .args in
     ⊎-elim
     (λ w.
-    let q : c .if1 .dst ≡ put (a .dst .now) (a .e .first) (bytes 4 (a .p)) = cc in
-    q ∙ ap (put (a .dst .now) (a .e .first)) (sym (first-base (a .e) (a .p) (a .width) (a .step) (w .0 .taken))))
+    w .5 ∙ w .2 .ensures ∙ ap (put (a .dst .now) (a .e .first)) (sym (first-base (a .e) (a .p) (a .width) (a .step) (w .0 .taken))))
     (λ w.
-    let q : c .if1 .dst ≡ a .dst .now = cc in
-    q ∙ sym (put-nil (a .dst .now) (a .e .first)) ∙ ap (put (a .dst .now) (a .e .first)) (sym (first-none (a .e) (a .p) (a .width) (a .step) (w .0 .left))))
+    w .1 ∙ sym (put-nil (a .dst .now) (a .e .first)) ∙ ap (put (a .dst .now) (a .e .first)) (sym (first-none (a .e) (a .p) (a .width) (a .step) (w .0 .left))))
     (c .if1 .came)
 
 put-u32-requires : tie.Need-put-u32-requires

@@ -1,7 +1,7 @@
 use Prim.Native.Nat.{_+_}
-use mathlib.Core.Path.{_≡_}
+use mathlib.Core.Path.{_≡_, sym, _∙_}
 use mathlib.Core.Logic.{⊎-elim}
-use native.Mathlib.Omega.{arith}
+use native.Mathlib.Nat.{add-zero}
 use lib.ListN.{length}
 use Rattle.laws.proofs.Bytes.{length-bytes}
 use Rattle.parts.specs.Encoder.{ifZero}
@@ -19,13 +19,13 @@ returns c =
     let i = c .before .before .before .before .if1 in
     let base : i .base ≡ ifZero (e .left) (a .p) (e .base) =
     ⊎-elim
-    (λ w. cc (if-zero (e .left) (a .p) (e .base) (w .0 .taken)))
-    (λ w. cc (if-more (e .left) (a .p) (e .base) (w .0 .left)))
+    (λ w. w .2 ∙ sym (if-zero (e .left) (a .p) (e .base) (w .0 .taken)))
+    (λ w. w .1 ∙ sym (if-more (e .left) (a .p) (e .base) (w .0 .left)))
     (i .came) in
     let first : i .first ≡ e .first + length (coder (a .width) (a .step) .first e (a .p)) =
     ⊎-elim
-    (λ w. rw (first-base e (a .p) (a .width) (a .step) (w .0 .taken), length-bytes 4 (a .p)) (omega arith))
-    (λ w. rw (first-none e (a .p) (a .width) (a .step) (w .0 .left)) (omega arith))
+    (λ w. rw (first-base e (a .p) (a .width) (a .step) (w .0 .taken), length-bytes 4 (a .p)) (w .3))
+    (λ w. rw (first-none e (a .p) (a .width) (a .step) (w .0 .left)) (w .2 ∙ sym (add-zero (e .first))))
     (i .came) in
     taken-on e (a .p) (a .width) (a .step) (c .before .before .left-after .result) (i .base) (i .first) (c .still-fits .result)
     (c .before .before .left-after .ensures) base first (c .still-fits .ensures)

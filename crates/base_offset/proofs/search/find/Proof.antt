@@ -1,7 +1,7 @@
 use Prim.Native.Nat.{_-_, _*_, _<_}
 use mathlib.Core.Path.{sym, _∙_}
 use mathlib.Core.Logic.{⊎-elim}
-use native.Mathlib.Nat.{min-le-left, min-le-right}
+use native.Mathlib.Nat.{min-le-left, min-le-right, pos-of-ne-zero}
 use native.Mathlib.Omega.{arith}
 use borrow.Author.Tests.{leb-true, leb-false}
 use Rattle.base_offset.proofs.Searched.{AtBase, AtGroup, product-fits, find-before, find-outside, find-no-group, rank-within, find-here, find-absent}
@@ -21,13 +21,12 @@ at-group : (c : tie.After-last-offset)
     let u = c .before .before .before .before .before .before .before .before .before in
     AtGroup (a .file .now) (a .v) (a .p .0) (u .before .before .last-at-most .result) (u .load-u32 .result) (c .before .before .lesser .result) (c .last-offset .result)
 at-group c =
-    let n = c .before .if3 .left in
     record {
       at-base = at-base (c .before .before .before .before .before .before .before .before .before);
       start = started (c .before .before .before .before .before);
       lesser = c .before .before .lesser .ensures;
       least = c .before .before .before .before .before .before .before .if1 .left;
-      full = omega arith;
+      full = pos-of-ne-zero (c .before .if3 .left);
       found = c .last-offset .ensures;
     }
 

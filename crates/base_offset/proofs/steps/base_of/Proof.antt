@@ -11,7 +11,7 @@ returns c = rw (lt-ltb _ _ (c .before .if1 .taken))
 
 returns-2 : tie.Need-returns-2
 unfolding baseOf add32
-returns-2 c = rw (le-ltb _ _ (c .before .before .before .before .if1 .left)) (cc)
+returns-2 c = rw (le-ltb _ _ (c .before .before .before .before .if1 .left), c .before .load-u32 .ensures .0, c .wrapping-add-u32 .ensures)
 
 pub base-of-spec : {M : Type 1} → statement M
 base-of-spec =

@@ -5,7 +5,7 @@ use Rattle.base_offset.proofs.steps.next.Tie as tie
 
 returns : tie.Need-returns
 unfolding next
-returns c = cc
+returns c = rw (← (c .before .base-of .ensures)) (c .offset-from .ensures)
 
 pub next-spec : {M : Type 1} → statement M
 next-spec =

@@ -6,7 +6,7 @@ use Rattle.base_offset.proofs.steps.offset_from.Tie as tie
 
 returns : tie.Need-returns
 unfolding offsetFrom movedTo add32
-returns c = cc
+returns c = rw (c .wrapping-add-u322 .ensures, c .before .entry-of .ensures, c .before .before .wrapping-add-u32 .ensures)
 
 pub offset-from-spec : {M : Type 1} → statement M
 offset-from-spec =

@@ -3,16 +3,16 @@ use mathlib.Core.Path.{_≡_, refl, sym, _∙_}
 use Prim.Native.Nat.{ℕ, _+_, _-_, _*_, _≤_}
 use mir.Val.{Fits}
 use mir.Syntax.{w32}
-use native.Mathlib.Nat.{one-mul, le-refl}
+use native.Mathlib.Nat.{one-mul, le-refl, le-trans}
 use native.Mathlib.Omega.{arith}
-use lib.ListN.{length, drop, getD}
+use lib.ListN.{drop, getD}
 use Rattle.format.specs.Tools.{pick}
 use Rattle.format.specs.Picture.{product, cells, mostDimensions}
 use Rattle.format.specs.Box.{boxAllowed}
 use Rattle.laws.proofs.Limits.{small-dims}
 use Rattle.header.proofs.CellCount.{cells-least}
 use Rattle.box_rows.specs.Bounds.{boxCount}
-use Rattle.box_rows.proofs.Counted.{counted, count-turn, count-past, count-above, count-room, count-end, count-small, count-all}
+use Rattle.box_rows.proofs.Counted.{Four, counted, count-turn, count-past, count-above, count-room, count-end, count-small, count-all}
 use borrow.Author.Needs.{needs}
 use Rattle.box_rows.proofs.count.box_count.Statement.{statement}
 use Rattle.box_rows.proofs.count.box_count.Tie as tie
@@ -25,7 +25,7 @@ Inv-loop low high extents count₀ i₀ count i =
 abbrev μ-loop : tie.MeasureT-loop
 μ-loop low high extents count₀ i₀ count i = mostDimensions - i
 
-four : (c : tie.Start Inv-loop μ-loop) → (length (c .args .d .extents) ≡ mostDimensions) × (length (c .args .t2) ≡ mostDimensions) × (length (c .args .t3) ≡ mostDimensions)
+four : (c : tie.Start Inv-loop μ-loop) → Four (c .args .d .extents) (c .args .t2) (c .args .t3)
 four c = (search needs, search needs, search needs)
 
 most : (c : tie.Start Inv-loop μ-loop) → (1 ≤ product (c .args .d .extents)) × (product (c .args .d .extents) ≤ 16777216)
@@ -49,9 +49,7 @@ room : (c : tie.Else2 Inv-loop μ-loop)
 room c =
     let s = c .before .before .before .before .before in
     let l = c .before .before .before .loop in
-    let f = four s in
-    let k = c .before .if1 .left in
-    count-room (l .count) (l .i) (s .args .d .extents) (s .args .t2) (s .args .t3) (omega arith) (omega arith) (omega arith) _ (l .inv .1) (omega arith)
+    count-room (l .count) (l .i) (s .args .d .extents) (s .args .t2) (s .args .t3) (c .before .before .loop-test .taken) (four s) _ (l .inv .1) (c .before .if1 .left)
 
 next : (c : tie.Else2 Inv-loop μ-loop)
     → c .before .before .before .loop .count * (getD (c .before .before .before .before .before .args .t3) (c .before .before .before .loop .i) 0 - getD (c .before .before .before .before .before .args .t2) (c .before .before .before .loop .i) 0 + 1)
@@ -59,25 +57,20 @@ next : (c : tie.Else2 Inv-loop μ-loop)
 next c =
     let s = c .before .before .before .before .before in
     let m = most s in
-    let k = count-small _ _ (c .before .before .before .loop .i + 1) (s .args .d .extents) (m .0) (room c) in
-    omega (arith, m .1)
+    le-trans (count-small _ _ (c .before .before .before .loop .i + 1) (s .args .d .extents) (m .0) (room c)) (m .1)
 
 loop-holds : tie.Need-loop-holds Inv-loop μ-loop
 loop-holds c = (omega arith, rw one-mul (le-refl _), refl)
 
 returns : tie.Need-returns Inv-loop μ-loop
 returns c =
-    let s = c .before .before .before .before in
     let l = c .before .before .loop in
-    let f = four s in
-    (whole (c .before .before) 0 (count-past (l .count) (l .i) _ _ _ (omega arith) (omega arith) (omega arith) (c .if1 .taken)), omega arith)
+    (whole (c .before .before) 0 (count-past (l .count) (l .i) _ _ _ (c .before .loop-test .taken) (four (c .before .before .before .before)) (c .if1 .taken)), omega arith)
 
 returns-2 : tie.Need-returns-2 Inv-loop μ-loop
 returns-2 c =
-    let s = c .before .before .before .before .before in
     let l = c .before .before .before .loop in
-    let f = four s in
-    (whole (c .before .before .before) 0 (count-above (l .count) (l .i) _ _ _ (omega arith) (omega arith) (omega arith) (c .if2 .taken)), omega arith)
+    (whole (c .before .before .before) 0 (count-above (l .count) (l .i) _ _ _ (c .before .before .loop-test .taken) (four (c .before .before .before .before .before)) (c .if2 .taken)), omega arith)
 
 add-count : tie.Need-add-count Inv-loop μ-loop
 add-count c =
@@ -90,24 +83,17 @@ mul-count c = let h = next c in record { fits = omega arith }
 
 loop-again : tie.Need-loop-again Inv-loop μ-loop
 loop-again c =
-    let s = c .before .before .before .before .before in
     let l = c .before .before .before .loop in
-    let f = four s in
-    let h = c .if2 .left in
-    let k = c .before .if1 .left in (
-      omega arith,
-      room c,
-      sym (count-turn (l .count) (l .i) _ _ _ (omega arith) (omega arith) (omega arith) (omega arith) (omega arith)) ∙ l .inv .2,
-    )
+    let h = c .before .before .loop-test .taken in
+    (omega arith, room c, sym (count-turn (l .count) (l .i) _ _ _ h (four (c .before .before .before .before .before)) (c .if2 .left) (c .before .if1 .left)) ∙ l .inv .2)
 
 returns-3 : tie.Need-returns-3 Inv-loop μ-loop
 returns-3 c =
     let s = c .before .before .before in
     let l = c .before .loop in
-    let f = four s in
     let m = most s in
     let k = count-small _ (l .count) (l .i) (s .args .d .extents) (m .0) (l .inv .1) in
-    (whole (c .before) (l .count) (count-end (l .count) (l .i) (s .args .d .extents) _ _ (omega arith)), omega arith)
+    (whole (c .before) (l .count) (count-end (l .count) (l .i) (s .args .d .extents) _ _ (rw (four s .0) (c .loop-test .left))), le-trans k (m .1))
 
 pub box-count-spec : {M : Type 1} → statement M
 box-count-spec =

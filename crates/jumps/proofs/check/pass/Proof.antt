@@ -7,8 +7,7 @@ use lib.Arith.{lt-of-le-ne}
 use lib.ListN.{length}
 use Rattle.format.specs.Bytes.{field}
 use Rattle.jumps.specs.Pass.{Laid, passesFrom}
-use Rattle.jumps.proofs.Turns.{reach-most}
-use Rattle.jumps.proofs.Turns.{entry-room, over, over-jump, turn-difference, turn-none, turn-near, turn-jump}
+use Rattle.jumps.proofs.Turns.{reach-most, entry-room, jump-room, over, over-jump, turn-difference, turn-none, turn-near, turn-jump}
 use borrow.Author.Needs.{needs}
 use Rattle.jumps.proofs.check.pass.Statement.{statement}
 use Rattle.jumps.proofs.check.pass.Tie as tie
@@ -65,7 +64,7 @@ more : (c : tie.Else2 Inv-loop μ-loop) → c .before .before .before .before .l
 more c = lt-of-le-ne (c .before .before .before .before .loop .inv .1) (c .if2 .left)
 
 inside : (c : tie.Else2 Inv-loop μ-loop) → start (c .before .before .before) .args .v .start + 4 * c .before .before .before .before .loop .taken + 4 ≤ length (start (c .before .before .before) .args .file .now)
-inside c = let m = more c in let z = frame (c .before .before .before) in omega arith
+inside c = jump-room _ _ _ (frame (c .before .before .before)) (more c)
 
 mul-get-u32 : tie.Need-mul-get-u32 Inv-loop μ-loop
 mul-get-u32 c = let h = inside c in omega arith

@@ -23,11 +23,9 @@ first-put c =
     ⊎-elim
     (λ w.
     let t : differenceAt (a .width) (a .e) (a .p) ≡ 0 = sym (c .before .difference-at .ensures) ∙ w .0 .taken in
-    let q : c .if1 .dst ≡ put (a .dst .now) (a .e .first) (bytes 4 (a .p)) = cc in
-    q ∙ ap (put (a .dst .now) (a .e .first)) (sym (adds-jump (a .width) (a .e) (a .p) t)))
+    w .5 ∙ w .2 .ensures ∙ ap (put (a .dst .now) (a .e .first)) (sym (adds-jump (a .width) (a .e) (a .p) t)))
     (λ w.
-    let q : c .if1 .dst ≡ a .dst .now = cc in
-    q
+    w .1
     ∙ sym (put-nil (a .dst .now) (a .e .first))
     ∙ ap (put (a .dst .now) (a .e .first)) (sym (adds-none (a .width) (a .e) (a .p) (λ z. w .0 .left (c .before .difference-at .ensures ∙ z)))))
     (c .if1 .came)

@@ -1,10 +1,10 @@
 -- The place of a position: by groups, and then rank by rank. Assumes nothing.
 use Prim.Native.Nat.{_+_, _-_, _<_}
-use native.Mathlib.Nat.{pos-of-ne-zero, mul-le-mul-right}
+use native.Mathlib.Nat.{pos-of-ne-zero, mul-le-mul-right, le-refl}
 use native.Mathlib.Omega.{arith}
 use Rattle.jumps.specs.Walk.{Within}
 use Rattle.jumps.proofs.Walked.{room}
-use Rattle.jumps.proofs.Found.{Seeks, next-below, none, short, seeks-walk, seeks-next, stops, ends}
+use Rattle.jumps.proofs.Found.{Seeks, next-below, last-below, none, short, seeks-walk, seeks-next, stops, ends}
 use borrow.Author.Needs.{needs}
 use Rattle.jumps.proofs.search.seek.Statement.{statement}
 use Rattle.jumps.proofs.search.seek.Tie as tie
@@ -29,49 +29,39 @@ returns-2 : tie.Need-returns-2 Inv-loop μ-loop
 returns-2 c = let a = c .before .before .before .before .before .before in short (a .args .file .now) (a .args .v) (a .args .width) (a .pre .2) (a .args .p) (c .if2 .taken)
 
 sub-walk : tie.Need-sub-walk Inv-loop μ-loop
-sub-walk c = let h = pos-of-ne-zero (c .before .before .before .before .before .before .if1 .left) in omega arith
+sub-walk c = pos-of-ne-zero (c .before .before .before .before .if1 .left)
 
 walk-requires : tie.Need-walk-requires Inv-loop μ-loop
 walk-requires c κs =
-    let a = c .before .before .before .before .before .before .before .before .before in
-    let h = pos-of-ne-zero (c .before .before .before .before .before .before .if1 .left) in
-    let m = c .before .load-u32 .ensures .1 in (
-      room (a .args .file .now) (a .pre .0) (a .pre .1) (c .before .before .before .if2 .left) (omega arith) (omega arith),
-      record { position = omega arith; taken = omega arith },
-    )
+    let a = c .before .before .before .before .before .before .before in
+    room (a .args .file .now) (a .pre .0) (a .pre .1) (c .before .if2 .left) (omega arith) (last-below (c .before .before .before .before .if1 .left) (le-refl _))
 
 cast-r : tie.Need-cast-r Inv-loop μ-loop
 cast-r c = let m = c .before .before .walk .ensures .most in omega arith
 
 loop-holds : tie.Need-loop-holds Inv-loop μ-loop
 loop-holds c =
-    let a = c .before .before .before .before .before .before .before .before .before .before .before .before in
-    let w = c .before .before .walk in
-    let z = w .ensures in
-    let k = z .most in
-    let h = pos-of-ne-zero (c .before .before .before .before .before .before .before .before .before .if1 .left) in
-    let m : w .result .rank < a .args .v .words = omega arith in (
-      m,
-      z .within,
-      seeks-walk (a .args .file .now) (a .args .v) (a .args .width) (a .pre .2) (a .args .p) _ _ _ (c .before .before .before .before .load-u32 .ensures .0) m (z .there) (z .below),
-    )
+    let a = c .before .before .before .before .before .before .before .before .before .before in
+    let z = c .before .before .walk .ensures in
+    let m = last-below (c .before .before .before .before .before .before .before .if1 .left) (z .most) in
+    (m, z .within, seeks-walk (a .args .file .now) (a .args .v) (a .args .width) (a .pre .2) (a .args .p) _ _ m (z .there) (z .below))
 
 returns-3 : tie.Need-returns-3 Inv-loop μ-loop
 returns-3 c =
-    let a = c .before .before .before .before .before .before .before .before .before .before .before .before .before .before .before .before .before in
+    let a = c .before .before .before .before .before .before .before .before .before .before .before .before .before .before .before in
     let l = c .before .before .before .before .loop in
     ends (a .args .file .now) (a .args .v) (a .args .width) (a .pre .2) (a .args .p) (l .r) (l .s) (l .inv .2) (c .before .before .if3 .taken) (c .if4 .taken)
 
 advance-requires : tie.Need-advance-requires Inv-loop μ-loop
 advance-requires c κs =
-    let a = c .before .before .before .before .before .before .before .before .before .before .before .before .before .before .before .before .before in
+    let a = c .before .before .before .before .before .before .before .before .before .before .before .before .before .before .before in
     let l = c .before .before .before .before .loop in
     let h = next-below (l .inv .0) (c .if4 .left) in
-    (room (a .args .file .now) (a .pre .0) (a .pre .1) (c .before .before .before .before .before .before .before .before .before .before .before .if2 .left) (omega arith) h, l .inv .1)
+    (room (a .args .file .now) (a .pre .0) (a .pre .1) (c .before .before .before .before .before .before .before .before .before .if2 .left) (omega arith) h, l .inv .1)
 
 loop-again : tie.Need-loop-again Inv-loop μ-loop
 loop-again c =
-    let a = c .before .before .before .before .before .before .before .before .before .before .before .before .before .before .before .before .before .before in
+    let a = c .before .before .before .before .before .before .before .before .before .before .before .before .before .before .before .before in
     let l = c .before .before .before .before .before .loop in
     let h = next-below (l .inv .0) (c .before .if4 .left) in (
       h,
@@ -82,7 +72,7 @@ loop-again c =
 
 returns-4 : tie.Need-returns-4 Inv-loop μ-loop
 returns-4 c =
-    let a = c .before .before .before .before .before .before .before .before .before .before .before .before .before .before .before .before in
+    let a = c .before .before .before .before .before .before .before .before .before .before .before .before .before .before in
     let l = c .before .before .before .loop in
     stops (a .args .file .now) (a .args .v) (a .args .width) (a .pre .2) (a .args .p) (l .r) (l .s) (l .inv .2) (l .inv .0) (c .before .if3 .left)
 
@@ -98,9 +88,6 @@ seek-spec =
     mul-if2
     add-if2
     returns-2
-    (λ c. search needs)
-    (λ c κs. search needs)
-    (λ c. search needs)
     (λ c. search needs)
     sub-walk
     walk-requires

@@ -18,19 +18,14 @@ returns c = let a = c .before .before .before .before in position-short (a .args
 
 walk-requires : tie.Need-walk-requires
 walk-requires c κs =
-    let a = c .before .before .before .before .before .before in
-    let p = a .pre in
-    let m = c .load-u32 .ensures .1 in (
-      room (a .args .file .now) (p .0) (p .1) (c .before .before .if1 .left) (omega arith) (p .2),
-      record { position = omega arith; taken = omega arith },
-    )
+    let a = c .before .before .before .before in
+    room (a .args .file .now) (a .pre .0) (a .pre .1) (c .if1 .left) (omega arith) (a .pre .2)
 
 returns-2 : tie.Need-returns-2
 returns-2 c =
-    let a = c .before .before .before .before .before .before .before in
+    let a = c .before .before .before .before .before in
     let z = c .walk .ensures in
-    position-found (a .args .file .now) (a .args .v) (a .args .width) (a .pre .3) _ (a .args .rank) _ (c .before .load-u32 .ensures .0) (a .pre .2)
-    (rw (z .all (omega arith)) at (z .there))
+    position-found (a .args .file .now) (a .args .v) (a .args .width) (a .pre .3) (a .args .rank) _ (a .pre .2) (rw (z .all (omega arith)) at (z .there))
 
 pub seek-position-spec : {M : Type 1} → statement M
 seek-position-spec =
@@ -41,8 +36,5 @@ seek-position-spec =
     mul-if1
     add-if1
     returns
-    (λ c. search needs)
-    (λ c κs. search needs)
-    (λ c. search needs)
     walk-requires
     returns-2)

@@ -7,11 +7,11 @@ use Rattle.jumps.proofs.steps.jump_by.Tie as tie
 
 returns : tie.Need-returns
 unfolding jumpBy jumpFrom add32
-returns c = rw (eq-eqb _ 0 (c .before .before .before .if1 .taken)) (cc)
+returns c = rw (eq-eqb _ 0 (c .before .before .before .if1 .taken), c .before .before .before .before .wrapping-add-u32 .ensures, c .before .load-u32 .ensures .0, c .wrapping-add-u322 .ensures)
 
 returns-2 : tie.Need-returns-2
 unfolding jumpBy movedTo add32
-returns-2 c = rw (ne-eqb _ 0 (c .before .if1 .left)) (cc)
+returns-2 c = rw (ne-eqb _ 0 (c .before .if1 .left), c .before .before .wrapping-add-u32 .ensures, c .wrapping-add-u323 .ensures)
 
 pub jump-by-spec : {M : Type 1} → statement M
 jump-by-spec =
