@@ -48,14 +48,14 @@ fn advance(file: &[u8], start: u32, second: usize, width: u32, r: usize, s: Reac
     }
 }
 
-// Whether no jump is among the 32 differences after rank r.
+// Whether no jump is among the 128 differences after rank r.
 fn no_jump(file: &[u8], second: usize, width: u32, r: usize) -> bool
-    requires { ⌜ Room width second (now file) (r + 32) ⌝ }
-    ensures { λ g. ⌜ g ≡ plain width second (now (file .entry)) r 32 ⌝ }
+    requires { ⌜ Room width second (now file) (r + 128) ⌝ }
+    ensures { λ g. ⌜ g ≡ plain width second (now (file .entry)) r 128 ⌝ }
 {
     let mut none = true;
     let mut k: usize = 0;
-    while k < 32 {
+    while k < 128 {
         k += 1;
         if difference(file, second, r + k, width) == 0 {
             none = false;
@@ -64,21 +64,21 @@ fn no_jump(file: &[u8], second: usize, width: u32, r: usize) -> bool
     none
 }
 
-// The sum of the 32 differences after rank r.
+// The sum of the 128 differences after rank r.
 fn sum(file: &[u8], second: usize, width: u32, r: usize) -> u32
-    requires { ⌜ Room width second (now file) (r + 32) ⌝ }
-    ensures { λ x. ⌜ (x ≡ total width second (now (file .entry)) r 32) × (x ≤ 65536 * 32) ⌝ }
+    requires { ⌜ Room width second (now file) (r + 128) ⌝ }
+    ensures { λ x. ⌜ (x ≡ total width second (now (file .entry)) r 128) × (x ≤ 65536 * 128) ⌝ }
 {
     let mut x: u32 = 0;
     let mut k: usize = 0;
-    while k < 32 {
+    while k < 128 {
         k += 1;
         x += difference(file, second, r + k, width);
     }
     x
 }
 
-// From rank r to the n-th rank after it. A group of 32 without a jump is taken by its sum.
+// From rank r to the n-th rank after it. A group of 128 without a jump is taken by its sum.
 fn walk_group(
     file: &[u8],
     start: u32,
@@ -91,7 +91,7 @@ fn walk_group(
     requires { ⌜ Room width second (now file) (r + n) × Within (r + 1) s ⌝ }
     ensures { λ t. ⌜ (t ≡ walked width start second (now (file .entry)) r n s) × Within (r + n + 1) t ⌝ }
 {
-    if n == 32 {
+    if n == 128 {
         if no_jump(file, second, width, r) {
             return Reached {
                 position: s.position + sum(file, second, width, r) as usize,
@@ -112,10 +112,10 @@ fn walk_group(
 fn next_group(left: usize) -> usize
     ensures { λ n. ⌜ (n ≤ left) × (1 ≤ left → 1 ≤ n) ⌝ }
 {
-    if left < 32 {
+    if left < 128 {
         return left;
     }
-    32
+    128
 }
 
 // From rank 0 on to rank n, group by group, as long as the position stays below the target.

@@ -10,10 +10,10 @@ use Rattle.jumps.proofs.search.no_jump.Tie as tie
 
 -- k differences are tested
 abbrev Inv-loop : tie.InvT-loop
-Inv-loop file second width r none₀ k₀ none k = (k ≤ 32) × (none ≡ plain width second file r k)
+Inv-loop file second width r none₀ k₀ none k = (k ≤ 128) × (none ≡ plain width second file r k)
 
 abbrev μ-loop : tie.MeasureT-loop
-μ-loop file second width r none₀ k₀ none k = 32 - k
+μ-loop file second width r none₀ k₀ none k = 128 - k
 
 -- the next difference lies in the file
 room : (c : tie.In-loop Inv-loop μ-loop)
@@ -46,7 +46,7 @@ loop-again-2 c =
 returns : tie.Need-returns Inv-loop μ-loop
 returns c =
     let l = c .before .loop in
-    let e : l .k ≡ 32 = omega arith in
+    let e : l .k ≡ 128 = omega arith in
     rw e at (l .inv .1)
 
 pub no-jump-spec : {M : Type 1} → statement M

@@ -10,10 +10,10 @@ use Rattle.jumps.proofs.search.sum.Tie as tie
 
 -- k differences are added
 abbrev Inv-loop : tie.InvT-loop
-Inv-loop file second width r x₀ k₀ x k = (k ≤ 32) × (x ≤ 65536 * k) × (x ≡ total width second file r k)
+Inv-loop file second width r x₀ k₀ x k = (k ≤ 128) × (x ≤ 65536 * k) × (x ≡ total width second file r k)
 
 abbrev μ-loop : tie.MeasureT-loop
-μ-loop file second width r x₀ k₀ x k = 32 - k
+μ-loop file second width r x₀ k₀ x k = 128 - k
 
 -- the next difference lies in the file
 room : (c : tie.In-loop Inv-loop μ-loop)
@@ -40,7 +40,7 @@ loop-again c =
 returns : tie.Need-returns Inv-loop μ-loop
 returns c =
     let l = c .before .loop in
-    let e : l .k ≡ 32 = omega arith in
+    let e : l .k ≡ 128 = omega arith in
     (rw e at (l .inv .2), omega arith)
 
 pub sum-spec : {M : Type 1} → statement M

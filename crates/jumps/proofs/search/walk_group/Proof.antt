@@ -45,7 +45,7 @@ returns c =
     let x = c .before .sum .ensures in
     let x1 = x .1 in
     let g = sym (c .before .before .before .no-jump .ensures) ∙ c .before .before .if2 .taken in (
-      rw e (group-sum (a .width) (a .start) (a .second) (a .file .now) (a .r) 32 (a .s) g (x .0)),
+      rw e (group-sum (a .width) (a .start) (a .second) (a .file .now) (a .r) 128 (a .s) g (x .0)),
       record { position = omega arith; taken = omega arith },
     )
 
