@@ -1,167 +1,121 @@
--- The walk along level 0 passes exactly good pairs. Assumes nothing.
+-- The walk along level 0 passes exactly good pairs, entry by entry and, as the code goes, page by page. Assumes nothing.
 use Prim.Native.Nat.{ℕ, zero, suc, _+_, _-_, _*_, _^_, _≤_, _<_}
 use mathlib.Core.Path.{_≡_, refl, sym, ap, ap₂, _∙_}
 use mathlib.Core.Bool.{Bool, true, false, _&&_}
 use mathlib.Core.List.{List, [], _∷_}
 use native.Mathlib.Nat.{add-zero, add-assoc, zero-add}
-use native.Mathlib.Numerals.{add-one}
 use native.Mathlib.Omega.{arith}
-use lib.ListN.{length, take, drop, getD}
-use lib.Seq.{drop-cons}
+use lib.ListN.{take, drop}
+use lib.Seq.{drop-drop}
 use lib.Dec.{leb, ltb, eqb}
-use borrow.Author.Tests.{leb-true, ltb-true, eqb-true, le-leb, lt-ltb, ne-eqb}
-use Rattle.format.specs.Tools.{pick, both}
+use borrow.Author.Tests.{leb-true, ltb-true, eqb-true, le-leb, lt-ltb, eq-eqb, ne-eqb}
+use Rattle.format.specs.declared.View.{View}
+use Rattle.format.specs.Tools.{both}
+use Rattle.format.specs.Bytes.{field}
 use Rattle.format.specs.Runs.{Span}
-use Rattle.format.specs.PagedRuns.{plus, less, none, sumsFrom, level, pairsFrom, pairsOf}
-use Rattle.laws.proofs.Tools.{and-both, and-three, both-true, both-make}
+use Rattle.format.specs.PagedRuns.{plus, less, sumsFrom, level, pairsFrom, pairsOf}
+use Rattle.laws.proofs.Tools.{both-true, both-make, both-false, and-three, and-four}
 use Rattle.laws.proofs.Levels.{span-path}
 use Rattle.laws.proofs.RunsBack.{leastEmpty}
-use Rattle.parts.specs.Encoder.{leftAfter}
-use Rattle.paged_runs.specs.declared.check.Sum.{Sum}
-use Rattle.paged_runs.specs.declared.check.Passed.{Passed}
-use Rattle.paged_runs.specs.Passing.{follows, sumWith, Small, passedWith, passedAll, noSum, passedNone, runsEnd, runsRight}
+use Rattle.wire.specs.declared.Pair.{Pair}
+use Rattle.wire.specs.Wire.{fieldPair}
+use Rattle.parts.specs.Falls.{fallen, follows, pairFalls}
+use Rattle.levels.specs.Levels.{spanOf, entries}
+use Rattle.levels.specs.Comparing.{Inside}
+use Rattle.levels.proofs.Reading.{pairsIn, pairs-none, pairs-cons, entries-next}
 use Rattle.levels.proofs.Bounded.{cellsOf, emptyOf}
+use Rattle.paged_runs.specs.declared.check.Pages.{Pages}
+use Rattle.paged_runs.specs.Passing.{pairOf, begins, endsRight, pagesRight, runsRight, pastPage}
 use Rattle.paged_runs.proofs.GoodPairs.{Good, good-moved}
-
-pub follows-path : (a s : Sum) (n : ℕ) → n ≡ leastEmpty (a .cells)
-    → (leb (n + a .empty) (s .empty) && ltb (s .empty + a .cells) (s .cells + a .empty)) ≡ follows a s
-follows-path a s n e = rw e (and-both (leb (leastEmpty (a .cells) + a .empty) (s .empty)) (ltb (s .empty + a .cells) (s .cells + a .empty)))
-
-pub least-some : (n : ℕ) → (n ≡ 0 → ⊥) → 1 ≡ leastEmpty n
-least-some zero h = absurd (h refl)
-least-some (suc n) h = refl
-
-pub pick-small : (t : Bool) (a d : Sum) → Small a → Small d → Small (pick t a d)
-pick-small true a d h k = h
-pick-small false a d h k = k
-
-pub passed-path : (b : ℕ) (s : Passed) (y : Span) (left : ℕ) (start sum : Sum) (f : Bool) → left ≡ leftAfter b (s .left)
-    → start ≡ pick (eqb (s .left) 0) (s .sum) (s .start) → sum ≡ sumWith start y → f ≡ follows (s .sum) sum
-    → _≡_ {A = Passed} (record { left = left; start = start; sum = sum; right = s .right && f }) (passedWith b s y)
-passed-path b s y left start sum f l d m g =
-    rw (g, m, d, l)
-    (ap
-    (λ (r : Bool).
-    record {
-      left = leftAfter b (s .left);
-      start = pick (eqb (s .left) 0) (s .sum) (s .start);
-      sum = sumWith (pick (eqb (s .left) 0) (s .sum) (s .start)) y;
-      right = r;
-    })
-    (and-both (s .right) (follows (s .sum) (sumWith (pick (eqb (s .left) 0) (s .sum) (s .start)) y))))
 
 -- ---- one entry, at the start of a page and within it
 
-state : ℕ → Sum → Sum → Bool → Passed
-state k d p r = record { left = k; start = d; sum = p; right = r }
+least-one : (n : ℕ) → 0 < n → leastEmpty n ≡ 1
+least-one zero h = absurd (omega arith)
+least-one (suc n) h = refl
 
-at-first : (b : ℕ) (d p : Sum) (r : Bool) (y : Span) → passedWith b (state 0 d p r) y ≡ state (b - 1) p (sumWith p y) (both r (follows p (sumWith p y)))
-unfolding state leftAfter
-at-first b d p r y = refl
+begins-true : (y : Span) → begins y ≡ true → (0 < y .empty) × (y .empty < y .cells)
+begins-true y h =
+    let t = both-true (ltb 0 (y .empty)) _ h in
+    (ltb-true 0 (y .empty) (t .0), ltb-true (y .empty) (y .cells) (t .1))
 
-at-later : (b k : ℕ) (d p : Sum) (r : Bool) (y : Span) → passedWith b (state (suc k) d p r) y ≡ state k d (sumWith d y) (both r (follows p (sumWith d y)))
-unfolding state leftAfter
-at-later b k d p r y =
-    let e : suc k - 1 ≡ k = omega arith in
-    rw (ne-eqb (suc k) 0 (λ z. omega arith), e)
+true-begins : (y : Span) → 0 < y .empty → y .empty < y .cells → begins y ≡ true
+true-begins y h g = both-make (ltb 0 (y .empty)) (ltb (y .empty) (y .cells)) (lt-ltb 0 (y .empty) h) (lt-ltb (y .empty) (y .cells) g)
 
-first-turn : (b : ℕ) (d p : Sum) (r t : Bool) (y : Span) (ys : List Span) → both r (follows p (sumWith p y)) ≡ t
-    → passedAll b (state 0 d p r) (y ∷ ys) ≡ passedAll b (state (b - 1) p (sumWith p y) t) ys
-unfolding passedAll
-first-turn b d p r t y ys e = ap (λ (s : Passed). passedAll b s ys) (at-first b d p r y ∙ ap (state (b - 1) p (sumWith p y)) e)
+-- a pair that follows has more empty cells, and more of the others
+follows-true : (a y : Span) → follows (pairOf a) (pairOf y) ≡ true
+    → (a .cells < y .cells) × (a .empty < y .empty) × (y .empty - a .empty < y .cells - a .cells)
+unfolding follows
+follows-true a y h =
+    let t = both-true (ltb (a .cells) (y .cells)) _ h in
+    let u = both-true (ltb (a .empty) (y .empty)) _ (t .1) in
+    (ltb-true (a .cells) (y .cells) (t .0), ltb-true (a .empty) (y .empty) (u .0), ltb-true (y .empty - a .empty) (y .cells - a .cells) (u .1))
 
-later-turn : (b k : ℕ) (d p : Sum) (r t : Bool) (y : Span) (ys : List Span) → both r (follows p (sumWith d y)) ≡ t
-    → passedAll b (state (suc k) d p r) (y ∷ ys) ≡ passedAll b (state k d (sumWith d y) t) ys
-unfolding passedAll
-later-turn b k d p r t y ys e = ap (λ (s : Passed). passedAll b s ys) (at-later b k d p r y ∙ ap (state k d (sumWith d y)) e)
-
--- the pair x follows on sums p
-x-follows : (p s : Sum) (x : Span) → s .cells ≡ p .cells + x .cells → s .empty ≡ p .empty + x .empty → leastEmpty (p .cells) ≤ x .empty → x .empty < x .cells
-    → follows p s ≡ true
-x-follows p s x c e g h =
-    both-make (leb (leastEmpty (p .cells) + p .empty) (s .empty)) (ltb (s .empty + p .cells) (s .cells + p .empty))
-    (le-leb (leastEmpty (p .cells) + p .empty) (s .empty) (omega arith))
-    (lt-ltb (s .empty + p .cells) (s .cells + p .empty) (omega arith))
-
-pub record Following (p s : Sum) : Type 0 where
-  pub gap : leastEmpty (p .cells) + p .empty ≤ s .empty
-  pub some : s .empty + p .cells < s .cells + p .empty
-
-follows-true : (p s : Sum) → follows p s ≡ true → Following p s
-follows-true p s h =
-    let t = both-true (leb (leastEmpty (p .cells) + p .empty) (s .empty)) _ h in
-    record {
-      gap = leb-true (leastEmpty (p .cells) + p .empty) (s .empty) (t .0);
-      some = ltb-true (s .empty + p .cells) (s .cells + p .empty) (t .1);
-    }
+true-follows : (a x : Span) → 0 < x .empty → x .empty < x .cells → follows (pairOf a) (pairOf (plus a x)) ≡ true
+unfolding follows
+true-follows a x h g =
+    let y = plus a x in
+    both-make (ltb (a .cells) (y .cells)) _ (lt-ltb (a .cells) (y .cells) (omega arith))
+    (both-make (ltb (a .empty) (y .empty)) _ (lt-ltb (a .empty) (y .empty) (omega arith))
+    (lt-ltb (y .empty - a .empty) (y .cells - a .cells) (omega arith)))
 
 -- ---- good pairs are passed
 
-ends-at : ℕ → ℕ → ℕ → ℕ → Bool
-ends-at c w cells empty = both (leb cells c) (eqb cells (empty + w))
-
-pass-good : (b c w k : ℕ) (d p : Sum) (a : Span) (xs : List Span) → p ≡ sumWith d a → Good (p .cells) xs
-    → runsEnd c w (passedAll b (state k d p true) (sumsFrom b k a xs)) ≡ ends-at c w (p .cells + cellsOf xs) (p .empty + emptyOf xs)
-unfolding passedAll sumsFrom cellsOf emptyOf ends-at
-pass-good b c w k d p a [] e g = unfold state in (rw (add-zero (p .cells), add-zero (p .empty)))
-pass-good b c w zero d p a (x ∷ xs) e g =
-    ap (runsEnd c w) (first-turn b d p true true x (sumsFrom b (b - 1) x xs) (x-follows p (sumWith p x) x refl refl (g .0) (g .1)))
-    ∙ pass-good b c w (b - 1) p (sumWith p x) x xs refl (g .2)
-    ∙ ap₂ (ends-at c w) (add-assoc (p .cells) (x .cells) (cellsOf xs)) (add-assoc (p .empty) (x .empty) (emptyOf xs))
-pass-good b c w (suc k) d p a (x ∷ xs) e g =
-    let ec : p .cells ≡ d .cells + a .cells = ap (λ (s : Sum). s .cells) e in
-    let ee : p .empty ≡ d .empty + a .empty = ap (λ (s : Sum). s .empty) e in
-    let nc : d .cells + (a .cells + x .cells) ≡ p .cells + x .cells = omega arith in
-    let ne : d .empty + (a .empty + x .empty) ≡ p .empty + x .empty = omega arith in
-    ap (runsEnd c w) (later-turn b k d p true true (plus a x) (sumsFrom b k (plus a x) xs) (x-follows p (sumWith d (plus a x)) x nc ne (g .0) (g .1)))
-    ∙ pass-good b c w k d (sumWith d (plus a x)) (plus a x) xs refl (good-moved (p .cells + x .cells) (d .cells + (a .cells + x .cells)) xs (sym nc) (g .2))
-    ∙ ap₂ (ends-at c w) (omega arith) (omega arith)
+pass-good : (C N b k c e : ℕ) (a : Span) (xs : List Span) → a .empty < a .cells → Good (c + a .cells) xs
+    → pagesRight C N b k c e a (sumsFrom b k a xs) ≡ endsRight C N (c + a .cells + cellsOf xs) (e + a .empty + emptyOf xs)
+unfolding pagesRight sumsFrom cellsOf emptyOf
+pass-good C N b k c e a [] h g = rw (add-zero (c + a .cells), add-zero (e + a .empty))
+pass-good C N b zero c e a (x ∷ xs) h g =
+    let g0 = rw (least-one (c + a .cells) (omega arith)) at (g .0) in
+    rw (true-begins x g0 (g .1))
+    (pass-good C N b (b - 1) (c + a .cells) (e + a .empty) x xs (g .1) (g .2)
+    ∙ ap₂ (endsRight C N) (add-assoc (c + a .cells) (x .cells) (cellsOf xs)) (add-assoc (e + a .empty) (x .empty) (emptyOf xs)))
+pass-good C N b (suc k) c e a (x ∷ xs) h g =
+    let g0 = rw (least-one (c + a .cells) (omega arith)) at (g .0) in
+    let g1 = g .1 in
+    rw (true-follows a x g0 g1)
+    (pass-good C N b k c e (plus a x) xs (omega arith) (good-moved (c + a .cells + x .cells) (c + (a .cells + x .cells)) xs (omega arith) (g .2))
+    ∙ ap₂ (endsRight C N) (omega arith) (omega arith))
 
 -- ---- what is passed are good pairs, with these entries
 
-pub record Pairs (b k : ℕ) (e : ℕ) (a : Span) (ys : List Span) : Type 0 where
+pub record Pairs (b k e : ℕ) (a : Span) (ys : List Span) : Type 0 where
   pub good : Good e (pairsFrom b k a ys)
   pub sums : sumsFrom b k a (pairsFrom b k a ys) ≡ ys
 
-less-path : (y a : Span) → a .cells ≤ y .cells → a .empty ≤ y .empty → plus a (less y a) ≡ y
-less-path y a h g = span-path (omega arith) (omega arith)
-
-all-passed : (b c w k : ℕ) (d p : Sum) (r : Bool) (a : Span) (ys : List Span) → p ≡ sumWith d a
-    → runsEnd c w (passedAll b (state k d p r) ys) ≡ true → (r ≡ true) × Pairs b k (p .cells) a ys
-unfolding passedAll pairsFrom sumsFrom state
-all-passed b c w k d p r a [] e h =
-    let t : (r ≡ true) × (both (leb (p .cells) c) (eqb (p .cells) (p .empty + w)) ≡ true) = both-true r
-    (both (leb (p .cells) c) (eqb (p .cells) (p .empty + w))) h in
-    (t .0, record { good = tt; sums = refl })
-all-passed b c w zero d p r a (y ∷ ys) e h =
-    let i = all-passed b c w (b - 1) p (sumWith p y) (both r (follows p (sumWith p y))) y ys refl
-    (sym (ap (runsEnd c w) (first-turn b d p r (both r (follows p (sumWith p y))) y ys refl)) ∙ h) in
-    let t = both-true r (follows p (sumWith p y)) (i .0) in
-    let f = follows-true p (sumWith p y) (t .1) in
-    (t .0, record { good = (omega arith, omega arith, i .1 .good); sums = rw (i .1 .sums) })
-all-passed b c w (suc k) d p r a (y ∷ ys) e h =
-    let ec : p .cells ≡ d .cells + a .cells = ap (λ (s : Sum). s .cells) e in
-    let ee : p .empty ≡ d .empty + a .empty = ap (λ (s : Sum). s .empty) e in
-    let i = all-passed b c w k d (sumWith d y) (both r (follows p (sumWith d y))) y ys refl
-    (sym (ap (runsEnd c w) (later-turn b k d p r (both r (follows p (sumWith d y))) y ys refl)) ∙ h) in
-    let t = both-true r (follows p (sumWith d y)) (i .0) in
-    let f = follows-true p (sumWith d y) (t .1) in
-    let lc : a .cells ≤ y .cells = omega arith in
-    let le : a .empty ≤ y .empty = omega arith in
-    let n : d .cells + y .cells ≡ p .cells + (y .cells - a .cells) = omega arith in
-    let s = i .1 .sums in (
-      t .0,
-      record {
-        good = (omega arith, omega arith, good-moved (d .cells + y .cells) (p .cells + (y .cells - a .cells)) (pairsFrom b k y ys) n (i .1 .good));
-        sums = rw (less-path y a lc le, s);
-      },
-    )
+all-passed : (C N b k c e : ℕ) (a : Span) (ys : List Span) → a .empty < a .cells → pagesRight C N b k c e a ys ≡ true → Pairs b k (c + a .cells) a ys
+unfolding pagesRight pairsFrom sumsFrom
+all-passed C N b k c e a [] l h = record { good = tt; sums = refl }
+all-passed C N b zero c e a (y ∷ ys) l h =
+    let t = both-true (begins y) _ h in
+    let f = begins-true y (t .0) in
+    let i = all-passed C N b (b - 1) (c + a .cells) (e + a .empty) y ys (f .1) (t .1) in
+    record { good = (rw (least-one (c + a .cells) (omega arith)) (f .0), f .1, i .good); sums = rw (i .sums) }
+all-passed C N b (suc k) c e a (y ∷ ys) l h =
+    let t = both-true (follows (pairOf a) (pairOf y)) _ h in
+    let f = follows-true a y (t .0) in
+    let f0 = f .0 in
+    let f1 = f .1 in
+    let f2 = f .2 in
+    let i = all-passed C N b k c e y ys (omega arith) (t .1) in
+    let m = good-moved (c + y .cells) (c + a .cells + (y .cells - a .cells)) (pairsFrom b k y ys) (omega arith) (i .good) in
+    let p : plus a (less y a) ≡ y = span-path (omega arith) (omega arith) in
+    let s = i .sums in
+    record { good = (rw (least-one (c + a .cells) (omega arith)) (omega arith), f2, m); sums = rw (p, s) }
 
 -- ---- level 0 as a whole
 
+no-runs : (C N : ℕ) → eqb N 0 ≡ endsRight C N 0 0
+no-runs C zero = rw (le-leb 0 C (omega arith))
+no-runs C (suc n) = rw (le-leb 0 C (omega arith), ne-eqb (suc n) 0 (λ e. omega arith), ne-eqb 0 (0 + suc n) (λ e. omega arith))
+
 pub passed-good : (b c w : ℕ) (xs : List Span) → Good 0 xs → runsRight b c w (level b xs) ≡ both (leb (cellsOf xs) c) (eqb (cellsOf xs) (emptyOf xs + w))
-unfolding runsRight level state ends-at
-passed-good b c w xs g = pass-good b c w 0 noSum noSum none xs refl g ∙ rw (zero-add (cellsOf xs), zero-add (emptyOf xs))
+unfolding runsRight level sumsFrom cellsOf emptyOf
+passed-good b c w [] g = no-runs c w
+passed-good b c w (x ∷ xs) g =
+    let g1 = g .1 in
+    rw (lt-ltb (x .empty) (x .cells) g1)
+    (pass-good c w b (b - 1) 0 0 x xs g1 (g .2) ∙ rw (zero-add (x .cells), zero-add (x .empty)))
 
 pub record LevelOf (b c w : ℕ) (ys : List Span) : Type 0 where
   pub good : Good 0 (pairsOf b ys)
@@ -169,98 +123,175 @@ pub record LevelOf (b c w : ℕ) (ys : List Span) : Type 0 where
   pub cells : cellsOf (pairsOf b ys) ≤ c
   pub words : cellsOf (pairsOf b ys) ≡ emptyOf (pairsOf b ys) + w
 
+right-pairs : (b c w : ℕ) (ys : List Span) → runsRight b c w ys ≡ true → Good 0 (pairsOf b ys) × (level b (pairsOf b ys) ≡ ys)
+unfolding runsRight level pairsOf pairsFrom sumsFrom
+right-pairs b c w [] h = (tt, refl)
+right-pairs b c w (y ∷ ys) h =
+    let t = both-true (ltb (y .empty) (y .cells)) _ h in
+    let l = ltb-true (y .empty) (y .cells) (t .0) in
+    let i = all-passed c w b (b - 1) 0 0 y ys l (t .1) in
+    let s = i .sums in
+    ((omega arith, l, i .good), rw s)
+
 pub right-level : (b c w : ℕ) (ys : List Span) → runsRight b c w ys ≡ true → LevelOf b c w ys
 right-level b c w ys h =
-    let p = pairs b c w ys h in
-    let s = sums b c w ys p in
+    let p = right-pairs b c w ys h in
+    let s = p .1 in
     let e : both (leb (cellsOf (pairsOf b ys)) c) (eqb (cellsOf (pairsOf b ys)) (emptyOf (pairsOf b ys) + w)) ≡ true
-    = sym (passed-good b c w (pairsOf b ys) (goods b c w ys p)) ∙ rw s h in
+    = sym (passed-good b c w (pairsOf b ys) (p .0)) ∙ rw s h in
     let t = both-true (leb (cellsOf (pairsOf b ys)) c) _ e in
     record {
-      good = goods b c w ys p;
+      good = p .0;
       sums = s;
       cells = leb-true (cellsOf (pairsOf b ys)) c (t .0);
       words = eqb-true (cellsOf (pairsOf b ys)) (emptyOf (pairsOf b ys) + w) (t .1);
     }
-  where
-    pairs : (b c w : ℕ) (ys : List Span) → runsRight b c w ys ≡ true → Pairs b 0 0 none ys
-    pairs b c w ys h = all-passed b c w 0 noSum noSum true none ys refl (unfold runsRight state in h) .1
 
-    goods : (b c w : ℕ) (ys : List Span) → Pairs b 0 0 none ys → Good 0 (pairsOf b ys)
-    goods b c w ys p = unfold pairsOf in (p .good)
+-- ---- page by page, as the code goes: all falls are counted, and those at the starts of pages
 
-    sums : (b c w : ℕ) (ys : List Span) → Pairs b 0 0 none ys → level b (pairsOf b ys) ≡ ys
-    sums b c w ys p = unfold level pairsOf in (p .sums)
+-- past a page, as code makes the tests
+pub past-path : (s : Pages) (x y : Pair) (fall : ℕ) → fall ≡ fallen (follows x y)
+    → _≡_ {A = Pages}
+    (record {
+      falls = s .falls + fall;
+      right = (s .right && ltb 0 (y .second)) && ltb (y .second) (y .first);
+      cells = s .cells + x .first;
+      empty = s .empty + x .second;
+    })
+    (pastPage s x y)
+past-path s x y fall e =
+    rw e
+    (ap
+    (λ (r : Bool). record { falls = s .falls + fallen (follows x y); right = r; cells = s .cells + x .first; empty = s .empty + x .second })
+    (and-three (s .right) (ltb 0 (y .second)) (ltb (y .second) (y .first))))
 
--- the last tests, as code makes them
-pub ends-both : (cells words : ℕ) (s : Passed) → (s .right && leb (s .sum .cells) cells) && eqb (s .sum .cells) (s .sum .empty + words) ≡ runsEnd cells words s
-ends-both cells words s = and-three (s .right) (leb (s .sum .cells) cells) (eqb (s .sum .cells) (s .sum .empty + words))
+-- within a page: where an entry does not follow, a fall is left over
+within-turn : (r t l : Bool) (all n p : ℕ) → n + (fallen t + p) ≤ all
+    → both r (both (eqb all (n + (fallen t + p))) (both t l)) ≡ both r (both (eqb all (n + p)) l)
+unfolding fallen
+within-turn r true l all n p h = rw (zero-add p)
+within-turn r false l all n p h = rw (ne-eqb all (n + p) (λ e. omega arith), both-false (eqb all (n + (1 + p))))
 
--- ---- the loop along level 0
+-- at the start of the next: the fall is counted
+start-turn : (r t g l : Bool) (all n p : ℕ) → both r (both (eqb all (n + (fallen t + p))) (both g l)) ≡ both (both r g) (both (eqb all (n + fallen t + p)) l)
+start-turn false t g l all n p = refl
+start-turn true t true l all n p = rw (add-assoc n (fallen t) p)
+start-turn true t false l all n p = both-false (eqb all (n + (fallen t + p)))
 
--- the entries up to `at` are passed; what is left gives the whole
-pub record Going (es : List Span) (b cells words firsts seconds at : ℕ) (s : Passed) : Type 0 where
-  pub whole : runsEnd cells words (passedAll b s (take (firsts + seconds - at) (drop at es))) ≡ runsRight b cells words (take seconds (drop firsts es))
-  pub low : firsts ≤ at
-  pub high : at ≤ firsts + seconds
-  pub sum-cells : s .sum .cells + firsts * 2 ^ 32 ≤ at * 2 ^ 32
-  pub sum-empty : s .sum .empty + firsts * 2 ^ 32 ≤ at * 2 ^ 32
-  pub start-cells : s .start .cells ≤ s .sum .cells
-  pub start-empty : s .start .empty ≤ s .sum .empty
+module _ (C N b : ℕ) (f : List ℕ) where
+  pairs-next : (n at : ℕ) → pairsIn (suc n) (drop at f) ≡ spanOf (fieldPair at f) ∷ pairsIn n (drop (at + 8) f)
+  unfolding fieldPair field
+  pairs-next n at = pairs-cons n (drop at f) ∙ rw (drop-drop 4 at f, drop-drop 8 at f)
 
-module _ (es : List Span) (b cells words firsts seconds : ℕ) where
-  pub going-first : Going es b cells words firsts seconds firsts passedNone
-  unfolding runsRight
-  going-first =
-      let e : firsts + seconds - firsts ≡ seconds = omega arith in
-      record {
-        whole = rw e;
-        low = omega arith;
-        high = omega arith;
-        sum-cells = omega arith;
-        sum-empty = omega arith;
-        start-cells = omega arith;
-        start-empty = omega arith;
-      }
+  -- the entries behind the one at an offset, n of them and k in its page, give the whole; `all` falls are there
+  pub record Left (whole : Bool) (all k n at : ℕ) (s : Pages) : Type 0 where
+    pub rest : both (s .right)
+        (both (eqb all (s .falls + pairFalls n at f)) (pagesRight C N b k (s .cells) (s .empty) (spanOf (fieldPair at f)) (pairsIn n (drop (at + 8) f))))
+        ≡ whole
+    pub falls : s .falls + pairFalls n at f ≤ all
 
-  module _ (at : ℕ) (s : Passed) (g : Going es b cells words firsts seconds at s) where
-    pub going-small : seconds ≤ 16777216 → Small (s .sum) × Small (s .start)
-    going-small h = (record { cells = omega arith; empty = omega arith }, record { cells = omega arith; empty = omega arith })
-
-    pick-most : (t : Bool) → (pick t (s .sum) (s .start) .cells ≤ s .sum .cells) × (pick t (s .sum) (s .start) .empty ≤ s .sum .empty)
-    pick-most true = (omega arith, omega arith)
-    pick-most false = (g .start-cells, g .start-empty)
-
-    entries-left : at < firsts + seconds → firsts + seconds ≤ length es
-        → take (firsts + seconds - at) (drop at es) ≡ getD es at none ∷ take (firsts + seconds - (at + 1)) (drop (at + 1) es)
-    entries-left h l =
-        let n : firsts + seconds - at ≡ suc (firsts + seconds - (at + 1)) = omega arith in
-        let i : at < length es = omega arith in
-        rw (drop-cons es at none i, n, add-one at)
-
-    pub going-on : (y : Span) → at < firsts + seconds → firsts + seconds ≤ length es → y ≡ getD es at none → y .cells < 2 ^ 32 → y .empty < 2 ^ 32
-        → Going es b cells words firsts seconds (at + 1) (passedWith b s y)
-    unfolding passedAll
-    going-on y h l e c d =
-        let m = pick-most (eqb (s .left) 0) in
-        let m0 = m .0 in
-        let m1 = m .1 in
-        let w : runsEnd cells words (passedAll b s (y ∷ take (firsts + seconds - (at + 1)) (drop (at + 1) es)))
-        ≡ runsRight b cells words (take seconds (drop firsts es))
-        = rw (e, ← entries-left h l) (g .whole) in
+  module _ (whole : Bool) (all : ℕ) (s : Pages) where
+    left-within : (k n at : ℕ) → Left whole all (suc k) (suc n) at s → Left whole all k n (at + 8) s
+    unfolding pagesRight pairFalls
+    left-within k n at g =
+        let h = g .falls in
+        let r = rw (pairs-next n (at + 8)) at (g .rest) in
         record {
-          whole = w;
-          low = omega arith;
-          high = omega arith;
-          sum-cells = omega arith;
-          sum-empty = omega arith;
-          start-cells = omega arith;
-          start-empty = omega arith;
+          rest = sym (within-turn (s .right) (follows (fieldPair at f) (fieldPair (at + 8) f)) _ all (s .falls) (pairFalls n (at + 8) f) h) ∙ r;
+          falls = omega arith;
         }
 
-    pub going-done : firsts + seconds ≤ at → runsEnd cells words s ≡ runsRight b cells words (take seconds (drop firsts es))
-    unfolding passedAll
-    going-done h =
-        let z : firsts + seconds - at ≡ 0 = omega arith in
-        let w : runsEnd cells words (passedAll b s (take 0 (drop at es))) ≡ runsRight b cells words (take seconds (drop firsts es)) = rw z at (g .whole) in
-        w
+    left-start : (n at : ℕ) → Left whole all 0 (suc n) at s → Left whole all (b - 1) n (at + 8) (pastPage s (fieldPair at f) (fieldPair (at + 8) f))
+    unfolding pagesRight pairFalls
+    left-start n at g =
+        let h = g .falls in
+        let r = rw (pairs-next n (at + 8)) at (g .rest) in
+        record {
+          rest = sym (start-turn (s .right) (follows (fieldPair at f) (fieldPair (at + 8) f)) _ _ all (s .falls) (pairFalls n (at + 8) f)) ∙ r;
+          falls = omega arith;
+        }
+
+    left-on : (m k n at : ℕ) → Left whole all (m + k) (m + n) at s → Left whole all k n (at + 8 * m) s
+    left-on zero k n at g =
+        let z : at + 8 * 0 ≡ at = omega arith in
+        rw z (rw (zero-add k, zero-add n) at g)
+    left-on (suc m) k n at g =
+        let p : suc m + k ≡ suc (m + k) = omega arith in
+        let q : suc m + n ≡ suc (m + n) = omega arith in
+        let z : at + 8 * suc m ≡ at + 8 + 8 * m = omega arith in
+        rw z (left-on m k n (at + 8) (left-within (m + k) (m + n) at (rw (p, q) at g)))
+
+  -- ---- the loop over the pages
+
+  pub record Going (whole : Bool) (all end at left : ℕ) (s : Pages) : Type 0 where
+    pub rest : Left whole all (b - 1) (left - 1) at s
+    pub some : 0 < left
+    pub page : 0 < b
+    pub few : all ≤ 16777216
+    pub place : at + 8 * left ≡ end
+    pub cells : s .cells + left * 2 ^ 32 ≤ 16777216 * 2 ^ 32
+    pub empty : s .empty + left * 2 ^ 32 ≤ 16777216 * 2 ^ 32
+
+  module _ (whole : Bool) (all end at left : ℕ) (s : Pages) (g : Going whole all end at left s) where
+    pub going-on : (x y : Pair) → b < left → x ≡ fieldPair (at + 8 * b - 8) f → y ≡ fieldPair (at + 8 * b) f
+        → x .first < 2 ^ 32 → x .second < 2 ^ 32
+        → Going whole all end (at + 8 * b) (left - b) (pastPage s x y)
+    going-on x y l ex ey cx cy =
+        let i : left - 1 ≡ b - 1 + suc (left - b - 1) = omega arith in
+        let j : b - 1 ≡ b - 1 + 0 = omega arith in
+        let p : at + 8 * (b - 1) ≡ at + 8 * b - 8 = omega arith in
+        let q : at + 8 * (b - 1) + 8 ≡ at + 8 * b = omega arith in
+        let t = left-start whole all s (left - b - 1) (at + 8 * (b - 1)) (left-on whole all s (b - 1) 0 (suc (left - b - 1)) at (rw (← i, ← j) (g .rest))) in
+        record {
+          rest = rw (q, p, ← ex, ← ey) at t;
+          some = omega arith;
+          page = g .page;
+          few = g .few;
+          place = omega arith;
+          cells = omega arith;
+          empty = omega arith;
+        }
+
+    pub going-done : (x : Pair) → left ≤ b → x ≡ fieldPair (at + 8 * (left - 1)) f
+        → ((s .right && eqb all (s .falls)) && leb (s .cells + x .first) C) && eqb (s .cells + x .first) (s .empty + x .second + N) ≡ whole
+    unfolding pagesRight pairFalls
+    going-done x l e =
+        let c = s .cells + x .first in
+        let i : left - 1 ≡ left - 1 + 0 = omega arith in
+        let j : b - 1 ≡ left - 1 + (b - left) = omega arith in
+        let t = left-on whole all s (left - 1) (b - left) 0 at (rw (← i, ← j) (g .rest)) in
+        and-four (s .right) (eqb all (s .falls)) (leb c C) (eqb c (s .empty + x .second + N))
+        ∙ rw (pairs-none (drop (at + 8 * (left - 1) + 8) f), add-zero (s .falls), ← e) at (t .rest)
+
+-- ---- the loop's beginning
+
+abbrev pub levelRight : List ℕ → View → Bool
+levelRight f v = runsRight (v .step) (v .cells) (v .words) (take (v .seconds) (drop (v .firsts) (entries (v .start) f)))
+
+module _ (f : List ℕ) (v : View) (i : Inside f v) where
+  read : take (v .seconds) (drop (v .firsts) (entries (v .start) f)) ≡ pairsIn (v .seconds) (drop (v .second) f)
+  read = let l = i .long in rw (i .second) (entries-next (v .start) f (v .firsts) (v .seconds) (omega arith))
+
+  pub going-none : v .seconds ≡ 0 → eqb (v .words) 0 ≡ levelRight f v
+  unfolding runsRight
+  going-none z = rw (read, z, pairs-none (drop (v .second) f))
+
+  pub going-first : (x : Pair) (all : ℕ) → 0 < v .seconds → x ≡ fieldPair (v .second) f
+      → all ≡ pairFalls (v .seconds - 1) (v .second) f → all ≤ v .seconds - 1
+      → Going (v .cells) (v .words) (v .step) f (levelRight f v) all (v .second + 8 * v .seconds) (v .second) (v .seconds)
+      (record { falls = 0; right = ltb (x .second) (x .first); cells = 0; empty = 0 })
+  unfolding runsRight
+  going-first x all h e g k =
+      let m = i .seconds in
+      let n : v .seconds ≡ suc (v .seconds - 1) = omega arith in
+      let l = read ∙ ap (λ (k : ℕ). pairsIn k (drop (v .second) f)) n ∙ pairs-next 0 0 0 f (v .seconds - 1) (v .second) in
+      let t = eq-eqb all (0 + pairFalls (v .seconds - 1) (v .second) f) (omega arith) in
+      record {
+        rest = record { rest = rw (e, t, l); falls = omega arith };
+        some = h;
+        page = omega (arith, i .low);
+        few = omega arith;
+        place = refl;
+        cells = omega arith;
+        empty = omega arith;
+      }

@@ -1,55 +1,50 @@
 -- Level 0 as the check goes along it. Assumes nothing.
-use Prim.Native.Nat.{ℕ, _+_, _*_, _^_, _≤_, _<_}
-use mathlib.Core.Path.{_≡_}
-use mathlib.Core.Bool.{Bool, true}
+use Prim.Native.Nat.{ℕ, zero, suc, _+_, _-_, _^_, _<_}
+use mathlib.Core.Bool.{Bool}
 use mathlib.Core.List.{List, [], _∷_}
-use lib.ListN.{length}
 use lib.Dec.{leb, ltb, eqb}
-use Rattle.format.specs.declared.View.{View}
-use Rattle.format.specs.Tools.{pick, both, same, upTo}
+use Rattle.format.specs.Tools.{both}
 use Rattle.format.specs.Runs.{Span}
-use Rattle.format.specs.PagedRuns.{upperEntries, flatSpans}
-use Rattle.laws.proofs.RunsBack.{leastEmpty}
 use Rattle.wire.specs.declared.Pair.{Pair}
-use Rattle.parts.specs.Encoder.{leftAfter}
-use Rattle.paged_runs.specs.declared.check.Sum.{Sum}
-use Rattle.paged_runs.specs.declared.check.Passed.{Passed}
+use Rattle.parts.specs.Falls.{fallen, follows}
+use Rattle.levels.specs.Levels.{spanOf}
+use Rattle.paged_runs.specs.declared.check.Pages.{Pages}
 
--- the sums after a run follow on those before it: it has empty cells before it, and a stored cell
-abbrev pub follows : Sum → Sum → Bool
-follows a s = both (leb (leastEmpty (a .cells) + a .empty) (s .empty)) (ltb (s .empty + a .cells) (s .cells + a .empty))
+abbrev pub pairOf : Span → Pair
+pairOf x = record { first = x .cells; second = x .empty }
 
-abbrev pub sumWith : Sum → Span → Sum
-sumWith a x = record { cells = a .cells + x .cells; empty = a .empty + x .empty }
+-- a page past the first begins with a run of its own: it has an empty cell before it, and a stored cell
+abbrev pub begins : Span → Bool
+begins y = both (ltb 0 (y .empty)) (ltb (y .empty) (y .cells))
 
--- sums that leave room for more
-pub record Small (s : Sum) : Type 0 where
-  pub cells : s .cells < 2 ^ 61
-  pub empty : s .empty < 2 ^ 61
+-- all runs end within the picture's cells, and have as many stored cells as there are words
+abbrev pub endsRight : ℕ → ℕ → ℕ → ℕ → Bool
+endsRight C N cells empty = both (leb cells C) (eqb cells (empty + N))
 
--- past one more entry
-abbrev pub passedWith : ℕ → Passed → Span → Passed
-passedWith b s y =
-    record {
-      left = leftAfter b (s .left);
-      start = pick (eqb (s .left) 0) (s .sum) (s .start);
-      sum = sumWith (pick (eqb (s .left) 0) (s .sum) (s .start)) y;
-      right = both (s .right) (follows (s .sum) (sumWith (pick (eqb (s .left) 0) (s .sum) (s .start)) y));
-    }
-
-unfoldable pub passedAll : ℕ → Passed → List Span → Passed
-passedAll b s [] = s
-passedAll b s (y ∷ ys) = passedAll b (passedWith b s y) ys
-
-abbrev pub noSum : Sum
-noSum = record { cells = 0; empty = 0 }
-
-abbrev pub passedNone : Passed
-passedNone = record { left = 0; start = noSum; sum = noSum; right = true }
-
--- all runs follow, end within the picture's cells, and have as many stored cells as there are words
-abbrev pub runsEnd : ℕ → ℕ → Passed → Bool
-runsEnd cells words s = both (s .right) (both (leb (s .sum .cells) cells) (eqb (s .sum .cells) (s .sum .empty + words)))
+-- the entries behind x are right, where k more belong to its page of b; `cells` and `empty` are the sums before the page
+unfoldable pub pagesRight : ℕ → ℕ → ℕ → ℕ → ℕ → ℕ → Span → List Span → Bool
+pagesRight C N b k cells empty x [] = endsRight C N (cells + x .cells) (empty + x .empty)
+pagesRight C N b zero cells empty x (y ∷ ys) = both (begins y) (pagesRight C N b (b - 1) (cells + x .cells) (empty + x .empty) y ys)
+pagesRight C N b (suc k) cells empty x (y ∷ ys) = both (follows (pairOf x) (pairOf y)) (pagesRight C N b k cells empty y ys)
 
 unfoldable pub runsRight : ℕ → ℕ → ℕ → List Span → Bool
-runsRight b cells words ys = runsEnd cells words (passedAll b passedNone ys)
+runsRight b C N [] = eqb N 0
+runsRight b C N (y ∷ ys) = both (ltb (y .empty) (y .cells)) (pagesRight C N b (b - 1) 0 0 y ys)
+
+-- ---- page by page
+
+-- past a page with the last entry x, before one with the first entry y
+abbrev pub pastPage : Pages → Pair → Pair → Pages
+pastPage s x y =
+    record {
+      falls = s .falls + fallen (follows x y);
+      right = both (s .right) (begins (spanOf y));
+      cells = s .cells + x .first;
+      empty = s .empty + x .second;
+    }
+
+-- counts and sums that leave room for more
+pub record Small (s : Pages) : Type 0 where
+  pub falls : s .falls < 2 ^ 31
+  pub cells : s .cells < 2 ^ 61
+  pub empty : s .empty < 2 ^ 61
