@@ -3,9 +3,12 @@ use format::Position;
 use format::Rank;
 use format::View;
 use parts::Found;
+ghost use mathlib.Core.Path.{_≡_};
+ghost use mathlib.Core.Bool.{true};
 ghost use Prim.Native.Nat.{_<_};
 ghost use Rattle.parts.specs.Holds.{kindOf};
 ghost use Rattle.parts.specs.Found.{FoundIn, PositionIn};
+ghost use Rattle.kinds.specs.Search.{placedByRank};
 
 // The place of a position among the stored ones.
 pub fn find(file: &[u8], v: View, p: Position) -> Found
@@ -40,4 +43,25 @@ pub fn position_of(file: &[u8], v: View, r: Rank) -> u64
         5 => paged_runs::search::position_of(file, v, r),
         _ => 0,
     }
+}
+
+// Whether a kind has the position of a rank at a place that the rank gives.
+pub fn placed_by_rank(kind: u32) -> bool
+    ensures { λ r. ⌜ (r ≡ true → placedByRank kind) ⌝ }
+{
+    if kind == 2 {
+        return true;
+    }
+    kind == 3
+}
+
+// In such a kind: the position of a rank, with no search.
+pub fn placed_position(file: &[u8], v: View, r: Rank) -> u64
+    requires { ⌜ placedByRank (v .kind) × (r .0 < v .words) ⌝ }
+    ensures { λ q. ⌜ PositionIn (kindOf v) (now (file .entry)) v (r .0) q ⌝ }
+{
+    if v.kind == 2 {
+        return positions::search::position_of(file, v, r);
+    }
+    base_offset::search::position_of(file, v, r)
 }

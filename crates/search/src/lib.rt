@@ -8,6 +8,8 @@ use format::RankAnswer;
 use format::View;
 use format::signals::BEYOND;
 use kinds::search::find;
+use kinds::search::placed_by_rank;
+use kinds::search::placed_position;
 use kinds::search::position_of;
 use parts::Found;
 use wire::load_u32;
@@ -16,7 +18,8 @@ ghost use Prim.Native.Nat.{_<_};
 ghost use lib.ListN.{getD};
 ghost use Rattle.format.specs.Answers.{cellSays, rankSays, positionSays};
 ghost use Rattle.format.specs.Accepted.{positionsOf};
-ghost use Rattle.parts.specs.Holds.{ViewOf};
+ghost use Rattle.parts.specs.Holds.{ViewOf, kindOf};
+ghost use Rattle.parts.specs.Found.{PositionIn};
 ghost use Rattle.search.specs.Searched.{rankFrom, CellSearched, RankSearched, PositionSearched};
 
 // A place as an answer: a rank, or "empty".
@@ -39,6 +42,17 @@ pub fn rank_in(file: &[u8], v: View, p: Position) -> RankAnswer
     rank_answer(find(file, v, p))
 }
 
+// The position of a rank below the words; any number over unfit bytes. Where the rank gives its place, no search is called.
+fn position_at(file: &[u8], v: View, r: Rank) -> u64
+    requires { ⌜ r .0 < v .words ⌝ }
+    ensures { λ q. ⌜ PositionIn (kindOf v) (now (file .entry)) v (r .0) q ⌝ }
+{
+    if placed_by_rank(v.kind) {
+        return placed_position(file, v, r);
+    }
+    position_of(file, v, r)
+}
+
 // The position of a rank.
 pub fn position_in(file: &[u8], v: View, r: Rank) -> PositionAnswer
     ensures { λ a. ⌜ PositionSearched (now (file .entry)) v (r .0) (positionSays a) ⌝ }
@@ -46,7 +60,7 @@ pub fn position_in(file: &[u8], v: View, r: Rank) -> PositionAnswer
     if v.words <= r.0 {
         return PositionAnswer::Refused(BEYOND);
     }
-    let p = position_of(file, v, r);
+    let p = position_at(file, v, r);
     if v.cells as u64 <= p {
         return PositionAnswer::Refused(BEYOND);
     }
@@ -58,7 +72,7 @@ pub fn stored_position(file: &[u8], v: View, r: Rank) -> Position
     requires { ⌜ ViewOf (now file) v × (r .0 < v .words) ⌝ }
     ensures { λ p. ⌜ (p .0 ≡ getD (positionsOf (now (file .entry))) (r .0) 0) × (p .0 < v .cells) ⌝ }
 {
-    Position(position_of(file, v, r) as u32)
+    Position(position_at(file, v, r) as u32)
 }
 
 // The word at a position.
