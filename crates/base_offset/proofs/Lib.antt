@@ -14,6 +14,7 @@ pub mod Walk
 -- The encoder.
 pub mod Encoded
 pub mod Adds
+pub mod Grouped
 -- The searches.
 pub mod TwoLevel
 pub mod Searched
