@@ -1,12 +1,12 @@
 -- For the code: the positions of one base, and a loop that takes those of one base a turn. Assumes nothing.
-use Prim.Native.Nat.{ℕ, zero, suc, _+_, _-_, _*_, _≤_, _<_, min}
+use Prim.Native.Nat.{ℕ, zero, suc, _+_, _-_, _*_, _≤_, _<_}
 use mathlib.Core.Path.{_≡_, refl, sym, ap, ap₂, subst, _∙_}
 use mathlib.Core.List.{List, [], _∷_, _++_}
-use native.Mathlib.Nat.{mul-zero, mul-suc, mul-le-mul, add-zero, le-refl, min-le-left, min-le-right, le-min}
+use native.Mathlib.Nat.{mul-zero, mul-suc, mul-le-mul, add-zero, le-refl}
 use native.Mathlib.Numerals.{add-one}
 use native.Mathlib.Omega.{arith}
-use lib.ListN.{length, getD, take, drop, length-append, length-drop, take-append-drop}
-use lib.Seq.{length-take-le, drop-drop}
+use lib.ListN.{length, getD, take, drop, length-append, take-append-drop}
+use lib.Seq.{drop-drop}
 use lib.Dec.{eqb}
 use borrow.Author.Tests.{eqb-true, eqb-false}
 use Rattle.format.specs.Bytes.{bytes, bytesOf}
@@ -24,6 +24,7 @@ use Rattle.parts.proofs.Taking.{if-zero, if-more}
 use Rattle.parts.proofs.Added.{firsts-by, seconds-by, taken-append, first-place, second-place, along-by, rising-front}
 use Rattle.parts.proofs.Taken.{Measuring, Writing}
 use Rattle.base_offset.specs.Coding.{coder, due, opened, OneBase, offsetsOver}
+use Rattle.base_offset.proofs.Cuts.{Cut, part, length-part}
 use Rattle.base_offset.proofs.Adds.{taken-group, first-group, second-group, added-firsts, added-seconds}
 
 -- ---- the offsets
@@ -136,29 +137,12 @@ module _ (l : ℕ) (e : Encoder) (ls : List ℕ) (o : OneBase l e ls) where
 
 -- ---- a loop along ls, from index i to index j in a turn
 
-abbrev part : ℕ → ℕ → List ℕ → List ℕ
-part i j ls = take (j - i) (drop i ls)
+pub due-some : (l left : ℕ) → 1 ≤ l → 1 ≤ due l left
+unfolding due
+due-some l zero h = h
+due-some l (suc n) h = omega arith
 
--- those of one base, of n numbers in all
-pub record Cut (l left i n j : ℕ) : Type 0 where
-  pub more : i < j
-  pub inside : j ≤ n
-  pub served : j - i ≤ due l left
-
-pub cut : (l left i n m : ℕ) → 1 ≤ l → i < n → m ≡ min (due l left) (n - i) → Cut l left i n (i + m)
-cut l left i n m h g e =
-    let s = some left in
-    let a = min-le-left (due l left) (n - i) in
-    let b = min-le-right (due l left) (n - i) in
-    let c : 1 ≤ min (due l left) (n - i) = le-min s (omega arith) in
-    let q : i + m - i ≡ m = omega arith in
-    record { more = omega arith; inside = omega arith; served = rw (q, e) a }
-  where
-    some : (left : ℕ) → 1 ≤ due l left
-    some zero = unfold due in h
-    some (suc n) = unfold due in omega arith
-
-module _ (w l : ℕ) (ls : List ℕ) (e₀ : Encoder) (e : Encoder) (i j : ℕ) (c : Cut l (e .left) i (length ls) j) where
+module _ (w l : ℕ) (ls : List ℕ) (e₀ : Encoder) (e : Encoder) (i j : ℕ) (c : Cut (due l (e .left)) i (length ls) j) where
   parted : drop i ls ≡ part i j ls ++ drop j ls
   parted =
       let z = c .more in
@@ -172,12 +156,11 @@ module _ (w l : ℕ) (ls : List ℕ) (e₀ : Encoder) (e : Encoder) (i j : ℕ) 
   one-base m =
       let a = along-parted m in
       let z = c .more in
-      let y = c .inside in
-      let n : length (part i j ls) ≡ j - i = length-take-le (j - i) (drop i ls) (omega (arith, length-drop i ls)) in
+      let n = length-part i j ls (c .inside) in
       record {
         along = record { sound = a .sound; rising = rising-front (passed e) 16777216 (part i j ls) (drop j ls) (a .rising) };
         some = rw n (omega arith);
-        served = rw n (c .served);
+        served = rw n (c .few);
       }
 
   pub measure-group : Keeps (coder w l) → Measuring (coder w l) ls e₀ e i → (r : Encoder) → r ≡ takenAllBy (coder w l) e (part i j ls)
@@ -246,7 +229,7 @@ module _ (w l : ℕ) (e : Encoder) (xs ys : List ℕ) where
         (put3-step d (e .first) x x2 (e .second) y y2 v [] [] (rw firsts-append at (r .first)) (le-refl v)) in
         o ∙ ap₂ (λ (f s : ℕ). put (put (putAllBy k d e xs) f x2) s y2) (sym (first-place k e xs)) (sym (second-place k e xs))
 
-module _ (w l : ℕ) (ls : List ℕ) (e₀ : Encoder) (d₀ : List ℕ) (e : Encoder) (d : List ℕ) (i j : ℕ) (c : Cut l (e .left) i (length ls) j)
+module _ (w l : ℕ) (ls : List ℕ) (e₀ : Encoder) (d₀ : List ℕ) (e : Encoder) (d : List ℕ) (i j : ℕ) (c : Cut (due l (e .left)) i (length ls) j)
     (m : Writing (coder w l) ls e₀ d₀ e d i) where
   room-parted : RoomAll (coder w l) e (part i j ls ++ drop j ls) (length d)
   room-parted = subst (λ (x : List ℕ). RoomAll (coder w l) e x (length d)) (parted w l ls e₀ e i j c) (m .room)
