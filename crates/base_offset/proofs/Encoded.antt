@@ -43,7 +43,7 @@ offset-suc e p k base h b = if-suc (e .left) k 0 (p - e .base) h ∙ ap (λ (x :
 module _ (w l : ℕ) where
   -- ---- the bytes
 
-  firsts-from : (e : Encoder) (k : ℕ) (ls : List ℕ) → e .left ≡ k → firstsBy (coder w l) e ls ≡ bytesOf 4 (basesFrom l k ls)
+  pub firsts-from : (e : Encoder) (k : ℕ) (ls : List ℕ) → e .left ≡ k → firstsBy (coder w l) e ls ≡ bytesOf 4 (basesFrom l k ls)
   unfolding firstsBy coder based takenBy basesFrom bytesOf
   firsts-from e k [] h = refl
   firsts-from e zero (p ∷ ls) h =
@@ -53,7 +53,7 @@ module _ (w l : ℕ) where
       ap₂ (λ (x y : List ℕ). x ++ y) (if-suc (e .left) k (bytes 4 p) [] h)
       (firsts-from (takenBy (coder w l) e p) k ls (left-suc l (e .left) k h))
 
-  seconds-from : (e : Encoder) (k base : ℕ) (ls : List ℕ) → e .left ≡ k → e .base ≡ base
+  pub seconds-from : (e : Encoder) (k base : ℕ) (ls : List ℕ) → e .left ≡ k → e .base ≡ base
       → secondsBy (coder w l) e ls ≡ bytesOf w (offsetsFrom l k base ls)
   unfolding secondsBy coder based takenBy offsetsFrom bytesOf
   seconds-from e k base [] h b = refl

@@ -9,11 +9,15 @@ pub mod Pieces
 pub mod OneGroup
 pub mod PartsRight
 pub mod Turn
+-- Turns of a loop.
+pub mod Cuts
 -- The cursor.
 pub mod Walk
+pub mod Batched
 -- The encoder.
 pub mod Encoded
 pub mod Adds
+pub mod Grouped
 -- The searches.
 pub mod TwoLevel
 pub mod Searched

@@ -1,10 +1,11 @@
 -- The cursor's step, as the code takes it. Assumes nothing.
-use Prim.Native.Nat.{ℕ, _+_, _*_}
-use mathlib.Core.List.{List}
+use Prim.Native.Nat.{ℕ, _+_, _*_, _^_, _≤_, _<_}
+use mathlib.Core.List.{List, [], _∷_}
+use lib.ListN.{length}
 use lib.Dec.{ltb}
 use Rattle.format.specs.declared.View.{View}
 use Rattle.format.specs.Tools.{pick}
-use Rattle.wire.specs.Wire.{whole}
+use Rattle.wire.specs.Wire.{whole, entrySize}
 use Rattle.parts.specs.declared.Cursor.{Cursor}
 use Rattle.parts.specs.Cursor.{add32, movedTo, entryOf}
 
@@ -29,3 +30,16 @@ offsetFrom b v p = movedTo (add32 (p .base) (entryOf b v (add32 (p .rank) 1))) p
 
 unfoldable pub next : List ℕ → View → Cursor → Cursor
 next b v c = offsetFrom b v (baseOf b v c)
+
+-- ---- many ranks at a time
+
+-- the offsets of the n ranks from the cursor's on, of 1 or 2 bytes, are all in the file
+pub record There (b : List ℕ) (v : View) (c : Cursor) (n : ℕ) : Type 0 where
+  pub size : 1 ≤ entrySize (v .width)
+  pub ranks : c .rank + n < 2 ^ 32
+  pub long : v .second + entrySize (v .width) * (c .rank + n) ≤ length b
+
+-- each of the numbers with the base added
+unfoldable pub sums : ℕ → List ℕ → List ℕ
+sums base [] = []
+sums base (x ∷ xs) = add32 base x ∷ sums base xs

@@ -1,115 +1,141 @@
-// Stored positions into the two parts: to measure, and to write.
+// Stored positions into the two parts, group by group: to measure, and to write.
 use parts::Encoder;
 use parts::Sizes;
-use parts::encode::left_after;
 use parts::encode::limit;
-use stores::put_entry;
+use stores::put_u8;
+use stores::put_u16;
 use stores::put_u32;
+use wire::numbers::lesser;
 ghost use mathlib.Core.Path.{_≡_};
 ghost use mathlib.Core.Bool.{true};
-ghost use Prim.Native.Nat.{_+_, _-_, _≤_, _^_};
+ghost use Prim.Native.Nat.{_+_, _-_, _*_, _≤_, _^_, min};
 ghost use lib.ListN.{length};
 ghost use lib.Dec.{leb};
 ghost use Rattle.format.specs.Tools.{both};
+ghost use Rattle.format.specs.Bytes.{bytesOf};
 ghost use Rattle.format.specs.BaseOffset.{basedKind};
+ghost use Rattle.laws.proofs.Stored.{Rising};
 ghost use Rattle.stores.specs.Put.{put};
-ghost use Rattle.parts.specs.Encoder.{takenBy, takenAllBy, endedBy};
-ghost use Rattle.parts.specs.Ready.{Sound, Next, Room, putBy};
+ghost use Rattle.parts.specs.Encoder.{takenAllBy, endedBy};
+ghost use Rattle.parts.specs.Ready.{Sound, Next};
 ghost use Rattle.parts.specs.Batch.{Along, RoomAll, putAllBy};
-ghost use Rattle.base_offset.specs.Coding.{offsetAt, coder};
+ghost use Rattle.base_offset.specs.Coding.{coder, due, opened, OneBase, offsetsOver};
 
-// p less its base.
-fn offset(e: Encoder, p: u32) -> u32
-    requires { ⌜ Next e p ⌝ }
-    ensures { λ r. ⌜ r ≡ offsetAt e p ⌝ }
+// How many of n positions go to one base: those that it still serves, or all of a new one's.
+fn served(step: u32, left: u32, n: usize) -> usize
+    ensures { λ r. ⌜ r ≡ min (due step left) n ⌝ }
 {
-    if e.left == 0 { 0 } else { p - e.base }
-}
-
-// Each offset so far fits, and that of p too.
-fn still_fits(width: u32, e: Encoder, p: u32) -> bool
-    requires { ⌜ Next e p × (1 ≤ width) × (width ≤ 2) ⌝ }
-    ensures { λ r. ⌜ r ≡ both (e .fits) (leb (offsetAt e p) (256 ^ width - 1)) ⌝ }
-{
-    if limit(width) < offset(e, p) {
-        false
+    if left == 0 {
+        lesser(step as usize, n)
     } else {
-        e.fits
+        lesser(left as usize, n)
     }
 }
 
-// The encoder after p.
-fn take_one(width: u32, step: u32, e: Encoder, p: u32) -> Encoder
-    requires { ⌜ Next e p × (1 ≤ width) × (width ≤ 2) × (1 ≤ step) ⌝ }
-    ensures { λ r. ⌜ r ≡ takenBy (coder width step) e p ⌝ }
+// The encoder with the base of p: its own, or p where none is left to serve it.
+fn with_base(step: u32, e: Encoder, p: u32) -> Encoder
+    requires { ⌜ Next e p ⌝ }
+    ensures { λ r. ⌜ r ≡ opened step e p ⌝ }
 {
-    let mut base = e.base;
-    let mut first = e.first;
-    if e.left == 0 {
-        base = p;
-        first = e.first + 4;
+    let mut at = e;
+    if at.left == 0 {
+        at.left = step;
+        at.base = p;
+        at.first += 4;
     }
-    Encoder {
-        rank: e.rank + 1,
-        last: p,
-        left: left_after(step, e.left),
-        base,
-        cells: e.cells,
-        empty: e.empty,
-        first,
-        second: e.second + width as usize,
-        fits: still_fits(width, e, p),
-    }
+    at
 }
 
-// The bytes that p adds; the encoder after it.
-fn put_one(dst: &mut [u8], width: u32, step: u32, e: Encoder, p: u32) -> Encoder
-    requires { ⌜ Next e p × Room (coder width step) e p (length (now dst)) × (1 ≤ width) × (width ≤ 2) × (1 ≤ step) ⌝ }
-    ensures { λ r. ⌜ (r ≡ takenBy (coder width step) e p) × (now (dst .exit) ≡ putBy (coder width step) (now (dst .entry)) e p) ⌝ }
+// Each offset so far fits, and one more.
+fn still_fits(width: u32, fits: bool, offset: u32) -> bool
+    requires { ⌜ (1 ≤ width) × (width ≤ 2) ⌝ }
+    ensures { λ r. ⌜ r ≡ both fits (leb offset (256 ^ width - 1)) ⌝ }
 {
-    if e.left == 0 {
-        put_u32(dst, e.first, p);
-    }
-    put_entry(dst, e.second, width, offset(e, p));
-    take_one(width, step, e, p)
+    fits & (offset <= limit(width))
 }
 
-fn take_each(width: u32, step: u32, e: Encoder, ps: &[u32]) -> Encoder
-    requires { ⌜ Along e (now ps) × (1 ≤ width) × (width ≤ 2) × (1 ≤ step) ⌝ }
+// The encoder after the positions of one base. They rise, so the last offset is the largest.
+fn take_group(width: u32, step: u32, e: Encoder, ps: &[u32]) -> Encoder
+    requires { ⌜ OneBase step e (now ps) × (1 ≤ width) × (width ≤ 2) × (1 ≤ step) ⌝ }
     ensures { λ r. ⌜ r ≡ takenAllBy (coder width step) e (now (ps .entry)) ⌝ }
 {
-    let mut at = e;
-    let mut i: usize = 0;
-    while i < ps.len() {
-        at = take_one(width, step, at, ps[i]);
-        i += 1;
+    let at = with_base(step, e, ps[0]);
+    let n = ps.len();
+    let last = ps[n - 1];
+    Encoder {
+        rank: at.rank + n as u32,
+        last,
+        left: at.left - n as u32,
+        base: at.base,
+        cells: at.cells,
+        empty: at.empty,
+        first: at.first,
+        second: at.second + width as usize * n,
+        fits: still_fits(width, at.fits, last - at.base),
     }
-    at
 }
 
-fn put_each(dst: &mut [u8], width: u32, step: u32, e: Encoder, ps: &[u32]) -> Encoder
-    requires { ⌜ Along e (now ps) × RoomAll (coder width step) e (now ps) (length (now dst)) × (1 ≤ width) × (width ≤ 2) × (1 ≤ step) ⌝ }
+// The offsets of positions from a base, a byte each.
+fn put_offsets_u8(dst: &mut [u8], at: usize, base: u32, ps: &[u32])
+    requires { ⌜ Rising base 16777216 (now ps) × (at + 1 * length (now ps) ≤ length (now dst)) ⌝ }
+    ensures { λ _. ⌜ now (dst .exit) ≡ put (now (dst .entry)) at (bytesOf 1 (offsetsOver base (now (ps .entry)))) ⌝ }
+{
+    let mut i: usize = 0;
+    while i < ps.len() {
+        put_u8(dst, at + i, ps[i] - base);
+        i += 1;
+    }
+}
+
+// The same, two bytes each.
+fn put_offsets_u16(dst: &mut [u8], at: usize, base: u32, ps: &[u32])
+    requires { ⌜ Rising base 16777216 (now ps) × (at + 2 * length (now ps) ≤ length (now dst)) ⌝ }
+    ensures { λ _. ⌜ now (dst .exit) ≡ put (now (dst .entry)) at (bytesOf 2 (offsetsOver base (now (ps .entry)))) ⌝ }
+{
+    let mut i: usize = 0;
+    while i < ps.len() {
+        put_u16(dst, at + 2 * i, ps[i] - base);
+        i += 1;
+    }
+}
+
+fn put_offsets(dst: &mut [u8], at: usize, width: u32, base: u32, ps: &[u32])
+    requires { ⌜ Rising base 16777216 (now ps) × (at + width * length (now ps) ≤ length (now dst)) × (1 ≤ width) × (width ≤ 2) ⌝ }
+    ensures { λ _. ⌜ now (dst .exit) ≡ put (now (dst .entry)) at (bytesOf width (offsetsOver base (now (ps .entry)))) ⌝ }
+{
+    if width == 1 {
+        put_offsets_u8(dst, at, base, ps);
+    } else {
+        put_offsets_u16(dst, at, base, ps);
+    }
+}
+
+// The bytes that the positions of one base add; the encoder after them.
+fn put_group(dst: &mut [u8], width: u32, step: u32, e: Encoder, ps: &[u32]) -> Encoder
+    requires { ⌜ OneBase step e (now ps) × RoomAll (coder width step) e (now ps) (length (now dst)) × (1 ≤ width) × (width ≤ 2) × (1 ≤ step) ⌝ }
     ensures { λ r. ⌜ (r ≡ takenAllBy (coder width step) e (now (ps .entry))) × (now (dst .exit) ≡ putAllBy (coder width step) (now (dst .entry)) e (now (ps .entry))) ⌝ }
 {
-    let mut at = e;
-    let mut i: usize = 0;
-    while i < ps.len() {
-        at = put_one(dst, width, step, at, ps[i]);
-        i += 1;
+    if e.left == 0 {
+        put_u32(dst, e.first, ps[0]);
     }
+    let at = take_group(width, step, e, ps);
+    put_offsets(dst, e.second, width, at.base, ps);
     at
 }
 
-// The encoder after the positions, with nothing put out: a loop for each width.
+// The encoder after the positions, with nothing put out.
 pub fn take_all(width: u32, step: u32, e: Encoder, ps: &[u32]) -> Encoder
     requires { ⌜ (basedKind width step .allowed ≡ true) × Along e (now ps) ⌝ }
     ensures { λ r. ⌜ r ≡ takenAllBy (coder width step) e (now (ps .entry)) ⌝ }
 {
-    if width == 1 {
-        take_each(1, step, e, ps)
-    } else {
-        take_each(2, step, e, ps)
+    let mut at = e;
+    let mut i: usize = 0;
+    while i < ps.len() {
+        let end = i + served(step, at.left, ps.len() - i);
+        at = take_group(width, step, at, &ps[i..end]);
+        i = end;
     }
+    at
 }
 
 // The bytes that the positions add; the encoder after them.
@@ -117,11 +143,14 @@ pub fn put_all(dst: &mut [u8], width: u32, step: u32, e: Encoder, ps: &[u32]) ->
     requires { ⌜ (basedKind width step .allowed ≡ true) × Along e (now ps) × RoomAll (coder width step) e (now ps) (length (now dst)) ⌝ }
     ensures { λ r. ⌜ (r ≡ takenAllBy (coder width step) e (now (ps .entry))) × (now (dst .exit) ≡ putAllBy (coder width step) (now (dst .entry)) e (now (ps .entry))) ⌝ }
 {
-    if width == 1 {
-        put_each(dst, 1, step, e, ps)
-    } else {
-        put_each(dst, 2, step, e, ps)
+    let mut at = e;
+    let mut i: usize = 0;
+    while i < ps.len() {
+        let end = i + served(step, at.left, ps.len() - i);
+        at = put_group(dst, width, step, at, &ps[i..end]);
+        i = end;
     }
+    at
 }
 
 // The end adds nothing.

@@ -3,11 +3,19 @@ use format::View;
 use parts::Cursor;
 use parts::walk::entry_of;
 use std::num::wrapping_add_u32;
+use wire::entry_size;
+use wire::get_u8;
+use wire::get_u16;
 use wire::load_u32;
+use wire::numbers::lesser;
 ghost use mathlib.Core.Path.{_≡_};
-ghost use lib.ListN.{length};
+ghost use mathlib.Core.Bool.{true};
+ghost use Prim.Native.Nat.{_+_, _-_, _*_, _≤_, min};
+ghost use lib.ListN.{length, drop};
+ghost use Rattle.format.specs.Bytes.{numbersOf};
+ghost use Rattle.wire.specs.Wire.{entrySize};
 ghost use Rattle.parts.specs.Cursor.{Batch};
-ghost use Rattle.base_offset.specs.Steps.{baseOf, offsetFrom, next};
+ghost use Rattle.base_offset.specs.Steps.{baseOf, offsetFrom, next, There, sums};
 
 // The base of the next rank: the same, or the next one.
 fn base_of(file: &[u8], v: View, mut c: Cursor) -> Cursor
@@ -39,10 +47,108 @@ pub fn next(file: &[u8], v: View, c: Cursor) -> Cursor
     offset_from(file, v, base_of(file, v, c))
 }
 
+// Whether the offsets of the n ranks from the cursor's on are all there.
+fn all_there(file: &[u8], v: View, c: Cursor, n: usize) -> bool
+    ensures { λ r. ⌜ (r ≡ true → There (now (file .entry)) v c n) ⌝ }
+{
+    if 65536 < n {
+        return false;
+    }
+    let end = c.rank as usize + n;
+    if 4294967295 < end {
+        return false;
+    }
+    let size = entry_size(v.width);
+    if size == 0 {
+        return false;
+    }
+    v.second as usize + size * end <= file.len()
+}
+
+// The sums of a base and the numbers of one byte from an index on.
+fn sums_u8(file: &[u8], at: usize, base: u32, out: &mut [u32])
+    requires { ⌜ at + 1 * length (now out) ≤ length (now file) ⌝ }
+    ensures { λ _. ⌜ now (out .exit) ≡ sums base (numbersOf 1 (length (now (out .entry))) (drop at (now (file .entry)))) ⌝ }
+{
+    let mut i: usize = 0;
+    while i < out.len() {
+        out[i] = wrapping_add_u32(base, get_u8(file, at + i));
+        i += 1;
+    }
+}
+
+// The same of two bytes.
+fn sums_u16(file: &[u8], at: usize, base: u32, out: &mut [u32])
+    requires { ⌜ at + 2 * length (now out) ≤ length (now file) ⌝ }
+    ensures { λ _. ⌜ now (out .exit) ≡ sums base (numbersOf 2 (length (now (out .entry))) (drop at (now (file .entry)))) ⌝ }
+{
+    let mut i: usize = 0;
+    while i < out.len() {
+        out[i] = wrapping_add_u32(base, get_u16(file, at + 2 * i));
+        i += 1;
+    }
+}
+
+// The sums of the cursor's base and the offsets of the ranks from the cursor's on.
+fn offsets(file: &[u8], v: View, c: Cursor, out: &mut [u32])
+    requires { ⌜ There (now file) v c (length (now out)) ⌝ }
+    ensures { λ _. ⌜ now (out .exit) ≡ sums (c .base) (numbersOf (entrySize (v .width)) (length (now (out .entry)))
+        (drop (v .second + entrySize (v .width) * c .rank) (now (file .entry)))) ⌝ }
+{
+    let second = v.second as usize;
+    let rank = c.rank as usize;
+    if v.width == 1 {
+        sums_u8(file, second + rank, c.base, out);
+    } else {
+        sums_u16(file, second + 2 * rank, c.base, out);
+    }
+}
+
+// How many of the next n ranks have the cursor's base, with the cursor's own.
+fn ranks_ahead(step: u32, used: u32, n: usize) -> usize
+    ensures { λ r. ⌜ r ≡ min (1 + (step - used)) n ⌝ }
+{
+    if used < step {
+        lesser(1 + (step - used) as usize, n)
+    } else {
+        lesser(1, n)
+    }
+}
+
+// The positions of the ranks from the cursor on, all of the cursor's base but for its own; the cursor after them.
+fn along(file: &[u8], v: View, mut c: Cursor, out: &mut [u32]) -> Cursor
+    requires { ⌜ There (now file) v c (length (now out)) × (1 ≤ length (now out)) × (length (now out) ≤ 1 + (v .step - c .used)) ⌝ }
+    ensures { λ r. ⌜ Batch (next (now (file .entry)) v) c (length (now (out .entry))) r (now (out .exit)) ⌝ }
+{
+    let more = (out.len() - 1) as u32;
+    offsets(file, v, c, out);
+    out[0] = c.at;
+    c.rank += more;
+    c.used += more;
+    next(file, v, c)
+}
+
+// The positions of the ranks from the cursor on, base by base, where their offsets are all there; the cursor after them.
+fn by_base(file: &[u8], v: View, mut c: Cursor, out: &mut [u32]) -> Cursor
+    requires { ⌜ There (now file) v c (length (now out)) ⌝ }
+    ensures { λ r. ⌜ Batch (next (now (file .entry)) v) c (length (now (out .entry))) r (now (out .exit)) ⌝ }
+{
+    let mut i: usize = 0;
+    while i < out.len() {
+        let end = i + ranks_ahead(v.step, c.used, out.len() - i);
+        c = along(file, v, c, &mut out[i..end]);
+        i = end;
+    }
+    c
+}
+
 // The positions of the ranks from the cursor on, as many as `out` has elements; the cursor after them.
 pub fn positions(file: &[u8], v: View, mut c: Cursor, out: &mut [u32]) -> Cursor
     ensures { λ r. ⌜ Batch (next (now (file .entry)) v) c (length (now (out .entry))) r (now (out .exit)) ⌝ }
 {
+    if all_there(file, v, c, out.len()) {
+        return by_base(file, v, c, out);
+    }
     let mut i: usize = 0;
     while i < out.len() {
         out[i] = c.at;

@@ -1,8 +1,8 @@
 use Prim.Native.Nat.{_-_, _≤_}
-use mathlib.Core.Path.{_≡_, refl, _∙_}
+use mathlib.Core.Path.{_≡_, refl, ap, _∙_}
 use native.Mathlib.Omega.{arith}
 use lib.ListN.{length, length-set}
-use Rattle.parts.proofs.Batches.{Partly, batch-start, batch-turn, batch-end}
+use Rattle.parts.proofs.Batches.{Partly, batch-start, batch-turn, batch-end, length-walked-as}
 use Rattle.base_offset.specs.Steps.{next}
 use borrow.Author.Needs.{needs}
 use Rattle.base_offset.proofs.steps.positions.Statement.{statement}
@@ -24,10 +24,10 @@ loop-again c =
     (omega arith, length-set (l .out) (l .i) (l .c .at) ∙ l .inv .1, batch-turn _ _ _ (l .c) _ (l .out) (l .i) h (l .inv .1) (c .next .ensures) (l .inv .2))
 
 same-length : tie.Need-same-length Inv-loop μ-loop
-same-length c = c .before .loop .inv .1
+same-length c = ap length (c .before .before .by-base .ensures .positions) ∙ length-walked-as _ _ _
 
-returns : tie.Need-returns Inv-loop μ-loop
-returns c =
+returns-2 : tie.Need-returns-2 Inv-loop μ-loop
+returns-2 c =
     let l = c .before .loop in
     batch-end _ _ _ (l .c) (l .out) (l .i) (c .loop-test .left) (l .inv .1) (l .inv .2)
 
@@ -37,6 +37,10 @@ positions-spec =
     (tie.spec
     Inv-loop
     μ-loop
+    (λ c κs. search needs)
+    (λ c κs. c .before .before .all-there .ensures (c .before .if1 .taken))
+    same-length
+    (λ c. c .before .before .by-base .ensures)
     loop-holds
     (λ c. search needs)
     (λ c. search needs)
@@ -44,5 +48,5 @@ positions-spec =
     (λ c. search needs)
     (λ c. search needs)
     loop-again
-    same-length
-    returns)
+    (λ c. c .before .loop .inv .1)
+    returns-2)
