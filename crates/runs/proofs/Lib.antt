@@ -2,7 +2,7 @@
 pub mod Pairs
 pub mod Accepts
 pub mod Body
-pub mod Halves
+pub mod Before
 pub mod Lookup
 pub mod Walk
 pub mod Adds
