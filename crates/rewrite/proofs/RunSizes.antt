@@ -18,8 +18,9 @@ use Rattle.parts.proofs.Seen.{seen}
 use Rattle.kinds.specs.declared.Measured.{Measured}
 use Rattle.kinds.specs.Steps.{storesRuns}
 use Rattle.kinds.specs.Coding.{coder, sizedByRanks, countedBy}
-use Rattle.kinds.proofs.Counts.{ByCount, by-ranks, by-runs, follows}
+use Rattle.kinds.proofs.Counts.{ByCount, by-ranks, by-runs}
 use Rattle.layout.specs.Laid.{Measures}
+use Rattle.layout.proofs.Measuring.{counts-measure}
 use Rattle.rewrite.specs.declared.Edit.{Edit}
 use Rattle.rewrite.specs.Edit.{edited, EditOf}
 use Rattle.rewrite.proofs.Three.{ranks-there, edit-rising, cells-most, edit-below}
@@ -52,9 +53,7 @@ module _ (b : List ℕ) (v : View) (o : ViewOf b v) (x : Edit) (d : EditOf b x) 
 
   module _ (s : Setting) (a : settingAllowed s ≡ true) (m : ℕ) (r : Measured) (f : r .fits ≡ true) (z : r .sizes ≡ coder s .sizes (countedBy (s .kind) n m)) where
     measures : ByCount s (edited x (positionsOf b)) n m → Measures s (v .cells) (edited x (positionsOf b)) r
-    measures h =
-        let t = follows (v .cells) (edited x (positionsOf b)) (cells-most b v o x d) (edit-rising b v o x d) n m s h in
-        record { fits = f ∙ rw (t .fits); sizes = λ e. z ∙ t .sizes }
+    measures h = counts-measure s a (v .cells) (edited x (positionsOf b)) (cells-most b v o x d) (edit-rising b v o x d) n m r f z h
 
     pub ranks-measure : sizedByRanks (s .kind) → Measures s (v .cells) (edited x (positionsOf b)) r
     ranks-measure k = measures (by-ranks s (edited x (positionsOf b)) n m a ranks k)

@@ -6,11 +6,10 @@ use format::Rank;
 use format::Setting;
 use format::View;
 use kinds::Measured;
-use kinds::coding::counted;
 use kinds::coding::sized_by_ranks;
-use kinds::coding::sizes;
 use kinds::steps::run_count;
 use kinds::steps::stores_runs;
+use layout::by_counts;
 use search::stored_position;
 ghost use mathlib.Core.Path.{_≡_};
 ghost use mathlib.Core.Bool.{true};
@@ -23,7 +22,6 @@ ghost use Rattle.format.specs.Accepted.{positionsOf};
 ghost use Rattle.parts.specs.Holds.{ViewOf};
 ghost use Rattle.format.specs.Kinds.{settingAllowed};
 ghost use Rattle.kinds.specs.Steps.{storesRuns};
-ghost use Rattle.kinds.specs.Coding.{coder, countedBy};
 ghost use Rattle.layout.specs.Laid.{Measures};
 ghost use Rattle.rewrite.specs.Edit.{edited, leftOut, EditOf};
 ghost use Rattle.rewrite.specs.RunCount.{begins, firstBegins, endAfter, joint};
@@ -107,17 +105,6 @@ fn ranks_after(v: View, x: Edit) -> u32
     ensures { λ r. ⌜ (r ≡ x .before + (v .words - x .after) + pick (x .put) 1 0) × (r ≤ 16777217) ⌝ }
 {
     x.before + (v.words - x.after) + one_if(x.put)
-}
-
-// What a file of so many ranks and runs measures, in a kind whose sizes follow from these.
-fn by_counts(s: Setting, ranks: u32, runs: u32) -> Measured
-    requires { ⌜ (settingAllowed s ≡ true) × (ranks ≤ 16777216) × (runs ≤ 16777216) ⌝ }
-    ensures { λ r. ⌜ (r .fits ≡ true) × (r .sizes ≡ coder s .sizes (countedBy (s .kind) ranks runs)) ⌝ }
-{
-    Measured {
-        fits: true,
-        sizes: sizes(s, counted(s.kind, ranks, runs)),
-    }
 }
 
 // What the edited positions measure: along them where it does not follow from less.

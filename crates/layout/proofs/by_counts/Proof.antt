@@ -3,8 +3,8 @@ use Rattle.parts.specs.declared.Encoder.{Encoder}
 use Rattle.kinds.specs.Coding.{coder}
 use Rattle.kinds.proofs.Counts.{counted-small}
 use borrow.Author.Needs.{needs}
-use Rattle.rewrite.proofs.counted.by_counts.Statement.{statement}
-use Rattle.rewrite.proofs.counted.by_counts.Tie as tie
+use Rattle.layout.proofs.by_counts.Statement.{statement}
+use Rattle.layout.proofs.by_counts.Tie as tie
 
 sizes-requires : tie.Need-sizes-requires
 sizes-requires c κs =
