@@ -6,4 +6,5 @@ pub mod Before
 pub mod Lookup
 pub mod Walk
 pub mod Adds
+pub mod Further
 pub mod Laws

@@ -1,5 +1,5 @@
 -- The encoder of kind 1: the pair of a run goes out where the run ends. Assumes nothing.
-use Prim.Native.Nat.{ℕ, _+_, _-_, _/_}
+use Prim.Native.Nat.{ℕ, _+_, _-_, _*_, _/_}
 use mathlib.Core.List.{List, []}
 use Rattle.format.specs.Tools.{pick}
 use Rattle.stores.specs.Put.{pair}
@@ -22,6 +22,21 @@ runsCoder =
       derived = λ z start d. d;
     }
 
--- the same at each width and step
+-- the encoder after n more positions, of which l is the last, where c runs end
+unfoldable pub further : Encoder → ℕ → ℕ → ℕ → Encoder
+further e n l c =
+    record {
+      rank = e .rank + n;
+      last = l;
+      left = e .left;
+      base = e .base;
+      cells = e .cells;
+      empty = e .empty;
+      first = e .first + 8 * c;
+      second = e .second;
+      fits = e .fits;
+    }
+
+-- the coder is the same at each width and step
 abbrev pub coder : ℕ → ℕ → Coder
 coder w l = runsCoder

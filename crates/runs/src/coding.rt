@@ -4,6 +4,7 @@ use parts::Sizes;
 use parts::encode::grow;
 use parts::encode::move_on;
 use parts::encode::run_ends;
+use parts::far::count_far;
 use stores::put_pair;
 ghost use mathlib.Core.Path.{_≡_};
 ghost use mathlib.Core.Bool.{true};
@@ -15,7 +16,7 @@ ghost use Rattle.stores.specs.Put.{put};
 ghost use Rattle.parts.specs.Encoder.{takenBy, takenAllBy, endedBy};
 ghost use Rattle.parts.specs.Ready.{passed, Sound, Next, Room, putBy};
 ghost use Rattle.parts.specs.Batch.{Along, RoomAll, putAllBy};
-ghost use Rattle.runs.specs.Coding.{runsCoder, coder};
+ghost use Rattle.runs.specs.Coding.{runsCoder, further, coder};
 
 // ---- one position
 
@@ -44,18 +45,28 @@ fn put_one(dst: &mut [u8], e: Encoder, p: u32) -> Encoder
 
 // ---- many positions
 
+// The encoder after n more positions, of which `last` is the last, where so many runs end.
+fn further(mut e: Encoder, n: u32, last: u32, ends: usize) -> Encoder
+    requires { ⌜ (e .rank + n ≤ 16777216) × (e .first ≤ 8589934592) × (ends ≤ 16777216) ⌝ }
+    ensures { λ r. ⌜ r ≡ further e n last ends ⌝ }
+{
+    e.rank += n;
+    e.last = last;
+    e.first += 8 * ends;
+    e
+}
+
 // The encoder after the positions, with nothing put out.
 pub fn take_all(width: u32, step: u32, e: Encoder, ps: &[u32]) -> Encoder
     requires { ⌜ (runsKind width step .allowed ≡ true) × Along e (now ps) ⌝ }
     ensures { λ r. ⌜ r ≡ takenAllBy (coder width step) e (now (ps .entry)) ⌝ }
 {
-    let mut at = e;
-    let mut i: usize = 0;
-    while i < ps.len() {
-        at = take_one(at, ps[i]);
-        i += 1;
+    let n = ps.len();
+    if n == 0 {
+        return e;
     }
-    at
+    let ends = count_far(ps, 1);
+    further(take_one(e, ps[0]), (n - 1) as u32, ps[n - 1], ends as usize)
 }
 
 // The bytes that the positions add; the encoder after them.
