@@ -62,14 +62,14 @@ all-further B e (q ∷ ls) some r =
     ∙ all-further B (further e 1 q f) ls (omega arith) (r .2)
     ∙ further-more e q f (length ls) (getD (q ∷ ls) (length ls) 0) (farAfter 1 q ls)
 
--- by the first position, the last and the number of run ends
-pub taken-far : (e : Encoder) (ls : List ℕ) → (length ls ≡ 0 → ⊥) → Along e ls
-    → further (takenBy runsCoder e (getD ls 0 0)) (length ls - 1) (getD ls (length ls - 1) 0) (far 1 ls) ≡ takenAllBy runsCoder e ls
+-- by the encoder after the first position, the last position and the number of run ends
+pub taken-far : (e : Encoder) (ls : List ℕ) → (length ls ≡ 0 → ⊥) → Along e ls → (x : Encoder) → x ≡ takenBy runsCoder e (getD ls 0 0) → (c : ℕ) → c ≡ far 1 ls
+    → further x (length ls - 1) (getD ls (length ls - 1) 0) c ≡ takenAllBy runsCoder e ls
 unfolding takenAllBy takenBy far
-taken-far e [] h a = absurd (h refl)
-taken-far e (p ∷ ls) h a =
+taken-far e [] h a x q c f = absurd (h refl)
+taken-far e (p ∷ ls) h a x q c f =
     let n : suc (length ls) - 1 ≡ length ls = omega arith in
-    rw n (sym (all-further 16777216 (takenBy runsCoder e p) ls (omega arith) (a .rising .2)))
+    rw (n, q, f) (sym (all-further 16777216 (takenBy runsCoder e p) ls (omega arith) (a .rising .2)))
 
 -- no number wraps
 pub further-fits : (e : Encoder) (ls : List ℕ) → (length ls ≡ 0 → ⊥) → Along e ls → (x : Encoder) → x ≡ takenBy runsCoder e (getD ls 0 0)

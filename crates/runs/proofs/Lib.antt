@@ -7,4 +7,5 @@ pub mod Lookup
 pub mod Walk
 pub mod Adds
 pub mod Further
+pub mod Ends
 pub mod Laws

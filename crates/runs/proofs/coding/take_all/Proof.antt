@@ -1,13 +1,10 @@
 -- `runs::coding::take_all` meets its contract. Assumes nothing.
-use Prim.Native.Nat.{ℕ, _-_}
-use mathlib.Core.Path.{ap₂, _∙_}
+use mathlib.Core.Path.{_∙_}
 use native.Mathlib.Omega.{arith}
-use lib.ListN.{length, getD}
 use Rattle.laws.proofs.Stored.{rising-weaken, rising-length}
-use Rattle.parts.specs.declared.Encoder.{Encoder}
 use Rattle.parts.specs.Ready.{passed}
 use Rattle.parts.proofs.Taken.{measure-begin, measure-next, measure-end}
-use Rattle.runs.specs.Coding.{runsCoder, further}
+use Rattle.runs.specs.Coding.{runsCoder}
 use Rattle.runs.proofs.Further.{taken-far, further-fits}
 use borrow.Author.Needs.{needs}
 use Rattle.runs.proofs.coding.take_all.Statement.{statement}
@@ -47,11 +44,9 @@ further-requires c κs =
 returns-2 : tie.Need-returns-2
 returns-2 c =
     let s = c .before .before .before .before .before .before .before in
-    let ls = s .args .ps .now in
     c .further .ensures
-    ∙ ap₂ (λ (x : Encoder) (n : ℕ). further x (length ls - 1) (getD ls (length ls - 1) 0) n) (c .before .before .take-one .ensures)
+    ∙ taken-far (s .args .e) (s .args .ps .now) (c .before .before .before .before .before .if1 .left) (s .pre .1) _ (c .before .before .take-one .ensures) _
     (c .before .before .before .before .count-far .ensures .0)
-    ∙ taken-far (s .args .e) ls (c .before .before .before .before .before .if1 .left) (s .pre .1)
 
 pub take-all-spec : {M : Type 1} → statement M
 take-all-spec =
