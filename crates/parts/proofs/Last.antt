@@ -137,6 +137,26 @@ left-one e n x low size l h =
     let s = l .some in
     record { within = λ z. omega arith; low = l .below; high = λ a k i j. l .above a k (omega arith) j }
 
+-- a turn goes on in an eighth, and the last counts what is left
+module _ (e : ℕ → ℕ) (n x low size : ℕ) (l : Left e n x low size) (c : ℕ) where
+  pub left-eighth : 8 ≤ size → c ≡ passing (λ i. leb (e (low + size / 8 * i)) x) 7 → c ≤ 7 → Left e n x (low + size / 8 * c) (size - 7 * (size / 8))
+  left-eighth h f g =
+      let z : size / 8 * 7 ≡ 7 * (size / 8) = omega arith in
+      rw z at (left-part e n x low size (size / 8) 7 l (omega arith) (omega arith) c f g)
+
+  pub left-rest : c ≡ passing (λ i. leb (e (low + 1 * i)) x) (size - 1) → c ≤ size - 1 → LastAtMost e n x (low + c)
+  left-rest f g =
+      let s = l .some in
+      let z : low + 1 * c ≡ low + c = omega arith in
+      rw z at (left-one e n x (low + 1 * c) (size - 1 * (size - 1)) (left-part e n x low size 1 (size - 1) l (omega arith) (omega arith) c f g) (omega arith))
+
+-- numbers of which each is below the next
+pub ascending-by : (e : ℕ → ℕ) (n : ℕ) → ((i : ℕ) → suc i < n → e i < e (suc i)) → Ascending e n
+ascending-by e n h i zero k g = absurd (omega arith)
+ascending-by e n h i (suc j) k g =
+    let b = h j g in
+    ⊎-elim (λ q. rw q b) (λ q. let a = ascending-by e n h i j q (omega arith) in omega arith) (eq-or-lt-of-le {n = i} {m = j} (omega arith))
+
 -- of the same numbers
 pub last-as : (e t : ℕ → ℕ) (n x r : ℕ) → ((i : ℕ) → e i ≡ t i) → LastAtMost e n x r → LastAtMost t n x r
 last-as e t n x r s l =
@@ -146,11 +166,10 @@ last-as e t n x r s l =
 -- all of n numbers counted but the first
 pub last-counted : (e t : ℕ → ℕ) (n x c : ℕ) → 0 < n → ((i : ℕ) → t i ≡ e i) → c ≡ passing (λ i. leb (t i) x) (n - 1) → c ≤ n - 1 → LastAtMost e n x c
 last-counted e t n x c h s f g =
-    let z : 0 + 1 * c ≡ c = omega arith in
     let p : passing (λ i. leb (t i) x) (n - 1) ≡ passing (λ i. leb (e (0 + 1 * i)) x) (n - 1)
     = passing-as _ _ (n - 1) (λ i. let y : 0 + 1 * i ≡ i = omega arith in rw (y, s i)) in
-    rw z at
-    (left-one e n x (0 + 1 * c) (n - 1 * (n - 1)) (left-part e n x 0 n 1 (n - 1) (left-all e n x h) (omega arith) (omega arith) c (f ∙ p) g) (omega arith))
+    let z : 0 + c ≡ c = omega arith in
+    rw z at (left-rest e n x 0 n (left-all e n x h) c (f ∙ p) g)
 
 -- ---- among numbers of 4 bytes
 
@@ -184,14 +203,10 @@ stride-as b at low part x n =
 module _ (b : List ℕ) (at n x low size : ℕ) (l : Left (numbers b at) n x low size) (c : ℕ) where
   pub eighth : 8 ≤ size → c ≡ passing (λ i. leb (whole 4 (at + 4 * low + 4 * (size / 8) * i) b) x) 7 → c ≤ 7
       → Left (numbers b at) n x (low + size / 8 * c) (size - 7 * (size / 8))
-  eighth h e g =
-      let z : size / 8 * 7 ≡ 7 * (size / 8) = omega arith in
-      rw z at (left-part (numbers b at) n x low size (size / 8) 7 l (omega arith) (omega arith) c (e ∙ stride-as b at low (size / 8) x 7) g)
+  eighth h e g = left-eighth (numbers b at) n x low size l c h (e ∙ stride-as b at low (size / 8) x 7) g
 
   pub last-part : c ≡ passing (λ i. leb (whole 4 (at + 4 * low + 4 * i) b) x) (size - 1) → c ≤ size - 1 → LastAtMost (numbers b at) n x (low + c)
   last-part e g =
-      let s = l .some in
-      let z : low + 1 * c ≡ low + c = omega arith in
       let f : passing (λ i. leb (whole 4 (at + 4 * low + 4 * i) b) x) (size - 1) ≡ passing (λ i. leb (numbers b at (low + 1 * i)) x) (size - 1)
       = passing-as _ _ (size - 1) (λ i. let y : at + 4 * low + 4 * i ≡ at + 4 * (low + 1 * i) = omega arith in rw y) in
-      rw z at (left-one (numbers b at) n x (low + 1 * c) (size - 1 * (size - 1)) (left-part (numbers b at) n x low size 1 (size - 1) l (omega arith) (omega arith) c (e ∙ f) g) (omega arith))
+      left-rest (numbers b at) n x low size l c (e ∙ f) g

@@ -1,11 +1,12 @@
 -- For the encoder's code: what a position adds by the test that the code makes, and the encoder after it. Assumes nothing.
-use Prim.Native.Nat.{ℕ, _+_, _-_}
+use Prim.Native.Nat.{ℕ, suc, _+_, _-_}
 use mathlib.Core.Path.{_≡_, refl, ap, _∙_}
 use mathlib.Core.Bool.{true, false}
 use mathlib.Core.List.{List, []}
 use native.Mathlib.Nat.{add-zero}
 use native.Mathlib.Omega.{arith}
 use lib.ListN.{length}
+use Rattle.stores.specs.Put.{pair}
 use Rattle.stores.proofs.Laws.{length-pair}
 use Rattle.parts.specs.declared.Encoder.{Encoder}
 use Rattle.parts.specs.Encoder.{unchanged, runEnds, takenBy}
@@ -18,6 +19,11 @@ use Rattle.runs.specs.Coding.{runPair, runsCoder}
 pub length-run : (e : Encoder) → length (runPair e) ≡ 8
 unfolding runPair
 length-run e = length-pair (e .last) (e .last + 1 - e .rank)
+
+-- by the rank of the last position
+pub run-pair : (e : Encoder) (r : ℕ) → e .rank ≡ suc r → runPair e ≡ pair (e .last) (e .last - r)
+unfolding runPair
+run-pair e r h = let n : e .last + 1 - e .rank ≡ e .last - r = omega arith in ap (pair (e .last)) n
 
 module _ (e : Encoder) (p : ℕ) where
   -- a run ends before p

@@ -19,11 +19,7 @@ use Rattle.parts.specs.Codes.{Codes, sizesIn}
 use Rattle.parts.proofs.Outright.{outright}
 use Rattle.parts.proofs.Taking.{if-suc, run-ends, no-seconds, same-fit, rank-all, first-all, second-all}
 use Rattle.runs.specs.Coding.{runPair, runsCoder, coder}
-use Rattle.runs.proofs.Adds.{keeps}
-
-run-pair : (e : Encoder) (r : ℕ) → e .rank ≡ suc r → runPair e ≡ pair (e .last) (e .last - r)
-unfolding runPair
-run-pair e r h = let n : e .last + 1 - e .rank ≡ e .last - r = omega arith in ap (pair (e .last)) n
+use Rattle.runs.proofs.Adds.{run-pair, keeps}
 
 -- a run's pair where it ends
 flat-unless : (t : Bool) (x : Run) (xs : List Run)

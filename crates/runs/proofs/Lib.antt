@@ -2,8 +2,10 @@
 pub mod Pairs
 pub mod Accepts
 pub mod Body
-pub mod Halves
+pub mod Before
 pub mod Lookup
 pub mod Walk
 pub mod Adds
+pub mod Further
+pub mod Ends
 pub mod Laws

@@ -1,3 +1,3 @@
-pub mod Edge
+pub mod Before
 pub mod Steps
 pub mod Coding

@@ -4,18 +4,24 @@ use parts::Sizes;
 use parts::encode::grow;
 use parts::encode::move_on;
 use parts::encode::run_ends;
+use parts::far::count_far;
+use parts::far::list_ends;
 use stores::put_pair;
 ghost use mathlib.Core.Path.{_≡_};
 ghost use mathlib.Core.Bool.{true};
-ghost use Prim.Native.Nat.{_+_, _≤_};
+ghost use Prim.Native.Nat.{_+_, _*_, _≤_};
 ghost use lib.ListN.{length};
-ghost use Rattle.format.specs.Tools.{range};
+ghost use Rattle.format.specs.Tools.{Below, range};
 ghost use Rattle.format.specs.Runs.{runsKind};
+ghost use Rattle.laws.proofs.Stored.{Rising};
 ghost use Rattle.stores.specs.Put.{put};
 ghost use Rattle.parts.specs.Encoder.{takenBy, takenAllBy, endedBy};
 ghost use Rattle.parts.specs.Ready.{passed, Sound, Next, Room, putBy};
 ghost use Rattle.parts.specs.Batch.{Along, RoomAll, putAllBy};
-ghost use Rattle.runs.specs.Coding.{runsCoder, coder};
+ghost use Rattle.runs.specs.Coding.{runsCoder, further, endPairs, coder};
+
+// The most positions whose run ends are listed at a time: a caller's largest batch.
+const BATCH: usize = 1024;
 
 // ---- one position
 
@@ -44,25 +50,48 @@ fn put_one(dst: &mut [u8], e: Encoder, p: u32) -> Encoder
 
 // ---- many positions
 
+// The encoder after n more positions, of which `last` is the last, where so many runs end.
+fn further(mut e: Encoder, n: u32, last: u32, ends: usize) -> Encoder
+    requires { ⌜ (e .rank + n ≤ 16777216) × (e .first ≤ 8589934592) × (ends ≤ 16777216) ⌝ }
+    ensures { λ r. ⌜ r ≡ further e n last ends ⌝ }
+{
+    e.rank += n;
+    e.last = last;
+    e.first += 8 * ends;
+    e
+}
+
 // The encoder after the positions, with nothing put out.
 pub fn take_all(width: u32, step: u32, e: Encoder, ps: &[u32]) -> Encoder
     requires { ⌜ (runsKind width step .allowed ≡ true) × Along e (now ps) ⌝ }
     ensures { λ r. ⌜ r ≡ takenAllBy (coder width step) e (now (ps .entry)) ⌝ }
 {
-    let mut at = e;
-    let mut i: usize = 0;
-    while i < ps.len() {
-        at = take_one(at, ps[i]);
-        i += 1;
+    let n = ps.len();
+    if n == 0 {
+        return e;
     }
-    at
+    let ends = count_far(ps, 1);
+    further(take_one(e, ps[0]), (n - 1) as u32, ps[n - 1], ends as usize)
 }
 
-// The bytes that the positions add; the encoder after them.
-pub fn put_all(dst: &mut [u8], width: u32, step: u32, e: Encoder, ps: &[u32]) -> Encoder
-    requires { ⌜ (runsKind width step .allowed ≡ true) × Along e (now ps) × RoomAll (coder width step) e (now ps) (length (now dst)) ⌝ }
-    ensures { λ r. ⌜ (r ≡ takenAllBy (coder width step) e (now (ps .entry)))
-        × (now (dst .exit) ≡ putAllBy (coder width step) (now (dst .entry)) e (now (ps .entry))) ⌝ }
+// The pairs of the runs that end at the indices `ends` of ps, of which the first has the rank `rank`, one after the other from `at` on.
+fn put_ends<'a>(dst: &mut [u8], at: usize, rank: u32, ps: &'a [u32], ends: &'a [u32])
+    requires { ⌜ (1 ≤ length (now ps)) × Rising rank 16777216 (now ps) × Below (length (now ps)) (now ends) × (at + 8 * length (now ends) ≤ length (now dst)) ⌝ }
+    ensures { λ _. ⌜ now (dst .exit) ≡ put (now (dst .entry)) at (endPairs rank (now (ps .entry)) (now (ends .entry))) ⌝ }
+{
+    let mut t: usize = 0;
+    while t < ends.len() {
+        let end = ends[t];
+        let last = ps[end as usize];
+        put_pair(dst, at + 8 * t, last, last - (rank + end));
+        t += 1;
+    }
+}
+
+// The bytes that the positions add, one position at a time; the encoder after them.
+fn put_each(dst: &mut [u8], e: Encoder, ps: &[u32]) -> Encoder
+    requires { ⌜ Along e (now ps) × RoomAll runsCoder e (now ps) (length (now dst)) ⌝ }
+    ensures { λ r. ⌜ (r ≡ takenAllBy runsCoder e (now (ps .entry))) × (now (dst .exit) ≡ putAllBy runsCoder (now (dst .entry)) e (now (ps .entry))) ⌝ }
 {
     let mut at = e;
     let mut i: usize = 0;
@@ -71,6 +100,34 @@ pub fn put_all(dst: &mut [u8], width: u32, step: u32, e: Encoder, ps: &[u32]) ->
         i += 1;
     }
     at
+}
+
+// The bytes that the positions of a batch add, whose run ends are listed without a branch; the encoder after them.
+fn put_batch(dst: &mut [u8], e: Encoder, ps: &[u32]) -> Encoder
+    requires { ⌜ (1 ≤ length (now ps)) × (length (now ps) ≤ 1024) × Along e (now ps) × RoomAll runsCoder e (now ps) (length (now dst)) ⌝ }
+    ensures { λ r. ⌜ (r ≡ takenAllBy runsCoder e (now (ps .entry))) × (now (dst .exit) ≡ putAllBy runsCoder (now (dst .entry)) e (now (ps .entry))) ⌝ }
+{
+    let n = ps.len();
+    let mut ends = [0u32; BATCH];
+    let k = list_ends(ps, &mut ends);
+    let at = put_one(dst, e, ps[0]);
+    put_ends(dst, at.first, e.rank, ps, &ends[..k]);
+    further(at, (n - 1) as u32, ps[n - 1], k)
+}
+
+// The bytes that the positions add; the encoder after them.
+pub fn put_all(dst: &mut [u8], width: u32, step: u32, e: Encoder, ps: &[u32]) -> Encoder
+    requires { ⌜ (runsKind width step .allowed ≡ true) × Along e (now ps) × RoomAll (coder width step) e (now ps) (length (now dst)) ⌝ }
+    ensures { λ r. ⌜ (r ≡ takenAllBy (coder width step) e (now (ps .entry)))
+        × (now (dst .exit) ≡ putAllBy (coder width step) (now (dst .entry)) e (now (ps .entry))) ⌝ }
+{
+    if ps.len() == 0 {
+        return e;
+    }
+    if BATCH < ps.len() {
+        return put_each(dst, e, ps);
+    }
+    put_batch(dst, e, ps)
 }
 
 // The bytes that n consecutive positions from p on add; the encoder after them.

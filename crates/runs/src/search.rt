@@ -1,16 +1,22 @@
-// The searches of kind 1, by halves over the pairs. Any bytes and any view are safe.
+// The searches of kind 1, in eighths of the runs: which of them it goes on in is counted, and not branched on. Any bytes and any view are safe.
 use format::Position;
 use format::Rank;
 use format::View;
 use parts::Found;
 use wire::Pair;
+use wire::get_pair;
+use wire::get_u32;
 use wire::load_pair;
 ghost use mathlib.Core.Path.{_≡_};
-ghost use Prim.Native.Nat.{_+_, _*_, _<_};
+ghost use Prim.Native.Nat.{suc, _+_, _-_, _*_, _≤_, _<_};
+ghost use lib.ListN.{length};
+ghost use lib.Dec.{leb};
+ghost use Rattle.format.specs.Tools.{pick};
 ghost use Rattle.format.specs.Runs.{runsKind};
 ghost use Rattle.wire.specs.Wire.{pairAt};
 ghost use Rattle.parts.specs.Found.{FoundIn, PositionIn};
-ghost use Rattle.runs.specs.Edge.{ranksBefore, reaches, holds, Edge};
+ghost use Rattle.parts.specs.Last.{passing};
+ghost use Rattle.runs.specs.Before.{cellsBefore, ranksBefore, LastRun};
 
 // Run j: L_j and V_j.
 fn run(file: &[u8], start: u32, j: u32) -> Pair
@@ -35,39 +41,88 @@ fn ranks_before(file: &[u8], start: u32, j: u32) -> u64
     end - empty
 }
 
-// The first of n runs that ends at position p or later.
-fn run_at(file: &[u8], start: u32, n: u32, p: u32) -> u32
-    ensures { λ r. ⌜ Edge (reaches (now (file .entry)) start p) n r ⌝ }
+// 1 for a run that ends before position p.
+fn ends_before(last: u32, p: u32) -> usize
+    ensures { λ r. ⌜ (r ≡ pick (leb (suc last) p) 1 0) × (r ≤ 1) ⌝ }
 {
-    let mut low = 0;
-    let mut high = n;
-    while low < high {
-        let mid = low + (high - low) / 2;
-        if p <= run(file, start, mid).first {
-            high = mid;
-        } else {
-            low = mid + 1;
-        }
-    }
-    low
+    if last < p { 1 } else { 0 }
 }
 
-// The first of n runs with rank r or a later one.
-fn run_with(file: &[u8], start: u32, n: u32, r: u32) -> u32
-    ensures { λ j. ⌜ Edge (holds (now (file .entry)) start r) n j ⌝ }
+// 1 for a run whose ranks are all below r.
+fn ranks_below(x: Pair, r: u32) -> usize
+    ensures { λ c. ⌜ (c ≡ pick (leb (suc (x .first) - x .second) r) 1 0) × (c ≤ 1) ⌝ }
 {
-    let mut low = 0;
-    let mut high = n;
-    while low < high {
-        let mid = low + (high - low) / 2;
-        let x = run(file, start, mid);
-        if r as u64 + x.second as u64 <= x.first as u64 {
-            high = mid;
-        } else {
-            low = mid + 1;
-        }
+    if (x.first as u64) < r as u64 + x.second as u64 {
+        1
+    } else {
+        0
     }
-    low
+}
+
+// Of n parts of `part` runs each, from run `low` on, so many end before position p.
+fn parts_ended(file: &[u8], start: usize, low: usize, part: usize, n: usize, p: u32) -> usize
+    requires { ⌜ (1 ≤ part) × (start + 8 * (low + part * n) ≤ length (now file)) ⌝ }
+    ensures { λ r. ⌜ (r ≡ passing (λ i. leb (cellsBefore (now (file .entry)) start (low + part * i)) p) n) × (r ≤ n) ⌝ }
+{
+    let mut count: usize = 0;
+    let mut i: usize = 0;
+    while i < n {
+        i += 1;
+        count += ends_before(get_u32(file, start + 8 * (low + part * i - 1)), p);
+    }
+    count
+}
+
+// So many have ranks below r only.
+fn parts_below(file: &[u8], start: usize, low: usize, part: usize, n: usize, r: u32) -> usize
+    requires { ⌜ (1 ≤ part) × (start + 8 * (low + part * n) ≤ length (now file)) ⌝ }
+    ensures { λ c. ⌜ (c ≡ passing (λ i. leb (ranksBefore (now (file .entry)) start (low + part * i)) r) n) × (c ≤ n) ⌝ }
+{
+    let mut count: usize = 0;
+    let mut i: usize = 0;
+    while i < n {
+        i += 1;
+        count += ranks_below(get_pair(file, start + 8 * (low + part * i - 1)), r);
+    }
+    count
+}
+
+// The run of position p, or of the empty cells before it: the last with at most p cells before it, or n.
+fn run_at(file: &[u8], start: u32, n: u32, p: u32) -> u32
+    ensures { λ r. ⌜ LastRun (cellsBefore (now (file .entry)) start) (now (file .entry)) start n p r ⌝ }
+{
+    let at = start as usize;
+    if file.len() < at + 8 * n as usize {
+        return 0;
+    }
+    let mut low: usize = 0;
+    let mut size = n as usize + 1;
+    while 8 <= size {
+        let part = size / 8;
+        low += part * parts_ended(file, at, low, part, 7, p);
+        size -= 7 * part;
+    }
+    low += parts_ended(file, at, low, 1, size - 1, p);
+    low as u32
+}
+
+// The run of rank r: the last with at most r stored cells before it, or n.
+fn run_with(file: &[u8], start: u32, n: u32, r: u32) -> u32
+    ensures { λ j. ⌜ LastRun (ranksBefore (now (file .entry)) start) (now (file .entry)) start n r j ⌝ }
+{
+    let at = start as usize;
+    if file.len() < at + 8 * n as usize {
+        return 0;
+    }
+    let mut low: usize = 0;
+    let mut size = n as usize + 1;
+    while 8 <= size {
+        let part = size / 8;
+        low += part * parts_below(file, at, low, part, 7, r);
+        size -= 7 * part;
+    }
+    low += parts_below(file, at, low, 1, size - 1, r);
+    low as u32
 }
 
 // Where position p stands among the stored ones. In run j the cell is stored from the position on that its first rank has.
@@ -84,6 +139,12 @@ pub fn find(file: &[u8], v: View, p: Position) -> Found
         };
     }
     let first = ranks_before(file, v.start, j);
+    if (place as u64) < first {
+        return Found {
+            below: v.words,
+            here: false,
+        };
+    }
     let empty = run(file, v.start, j).second;
     if (place as u64) < first + empty as u64 {
         return Found {

@@ -1,52 +1,66 @@
 -- `runs::coding::take_all` meets its contract. Assumes nothing.
-use Prim.Native.Nat.{_-_}
+use mathlib.Core.Path.{_∙_}
 use native.Mathlib.Omega.{arith}
-use lib.ListN.{length}
-use Rattle.parts.proofs.Taken.{Measuring, measure-begin, measure-next, measure-turn, measure-end}
+use Rattle.laws.proofs.Stored.{rising-weaken, rising-length}
+use Rattle.parts.specs.Ready.{passed}
+use Rattle.parts.proofs.Taken.{measure-begin, measure-next, measure-end}
 use Rattle.runs.specs.Coding.{runsCoder}
-use Rattle.runs.proofs.Adds.{keeps}
+use Rattle.runs.proofs.Further.{taken-far, further-fits}
 use borrow.Author.Needs.{needs}
 use Rattle.runs.proofs.coding.take_all.Statement.{statement}
 use Rattle.runs.proofs.coding.take_all.Tie as tie
 
-abbrev Inv-loop : tie.InvT-loop
-Inv-loop width step ps at₀ i₀ at i = Measuring runsCoder ps at₀ at i
-
-abbrev μ-loop : tie.MeasureT-loop
-μ-loop width step ps at₀ i₀ at i = length ps - i
-
-loop-holds : tie.Need-loop-holds Inv-loop μ-loop
-loop-holds c = measure-begin runsCoder (c .before .args .ps .now) (c .before .args .e) (c .before .pre .1)
-
-take-one-requires : tie.Need-take-one-requires Inv-loop μ-loop
-take-one-requires c κs =
-    let a = c .before .before .before .before .args in
-    let l = c .before .before .loop in
-    measure-next runsCoder (a .ps .now) (a .e) (l .at) (l .i) (c .before .loop-test .taken) (l .inv)
-
-loop-again : tie.Need-loop-again Inv-loop μ-loop
-loop-again c =
-    let a = c .before .before .before .before .before .args in
-    let l = c .before .before .before .loop in
-    measure-turn runsCoder (a .ps .now) (a .e) (l .at) (l .i) (c .before .before .loop-test .taken) keeps (l .inv) (c .take-one .result) (c .take-one .ensures)
-
-returns : tie.Need-returns Inv-loop μ-loop
+returns : tie.Need-returns
 returns c =
-    let a = c .before .before .before .args in
-    let l = c .before .loop in
-    measure-end runsCoder (a .ps .now) (a .e) (l .at) (l .i) (omega arith) (l .inv)
+    let s = c .before .before in
+    let z = c .if1 .taken in
+    measure-end runsCoder (s .args .ps .now) (s .args .e) (s .args .e) 0 (omega arith) (measure-begin runsCoder (s .args .ps .now) (s .args .e) (s .pre .1))
+
+count-far-requires : tie.Need-count-far-requires
+count-far-requires c κs =
+    let s = c .before .before in
+    rising-weaken 0 (passed (s .args .e)) 16777216 (s .args .ps .now) (omega arith) (s .pre .1 .rising)
+
+take-one-requires : tie.Need-take-one-requires
+take-one-requires c κs =
+    let s = c .before .before .before .before in
+    let z = c .before .before .if1 .left in
+    measure-next runsCoder (s .args .ps .now) (s .args .e) (s .args .e) 0 (omega arith) (measure-begin runsCoder (s .args .ps .now) (s .args .e) (s .pre .1))
+
+cast-further : tie.Need-cast-further
+cast-further c =
+    let s = c .before .before .before .before .before in
+    let n = rising-length (passed (s .args .e)) 16777216 (s .args .ps .now) (s .pre .1 .sound .passed-most) (s .pre .1 .rising) in
+    record { fits = omega arith }
+
+further-requires : tie.Need-further-requires
+further-requires c κs =
+    let s = c .before .before .before .before .before .before in
+    let o = c .before .take-one in
+    let n = c .before .before .before .count-far .ensures .1 in
+    let f = further-fits (s .args .e) (s .args .ps .now) (c .before .before .before .before .if1 .left) (s .pre .1) (o .result) (o .ensures) in
+    (f .0, f .1, omega arith)
+
+returns-2 : tie.Need-returns-2
+returns-2 c =
+    let s = c .before .before .before .before .before .before .before in
+    c .further .ensures
+    ∙ taken-far (s .args .e) (s .args .ps .now) (c .before .before .before .before .before .if1 .left) (s .pre .1) _ (c .before .before .take-one .ensures) _
+    (c .before .before .before .before .count-far .ensures .0)
 
 pub take-all-spec : {M : Type 1} → statement M
 take-all-spec =
     tie.close
     (tie.spec
-    Inv-loop
-    μ-loop
-    loop-holds
-    (λ c. search needs)
+    returns
+    count-far-requires
     (λ c. search needs)
     take-one-requires
     (λ c. search needs)
+    cast-further
     (λ c. search needs)
-    loop-again
-    returns)
+    (λ c. search needs)
+    (λ c. search needs)
+    (λ c. search needs)
+    further-requires
+    returns-2)

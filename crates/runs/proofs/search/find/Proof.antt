@@ -1,13 +1,11 @@
 -- `runs::search::find` meets its contract. Assumes nothing.
-use Prim.Native.Nat.{_≤_}
 use mathlib.Core.Path.{_≡_, refl, ap}
 use native.Mathlib.Omega.{arith}
 use borrow.Author.Tests.{ltb-true}
 use Rattle.wire.specs.declared.Pair.{Pair}
-use Rattle.runs.specs.Edge.{emptyAt}
+use Rattle.runs.specs.Before.{emptyAt}
 use Rattle.runs.proofs.Pairs.{unlike}
-use Rattle.runs.proofs.Halves.{reaches-above}
-use Rattle.runs.proofs.Lookup.{found-end, found-empty, found-stored}
+use Rattle.runs.proofs.Lookup.{not-above, found-end, found-empty, found-stored}
 use borrow.Author.Needs.{needs}
 use Rattle.runs.proofs.search.find.Statement.{statement}
 use Rattle.runs.proofs.search.find.Tie as tie
@@ -21,42 +19,40 @@ returns c =
       free = λ e. absurd (unlike e);
     }
 
--- the first rank of run j is at most the position
-few : (c : tie.After-run) → c .before .ranks-before .result ≤ c .before .before .before .before .before .before .args .p .0
-few c =
-    let a = c .before .before .before .before .before .before .args in
-    let j = c .before .before .before .before .run-at in
-    let r = c .before .ranks-before .ensures in
-    let q = reaches-above (a .file .now) (a .v .start) (a .p .0) (a .v .firsts) (j .result) (j .ensures) in
-    omega arith
-
-add-if2 : tie.Need-add-if2
-add-if2 c = let f = few c in omega arith
-
-cast-t14 : tie.Need-cast-t14
-cast-t14 c = let f = few (c .before) in omega arith
-
+-- over right parts the first rank of run j is at most the position
 returns-2 : tie.Need-returns-2
 returns-2 c =
-    let a = c .before .before .before .before .before .before .before .args in
-    let j = c .before .before .before .before .before .run-at in
-    let y : c .before .run .result .second ≡ emptyAt (a .file .now) (a .v .start) (j .result) = ap (λ (x : Pair). x .second) (c .before .run .ensures) in
-    let r = c .before .before .ranks-before .ensures in
+    let a = c .before .before .before .before .before .before .args in
+    let j = c .before .before .before .before .run-at in
+    let t = c .if2 .taken in
+    let r = c .before .ranks-before .ensures in
     record {
-      right = λ ls h. found-empty (a .file .now) (a .v) ls h (a .p .0) (j .result) (j .ensures) _ (c .before .before .before .if1 .left) (omega arith) r refl;
+      right = λ ls h. let n = not-above (a .file .now) (a .v) ls h (a .p .0) (j .result) (j .ensures) in absurd (omega arith);
       free = λ e. absurd (unlike e);
     }
 
 returns-3 : tie.Need-returns-3
 returns-3 c =
-    let a = c .before .before .before .before .before .before .before .before .args in
-    let j = c .before .before .before .before .before .before .run-at in
-    let y : c .before .before .run .result .second ≡ emptyAt (a .file .now) (a .v .start) (j .result)
-    = ap (λ (x : Pair). x .second) (c .before .before .run .ensures) in
+    let b = c .before .before .before .before in
+    let a = b .before .before .before .before .args in
+    let j = b .before .before .run-at in
+    let y : c .before .run .result .second ≡ emptyAt (a .file .now) (a .v .start) (j .result) = ap (λ (x : Pair). x .second) (c .before .run .ensures) in
     let r = c .before .before .before .ranks-before .ensures in
     record {
-      right = λ ls h.
-          found-stored (a .file .now) (a .v) ls h (a .p .0) (j .result) (j .ensures) _ (c .before .before .before .before .if1 .left) (omega arith) (omega arith) refl;
+      right = λ ls h. found-empty (a .file .now) (a .v) ls h (a .p .0) (j .result) (j .ensures) _ (b .if1 .left) (omega arith) r refl;
+      free = λ e. absurd (unlike e);
+    }
+
+returns-4 : tie.Need-returns-4
+returns-4 c =
+    let b = c .before .before .before .before .before in
+    let a = b .before .before .before .before .args in
+    let j = b .before .before .run-at in
+    let x = c .before .before .run in
+    let y : x .result .second ≡ emptyAt (a .file .now) (a .v .start) (j .result) = ap (λ (x : Pair). x .second) (x .ensures) in
+    let r = c .before .before .before .before .ranks-before .ensures in
+    record {
+      right = λ ls h. found-stored (a .file .now) (a .v) ls h (a .p .0) (j .result) (j .ensures) _ (b .if1 .left) (omega arith) (omega arith) refl;
       free = λ e. ltb-true _ (a .v .words) e;
     }
 
@@ -67,11 +63,13 @@ find-spec =
     (λ c κs. search needs)
     returns
     (λ c κs. search needs)
+    (λ c. search needs)
+    returns-2
     (λ c κs. search needs)
     (λ c. search needs)
     (λ c. search needs)
-    add-if2
-    cast-t14
-    returns-2
     (λ c. search needs)
-    returns-3)
+    (λ c. search needs)
+    returns-3
+    (λ c. search needs)
+    returns-4)

@@ -3,8 +3,8 @@ use Prim.Native.Nat.{_-_}
 use mathlib.Core.Path.{_≡_, ap}
 use native.Mathlib.Omega.{arith}
 use Rattle.wire.specs.declared.Pair.{Pair}
-use Rattle.runs.specs.Edge.{lastAt, emptyAt}
-use Rattle.runs.proofs.Halves.{first-ranks, later-ranks}
+use Rattle.runs.specs.Before.{lastAt, emptyAt}
+use Rattle.runs.proofs.Before.{first-ranks, later-ranks}
 use borrow.Author.Needs.{needs}
 use Rattle.runs.proofs.search.ranks_before.Statement.{statement}
 use Rattle.runs.proofs.search.ranks_before.Tie as tie

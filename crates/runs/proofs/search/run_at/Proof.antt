@@ -1,49 +1,53 @@
 -- `runs::search::run_at` meets its contract. Assumes nothing.
-use Prim.Native.Nat.{_+_, _-_, _/_}
-use mathlib.Core.Path.{_≡_, ap}
+use Prim.Native.Nat.{ℕ, suc, _+_, _*_, _/_, _≤_, _<_}
+use mathlib.Core.Path.{_≡_, refl, subst}
+use native.Mathlib.Nat.{mul-le-mul-left}
 use native.Mathlib.Omega.{arith}
-use borrow.Author.Tests.{le-leb, lt-leb}
-use Rattle.wire.specs.declared.Pair.{Pair}
-use Rattle.runs.specs.Edge.{lastAt, reaches}
-use Rattle.runs.proofs.Halves.{Between, between-all, lower-half, upper-half, edge-found}
+use lib.ListN.{length}
+use Rattle.parts.proofs.Last.{Left, left-all, left-eighth, left-rest}
+use Rattle.runs.specs.Before.{cellsBefore}
+use Rattle.runs.proofs.Before.{cut, found}
 use borrow.Author.Needs.{needs}
 use Rattle.runs.proofs.search.run_at.Statement.{statement}
 use Rattle.runs.proofs.search.run_at.Tie as tie
 
+-- what is left is in the file
 abbrev Inv-loop : tie.InvT-loop
-Inv-loop file start n p low₀ high₀ low high = Between (reaches file start p) n low high
+Inv-loop file start n p at low₀ size₀ low size =
+    (at ≡ start) × (start + 8 * n ≤ length file) × (n < 4294967296) × Left (cellsBefore file start) (suc n) p low size
 
 abbrev μ-loop : tie.MeasureT-loop
-μ-loop file start n p low₀ high₀ low high = high - low
+μ-loop file start n p at low₀ size₀ low size = size
 
 loop-holds : tie.Need-loop-holds Inv-loop μ-loop
-loop-holds c = let a = c .before .args in between-all (reaches (a .file .now) (a .start) (a .p)) (a .n)
+loop-holds c =
+    let a = c .before .before .args in
+    let h = c .if1 .left in
+    let z : suc (a .n) ≡ a .n + 1 = omega arith in
+    (refl, omega arith, omega arith, subst (λ (k : ℕ). Left (cellsBefore (a .file .now) (a .start)) (suc (a .n)) (a .p) 0 k) z (left-all _ _ _ (omega arith)))
+
+-- an eighth times what was counted is at most seven of them
+few : (c : tie.After-parts-ended Inv-loop μ-loop) → c .before .before .loop .low + c .before .before .loop .size / 8 * c .parts-ended .result ≤ 4294967296
+few c =
+    let l = c .before .before .loop in
+    let w = l .inv .3 .within in
+    let s = l .inv .2 in
+    let m = mul-le-mul-left (l .size / 8) (c .parts-ended .ensures .1) in
+    omega arith
 
 loop-again : tie.Need-loop-again Inv-loop μ-loop
 loop-again c =
-    let a = c .before .before .before .before .before .before .args in
-    let o = c .before .before .before .before .loop in
-    let l : c .before .before .run .result .first ≡ lastAt (a .file .now) (a .start) (o .low + (o .high - o .low) / 2)
-    = ap (λ (x : Pair). x .first) (c .before .before .run .ensures) in
-    let t = c .if1 .taken in
-    lower-half (reaches (a .file .now) (a .start) (a .p)) (a .n) (o .low) (o .high) (o .inv) (c .before .before .before .loop-test .taken)
-    (le-leb (a .p) _ (omega arith))
+    let a = c .before .before .before .before .before .args in
+    let l = c .before .before .loop in
+    let i = l .inv in
+    (i .0, i .1, i .2, left-eighth (cellsBefore (a .file .now) (a .start)) (suc (a .n)) (a .p) (l .low) (l .size) (i .3) (c .parts-ended .result) (c .before .loop-test .taken) (c .parts-ended .ensures .0) (c .parts-ended .ensures .1))
 
-loop-again-2 : tie.Need-loop-again-2 Inv-loop μ-loop
-loop-again-2 c =
-    let a = c .before .before .before .before .before .before .args in
-    let o = c .before .before .before .before .loop in
-    let l : c .before .before .run .result .first ≡ lastAt (a .file .now) (a .start) (o .low + (o .high - o .low) / 2)
-    = ap (λ (x : Pair). x .first) (c .before .before .run .ensures) in
-    let t = c .if1 .left in
-    upper-half (reaches (a .file .now) (a .start) (a .p)) (a .n) (o .low) (o .high) (o .inv) (c .before .before .before .loop-test .taken)
-    (lt-leb (a .p) _ (omega arith))
-
-returns : tie.Need-returns Inv-loop μ-loop
-returns c =
-    let a = c .before .before .before .args in
-    let o = c .before .loop in
-    edge-found (reaches (a .file .now) (a .start) (a .p)) (a .n) (o .low) (o .high) (o .inv) (c .loop-test .left)
+returns-2 : tie.Need-returns-2 Inv-loop μ-loop
+returns-2 c =
+    let a = c .before .before .before .before .before .args in
+    let l = c .before .before .loop in
+    found (cellsBefore (a .file .now) (a .start)) (a .file .now) (a .start) (a .n) (a .p) _
+    (left-rest (cellsBefore (a .file .now) (a .start)) (suc (a .n)) (a .p) (l .low) (l .size) (l .inv .3) (c .parts-ended2 .result) (c .parts-ended2 .ensures .0) (c .parts-ended2 .ensures .1))
 
 pub run-at-spec : {M : Type 1} → statement M
 run-at-spec =
@@ -51,13 +55,25 @@ run-at-spec =
     (tie.spec
     Inv-loop
     μ-loop
+    (λ c. search needs)
+    (λ c. search needs)
+    (λ c. cut _ _ _ _ _ (c .if1 .taken))
+    (λ c. search needs)
     loop-holds
+    (λ c κs. let w = c .before .loop .inv .3 .within in let h = c .loop-test .taken in let s = c .before .loop .inv .1 in (omega arith, omega arith))
+    (λ c. let f = few c in omega arith)
+    (λ c. let f = few c in omega arith)
+    (λ c. let w = c .before .before .loop .inv .3 .within in let s = c .before .before .loop .inv .2 in omega arith)
     (λ c. search needs)
-    (λ c. search needs)
-    (λ c κs. search needs)
-    (λ c. search needs)
+    (λ c. let h = c .before .loop-test .taken in omega arith)
     loop-again
-    (λ c. search needs)
-    (λ c. search needs)
-    loop-again-2
-    returns)
+    (λ c. let w = c .before .loop .inv .3 .some in omega arith)
+    (λ c κs. let w = c .before .loop .inv .3 .within in let t = c .before .loop .inv .3 .some in let s = c .before .loop .inv .1 in (omega arith, omega arith))
+    (λ c. let w = c .before .before .loop .inv .3 .within in let s = c .before .before .loop .inv .2 in let m = c .parts-ended2 .ensures .1 in omega arith)
+    (λ c.
+    let w = c .before .before .loop .inv .3 .within in
+    let s = c .before .before .loop .inv .2 in
+    let t = c .before .before .loop .inv .3 .some in
+    let m = c .parts-ended2 .ensures .1 in
+    omega arith)
+    returns-2)

@@ -1,0 +1,13 @@
+-- `runs::coding::further` meets its contract. Assumes nothing.
+use mathlib.Core.Path.{refl}
+use Rattle.runs.specs.Coding.{further}
+use borrow.Author.Needs.{needs}
+use Rattle.runs.proofs.coding.further.Statement.{statement}
+use Rattle.runs.proofs.coding.further.Tie as tie
+
+returns : tie.Need-returns
+unfolding further
+returns c = refl
+
+pub further-spec : {M : Type 1} → statement M
+further-spec = tie.close (tie.spec (λ c. search needs) (λ c. search needs) (λ c. search needs) returns)
