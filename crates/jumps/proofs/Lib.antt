@@ -1,6 +1,7 @@
 -- The check.
 pub mod Pass
 pub mod Turns
+pub mod Groups
 pub mod Held
 pub mod Parts
 -- The walks.
