@@ -12,5 +12,6 @@ pub mod Walks
 -- The encoder.
 pub mod Adds
 pub mod Taken
+pub mod Batch
 -- What the crate says of itself.
 pub mod Laws

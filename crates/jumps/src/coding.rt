@@ -3,6 +3,7 @@ use parts::Encoder;
 use parts::Sizes;
 use parts::encode::limit;
 use parts::encode::move_on;
+use parts::far::count_far;
 use stores::put_entry;
 use stores::put_u32;
 ghost use mathlib.Core.Path.{_≡_};
@@ -39,16 +40,21 @@ fn taken(width: u32, e: Encoder, p: u32) -> Encoder
     move_on(e, p, e.first, second)
 }
 
+// The first position, and then all others at once: of them those that are too far from the one before are jumps.
 fn taken_all(width: u32, e: Encoder, ps: &[u32]) -> Encoder
     requires { ⌜ Along e (now ps) × (1 ≤ width) × (width ≤ 2) ⌝ }
     ensures { λ r. ⌜ r ≡ takenAllBy (jumpsCoder width) e (now (ps .entry)) ⌝ }
 {
-    let mut at = e;
-    let mut i: usize = 0;
-    while i < ps.len() {
-        at = taken(width, at, ps[i]);
-        i += 1;
+    let n = ps.len();
+    if n == 0 {
+        return e;
     }
+    let jumps = count_far(ps, limit(width)) as usize;
+    let mut at = taken(width, e, ps[0]);
+    at.rank += (n - 1) as u32;
+    at.last = ps[n - 1];
+    at.first += 4 * jumps;
+    at.second += width as usize * (n - 1);
     at
 }
 

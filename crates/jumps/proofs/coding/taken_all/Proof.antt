@@ -1,59 +1,97 @@
-use Prim.Native.Nat.{_-_}
-use lib.ListN.{length}
+-- The encoder after a batch. Assumes nothing.
+use Prim.Native.Nat.{_+_, _-_, _≤_}
+use mathlib.Core.Path.{_≡_}
+use native.Mathlib.Nat.{mul-le-mul-right, pos-of-ne-zero}
 use native.Mathlib.Omega.{arith}
+use lib.ListN.{length}
+use Rattle.parts.specs.Ready.{Sound}
+use Rattle.parts.proofs.Taken.{measure-begin, measure-next, measure-end}
 use Rattle.jumps.specs.Coding.{jumpsCoder}
-use Rattle.jumps.proofs.Adds.{keeps}
-use Rattle.parts.proofs.Taken.{Measuring, measure-begin, measure-next, measure-turn, measure-end}
+use Rattle.jumps.proofs.Turns.{none}
+use Rattle.jumps.proofs.Batch.{along-rising, taken-batch, batch-fits}
 use borrow.Author.Needs.{needs}
 use Rattle.jumps.proofs.coding.taken_all.Statement.{statement}
 use Rattle.jumps.proofs.coding.taken_all.Tie as tie
 
-abbrev Inv-loop : tie.InvT-loop
-Inv-loop width ps at₀ i₀ at i = Measuring (jumpsCoder width) ps at₀ at i
-
-abbrev μ-loop : tie.MeasureT-loop
-μ-loop width ps at₀ i₀ at i = length ps - i
-
-loop-holds : tie.Need-loop-holds Inv-loop μ-loop
-loop-holds c =
-    let p = c .before in
-    let a = p .args in
-    measure-begin (jumpsCoder (a .width)) (a .ps .now) (a .e) (p .pre .0)
-
-taken-requires : tie.Need-taken-requires Inv-loop μ-loop
-taken-requires c κs =
-    let p = c .before .before .before .before in
-    let a = p .args in
-    let l = c .before .before .loop in
-    (measure-next (jumpsCoder (a .width)) (a .ps .now) (a .e) (l .at) (l .i) (c .before .loop-test .taken) (l .inv), p .pre .1, p .pre .2)
-
-loop-less : tie.Need-loop-less Inv-loop μ-loop
-loop-less c = omega arith
-
-loop-again : tie.Need-loop-again Inv-loop μ-loop
-loop-again c =
-    let p = c .before .before .before .before .before in
-    let a = p .args in
-    let l = c .before .before .before .loop in
-    measure-turn (jumpsCoder (a .width)) (a .ps .now) (a .e) (l .at) (l .i) (c .before .before .loop-test .taken) (keeps (a .width) (p .pre .2)) (l .inv) (c .taken .result) (c .taken .ensures)
-
-returns : tie.Need-returns Inv-loop μ-loop
+returns : tie.Need-returns
 returns c =
-    let a = c .before .before .before .args in
-    let l = c .before .loop in
-    measure-end (jumpsCoder (a .width)) (a .ps .now) (a .e) (l .at) (l .i) (omega arith) (l .inv)
+    let o = c .before .before in
+    let k = jumpsCoder (o .args .width) in
+    measure-end k (o .args .ps .now) (o .args .e) (o .args .e) 0 (none (c .if1 .taken)) (measure-begin k (o .args .ps .now) (o .args .e) (o .pre .0))
+
+count-far-requires : tie.Need-count-far-requires
+count-far-requires c κs = let o = c .before .before .before in along-rising (o .args .e) (o .args .ps .now) (o .pre .0)
+
+taken-requires : tie.Need-taken-requires
+taken-requires c κs =
+    let o = c .before .before .before .before .before in
+    let k = jumpsCoder (o .args .width) in
+    let m = measure-begin k (o .args .ps .now) (o .args .e) (o .pre .0) in
+    (measure-next k (o .args .ps .now) (o .args .e) (o .args .e) 0 (pos-of-ne-zero (c .before .before .before .if1 .left)) m, o .pre .1, o .pre .2)
+
+-- no number wraps
+fits : (c : tie.After-taken)
+    → let t = c .taken .result in Sound t × (t .rank + (length (c .before .before .before .before .before .before .args .ps .now) - 1) ≤ 16777216)
+fits c =
+    let o = c .before .before .before .before .before .before in
+    batch-fits (o .args .width) (o .args .e) (o .args .ps .now) (c .before .before .before .before .if1 .left) (o .pre .0) (c .taken .ensures) (o .pre .2)
+
+cast-at : tie.Need-cast-at
+cast-at c = let n = fits c .1 in record { fits = omega arith }
+
+add-at : tie.Need-add-at
+add-at c = let n = fits (c .before) .1 in record { fits = omega arith }
+
+add-at-2 : tie.Need-add-at-2
+add-at-2 c =
+    let t = c .before .before .before in
+    let n = fits t .0 .first-most in
+    let m = fits t .1 in
+    let x = t .before .before .count-far .ensures .1 in
+    omega arith
+
+mul-at-3 : tie.Need-mul-at-3
+mul-at-3 c =
+    let o = c .before .before .before .before .before .before .before .before .before in
+    let m = fits (c .before .before .before) .1 in
+    let k = mul-le-mul-right (length (o .args .ps .now) - 1) (o .pre .2) in
+    omega arith
+
+add-at-3 : tie.Need-add-at-3
+add-at-3 c =
+    let t = c .before .before .before .before in
+    let o = t .before .before .before .before .before .before in
+    let n = fits t .0 .second-most in
+    let m = fits t .1 in
+    let k = mul-le-mul-right (length (o .args .ps .now) - 1) (o .pre .2) in
+    omega arith
+
+returns-2 : tie.Need-returns-2
+returns-2 c =
+    let t = c .before .before .before .before in
+    let o = t .before .before .before .before .before .before in
+    taken-batch (o .args .width) (o .args .e) (o .args .ps .now) (t .before .before .before .before .if1 .left) (o .pre .0) (t .taken .ensures)
+    (rw (t .before .before .before .limit .ensures) at (t .before .before .count-far .ensures .0))
 
 pub taken-all-spec : {M : Type 1} → statement M
 taken-all-spec =
     tie.close
     (tie.spec
-    Inv-loop
-    μ-loop
-    loop-holds
+    returns
+    (λ c κs. search needs)
+    count-far-requires
     (λ c. search needs)
     (λ c. search needs)
     taken-requires
     (λ c. search needs)
-    loop-less
-    loop-again
-    returns)
+    cast-at
+    add-at
+    (λ c. search needs)
+    (λ c. search needs)
+    (λ c. search needs)
+    (λ c. search needs)
+    add-at-2
+    (λ c. search needs)
+    mul-at-3
+    add-at-3
+    returns-2)
