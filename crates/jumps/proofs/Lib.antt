@@ -13,5 +13,6 @@ pub mod Walks
 pub mod Adds
 pub mod Taken
 pub mod Batch
+pub mod PutBatch
 -- What the crate says of itself.
 pub mod Laws
