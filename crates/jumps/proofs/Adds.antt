@@ -72,11 +72,7 @@ keeps w h =
       empty = omega arith;
     })
 
--- the step says nothing, and the end adds nothing
-pub coder-at : (w x l : ℕ) → w ≡ x → jumpsCoder x ≡ coder w l
-unfolding coder
-coder-at w x l h = rw h
-
+-- the end adds nothing
 pub ended-same : (w l : ℕ) (e : Encoder) → e ≡ endedBy (coder w l) e
 unfolding coder jumpsCoder endedBy
 ended-same w l e = rw (add-zero (e .first), add-zero (e .second))

@@ -1,6 +1,7 @@
 -- The check.
 pub mod Pass
 pub mod Turns
+pub mod Groups
 pub mod Held
 pub mod Parts
 -- The walks.
@@ -11,5 +12,7 @@ pub mod Walks
 -- The encoder.
 pub mod Adds
 pub mod Taken
+pub mod Batch
+pub mod PutBatch
 -- What the crate says of itself.
 pub mod Laws

@@ -15,7 +15,7 @@ module _ (w : ℕ) where
   later : (e : Encoder) (r p : ℕ) → e .rank ≡ suc r → differenceAt w e p ≡ difference w (e .last) p
   later e r p h = difference-later w e p (λ z. omega arith)
 
-  seconds-from : (e : Encoder) (r : ℕ) (ls : List ℕ) → e .rank ≡ suc r → secondsBy (jumpsCoder w) e ls ≡ bytesOf w (differencesFrom w (e .last) ls)
+  pub seconds-from : (e : Encoder) (r : ℕ) (ls : List ℕ) → e .rank ≡ suc r → secondsBy (jumpsCoder w) e ls ≡ bytesOf w (differencesFrom w (e .last) ls)
   unfolding secondsBy jumpsCoder takenBy bytesOf differencesFrom
   seconds-from e r [] h = refl
   seconds-from e r (p ∷ ls) h =
@@ -32,7 +32,7 @@ module _ (w : ℕ) where
   jump-cons zero p ds ls = refl
   jump-cons (suc d) p ds ls = refl
 
-  firsts-from : (e : Encoder) (r : ℕ) (ls : List ℕ) → e .rank ≡ suc r
+  pub firsts-from : (e : Encoder) (r : ℕ) (ls : List ℕ) → e .rank ≡ suc r
       → firstsBy (jumpsCoder w) e ls ≡ bytesOf 4 (jumpsOf (differencesFrom w (e .last) ls) ls)
   unfolding firstsBy jumpsCoder takenBy differencesFrom
   firsts-from e r [] h = unfold jumpsOf bytesOf in refl

@@ -1,6 +1,6 @@
 -- The turns of the pass over a file's bytes, by a view. Assumes nothing.
 use Prim.Native.Nat.{ℕ, zero, suc, _+_, _-_, _*_, _^_, _≤_, _<_}
-use mathlib.Core.Path.{_≡_, refl}
+use mathlib.Core.Path.{_≡_, refl, ap, _∙_}
 use mathlib.Core.Bool.{true, false}
 use mathlib.Core.List.{List, [], _∷_}
 use native.Mathlib.Nat.{mul-suc, mul-zero, add-zero, sub-zero, mul-le-mul-left}
@@ -12,7 +12,8 @@ use lib.Dec.{ltb, eqb}
 use borrow.Author.Tests.{le-leb, lt-leb}
 use Rattle.format.specs.declared.View.{View}
 use Rattle.format.specs.Bytes.{field, numbersOf}
-use Rattle.jumps.specs.Pass.{Laid, entriesFrom, passes, jumpsLeft, differencesLeft, passesFrom, starts}
+use Rattle.laws.proofs.Numbers.{numbers-turn, numbers-end}
+use Rattle.jumps.specs.Pass.{Laid, entriesFrom, passes, jumpsLeft, differencesLeft, passesFrom, passesOn, starts}
 
 -- ---- entries by index
 
@@ -21,11 +22,11 @@ module _ (w at n : ℕ) (b : List ℕ) where
   unfolding entriesFrom
   entries-all = rw (sub-zero n, mul-zero w, add-zero at)
 
-  pub entries-none : (i : ℕ) → n ≤ i → entriesFrom w at n i b ≡ []
+  entries-none : (i : ℕ) → n ≤ i → entriesFrom w at n i b ≡ []
   unfolding entriesFrom numbersOf
   entries-none i h = let e : n - i ≡ 0 = omega arith in rw e
 
-  pub entries-cons : (i : ℕ) → i < n → entriesFrom w at n i b ≡ field w (at + w * i) b ∷ entriesFrom w at n (i + 1) b
+  entries-cons : (i : ℕ) → i < n → entriesFrom w at n i b ≡ field w (at + w * i) b ∷ entriesFrom w at n (i + 1) b
   unfolding entriesFrom numbersOf field
   entries-cons i h =
       let e : n - i ≡ suc (n - (i + 1)) = omega arith in
@@ -35,6 +36,9 @@ module _ (w at n : ℕ) (b : List ℕ) where
 -- an entry's bytes lie in the part
 pub entry-inside : (w n i : ℕ) → i < n → w * i + w ≤ w * n
 entry-inside w n i h = let m : w * suc i ≤ w * n = mul-le-mul-left w h in rw mul-suc at m
+
+pub none : {n : ℕ} → n ≡ 0 → n ≤ 0
+none h = omega arith
 
 -- what a difference reaches is at most 65,536
 pub reach-most : {w reach : ℕ} → reach ≡ 256 ^ w → w ≤ 2 → reach ≤ 65536
@@ -47,19 +51,11 @@ reach-most {w} e k = rw e (most w k)
     most (suc (suc (suc w))) k = absurd (omega arith)
 
 module _ (v : View) (b : List ℕ) where
-  pub jumps-none : (t : ℕ) → v .firsts ≤ t → jumpsLeft v t b ≡ []
-  unfolding jumpsLeft
-  jumps-none t h = entries-none 4 (v .start) (v .firsts) b t h
-
-  pub jumps-cons : (t : ℕ) → t < v .firsts → jumpsLeft v t b ≡ field 4 (v .start + 4 * t) b ∷ jumpsLeft v (t + 1) b
-  unfolding jumpsLeft
-  jumps-cons t h = entries-cons 4 (v .start) (v .firsts) b t h
-
-  pub differences-none : (i : ℕ) → v .words ≤ i → differencesLeft v i b ≡ []
+  differences-none : (i : ℕ) → v .words ≤ i → differencesLeft v i b ≡ []
   unfolding differencesLeft
   differences-none i h = entries-none (v .width) (v .second) (v .words) b i h
 
-  pub differences-cons : (i : ℕ) → i < v .words → differencesLeft v i b ≡ field (v .width) (v .second + v .width * i) b ∷ differencesLeft v (i + 1) b
+  differences-cons : (i : ℕ) → i < v .words → differencesLeft v i b ≡ field (v .width) (v .second + v .width * i) b ∷ differencesLeft v (i + 1) b
   unfolding differencesLeft
   differences-cons i h = entries-cons (v .width) (v .second) (v .words) b i h
 
@@ -80,41 +76,60 @@ entry-room v b i z ew h =
     let m = entry-inside (v .width) (v .words) i h in
     rw ew (z .narrow, z .wide, omega arith)
 
--- a jump that is left lies in the file
-pub jump-room : (v : View) (b : List ℕ) (t : ℕ) → Laid b v → t < v .firsts → v .start + 4 * t + 4 ≤ length b
-jump-room v b t z h = omega arith
+module _ (w second words bound : ℕ) (b : List ℕ) (least left i : ℕ) where
+  abbrev rest : ℕ → List ℕ
+  rest n = numbersOf 4 n (drop (second - 4 * n) b)
 
-module _ (v : View) (b : List ℕ) (least t i : ℕ) where
+  abbrev differences : ℕ → List ℕ
+  differences r = entriesFrom w second words r b
+
+  jumps-none : left ≤ 0 → rest left ≡ []
+  jumps-none h = numbers-end 4 left (drop (second - 4 * left) b) h
+
+  jumps-cons : 0 < left → 4 * left ≤ second → rest left ≡ field 4 (second - 4 * left) b ∷ rest (left - 1)
+  jumps-cons h k =
+      let e : second - 4 * left + 4 ≡ second - 4 * (left - 1) = omega arith in
+      numbers-turn 4 left (second - 4 * left) b h ∙ ap (λ (x : ℕ). field 4 (second - 4 * left) b ∷ numbersOf 4 (left - 1) (drop x b)) e
+
   -- no rank is left
-  pub over : {reach : ℕ} → reach ≡ 256 ^ v .width → v .words ≤ i → v .firsts ≤ t → passesFrom v b least t i ≡ ltb least (v .cells + reach)
-  unfolding passesFrom passes
-  over q h k = rw (differences-none v b i h, jumps-none v b t k, q)
+  pub over : {reach : ℕ} → reach ≡ 256 ^ w → words ≤ i → left ≤ 0 → passesOn w second words bound b least left i ≡ ltb least (bound + reach)
+  unfolding passesOn passes
+  over q h k = rw (entries-none w second words b i h, jumps-none k, q)
 
   -- a jump is left over
-  pub over-jump : v .words ≤ i → t < v .firsts → passesFrom v b least t i ≡ false
-  unfolding passesFrom passes
-  over-jump h k = rw (differences-none v b i h, jumps-cons v b t k)
+  pub over-jump : words ≤ i → 0 < left → 4 * left ≤ second → passesOn w second words bound b least left i ≡ false
+  unfolding passesOn passes
+  over-jump h k m = rw (entries-none w second words b i h, jumps-cons k m)
 
-  module _ (h : i < v .words) {d : ℕ} (e : d ≡ field (v .width) (v .second + v .width * i) b) where
-    pub turn-difference : 0 < d → passesFrom v b least t i ≡ passesFrom v b (least + d) t (i + 1)
-    unfolding passesFrom
-    turn-difference k = rw (differences-cons v b i h, ← e, up (v .width) (v .cells) least d (jumpsLeft v t b) (differencesLeft v (i + 1) b) k)
+  module _ (h : i < words) {d : ℕ} (e : d ≡ field w (second + w * i) b) where
+    pub turn-difference : 0 < d → passesOn w second words bound b least left i ≡ passesOn w second words bound b (least + d) left (i + 1)
+    unfolding passesOn
+    turn-difference k = rw (entries-cons w second words b i h, ← e, up w bound least d (rest left) (differences (i + 1)) k)
 
     module _ (z : d ≡ 0) where
       -- no jump is left
-      pub turn-none : v .firsts ≤ t → passesFrom v b least t i ≡ false
-      unfolding passesFrom passes
-      turn-none k = rw (differences-cons v b i h, ← e, z, jumps-none v b t k)
+      pub turn-none : left ≤ 0 → passesOn w second words bound b least left i ≡ false
+      unfolding passesOn passes
+      turn-none k = rw (entries-cons w second words b i h, ← e, z, jumps-none k)
 
-      module _ (k : t < v .firsts) {j : ℕ} (f : j ≡ field 4 (v .start + 4 * t) b) where
+      module _ (k : 0 < left) (m : 4 * left ≤ second) {j : ℕ} (f : j ≡ field 4 (second - 4 * left) b) where
         -- a jump that a difference would reach
-        pub turn-near : j < least → passesFrom v b least t i ≡ false
-        unfolding passesFrom passes
-        turn-near n = rw (differences-cons v b i h, ← e, z, jumps-cons v b t k, ← f, lt-leb least j n)
+        pub turn-near : j < least → passesOn w second words bound b least left i ≡ false
+        unfolding passesOn passes
+        turn-near n = rw (entries-cons w second words b i h, ← e, z, jumps-cons k m, ← f, lt-leb least j n)
 
-        pub turn-jump : {reach : ℕ} → reach ≡ 256 ^ v .width → least ≤ j → passesFrom v b least t i ≡ passesFrom v b (j + reach) (t + 1) (i + 1)
-        unfolding passesFrom passes
-        turn-jump q n = rw (differences-cons v b i h, ← e, z, jumps-cons v b t k, ← f, le-leb least j n, q)
+        pub turn-jump : {reach : ℕ} → reach ≡ 256 ^ w → least ≤ j
+            → passesOn w second words bound b least left i ≡ passesOn w second words bound b (j + reach) (left - 1) (i + 1)
+        unfolding passesOn passes
+        turn-jump q n = rw (entries-cons w second words b i h, ← e, z, jumps-cons k m, ← f, le-leb least j n, q)
+
+-- all ranks, by a view
+pub passes-whole : (v : View) (b : List ℕ) → v .second ≡ v .start + 4 * v .firsts
+    → passesFrom v b 0 0 0 ≡ passesOn (v .width) (v .second) (v .words) (v .cells) b 0 (v .firsts) 0
+unfolding passesFrom passesOn jumpsLeft differencesLeft
+passes-whole v b h =
+    let e : v .second - 4 * v .firsts ≡ v .start = omega arith in
+    rw (entries-all 4 (v .start) (v .firsts) b, e)
 
 -- ---- rank 0
 

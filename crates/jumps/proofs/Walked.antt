@@ -26,39 +26,6 @@ room {w} {second} {n} {r} b narrow wide h m k =
 abbrev pub origin : ℕ → List ℕ → Reached
 origin start b = record { position = whole 4 start b; taken = 1 }
 
--- ---- the differences after rank r
-
-module _ (w second : ℕ) (b : List ℕ) where
-  -- an earlier difference lies in the file too
-  pub earlier : {r m : ℕ} → Room w second b m → r ≤ m → Room w second b r
-  earlier {r} {m} z h =
-      let k : w * r ≤ w * m = mul-le-mul-left w h in
-      let i = z .inside in
-      let n = z .rank in
-      record { narrow = z .narrow; wide = z .wide; inside = omega arith; rank = omega arith }
-
-  module _ (r : ℕ) where
-    pub plain-start : true ≡ plain w second b r 0
-    unfolding plain
-    plain-start = refl
-
-    pub total-start : 0 ≡ total w second b r 0
-    unfolding total
-    total-start = refl
-
-    module _ (k : ℕ) {d : ℕ} (f : d ≡ field w (second + w * (r + (k + 1))) b) where
-      pub plain-difference : {g : Bool} → g ≡ plain w second b r k → (d ≡ 0 → ⊥) → g ≡ plain w second b r (k + 1)
-      unfolding plain
-      plain-difference e n = let q = rw (add-one k) at f in rw (add-one k, ← e, ← q, ne-eqb d 0 n)
-
-      pub plain-jump : d ≡ 0 → false ≡ plain w second b r (k + 1)
-      unfolding plain
-      plain-jump z = let q = rw (add-one k) at f in rw (add-one k, ← q, z)
-
-      pub total-next : {x : ℕ} → x ≡ total w second b r k → x + d ≡ total w second b r (k + 1)
-      unfolding total
-      total-next e = let q = rw (add-one k) at f in rw (add-one k, ← e, ← q)
-
 -- ---- from rank to rank
 
 module _ (w start second : ℕ) (b : List ℕ) where

@@ -1,5 +1,5 @@
 -- Jumps and differences as one pass goes through them. Assumes nothing.
-use Prim.Native.Nat.{ℕ, zero, suc, _+_, _-_, _*_, _^_, _≤_}
+use Prim.Native.Nat.{ℕ, zero, suc, _+_, _-_, _*_, _^_, _≤_, _<_}
 use mathlib.Core.Path.{_≡_}
 use mathlib.Core.Bool.{Bool, false}
 use mathlib.Core.List.{List, [], _∷_}
@@ -8,6 +8,7 @@ use lib.Dec.{leb, ltb, eqb}
 use Rattle.format.specs.declared.View.{View}
 use Rattle.format.specs.Tools.{both, first}
 use Rattle.format.specs.Bytes.{numbersOf}
+use Rattle.jumps.specs.declared.check.Passed.{Passed}
 
 -- jumps of 4 bytes in the first part, and in front of the second part a difference of 1 or 2 bytes for each stored word
 pub record Laid (b : List ℕ) (v : View) : Type 0 where
@@ -46,6 +47,27 @@ differencesLeft v r b = entriesFrom (v .width) (v .second) (v .words) r b
 -- what is left of the pass after i ranks and t jumps
 unfoldable pub passesFrom : View → List ℕ → ℕ → ℕ → ℕ → Bool
 passesFrom v b least t i = passes (v .width) (v .cells) least (jumpsLeft v t b) (differencesLeft v i b)
+
+-- the same from rank i on by the place of the differences, of w bytes each: the jumps that are left end where the differences begin
+unfoldable pub passesOn : ℕ → ℕ → ℕ → ℕ → List ℕ → ℕ → ℕ → ℕ → Bool
+passesOn w second words bound b least left i = passes w bound least (numbersOf 4 left (drop (second - 4 * left) b)) (entriesFrom w second words i b)
+
+-- a pass that has come to rank i with s can go on to rank `end`: the differences and the jumps that are left lie in the file, and no sum passes 64 bits
+pub record Readable (w second : ℕ) (b : List ℕ) (i end : ℕ) (s : Passed) : Type 0 where
+  pub narrow : 1 ≤ w
+  pub wide : w ≤ 2
+  pub ranks : end < 2 ^ 32
+  pub onward : i ≤ end
+  pub inside : second + w * end ≤ length b
+  pub jumps : 4 * s .left ≤ second
+  pub least : s .least ≤ 4295032832 + 65536 * i
+
+-- it goes from s at rank i to t at rank `end`: however many ranks follow, the rest of the pass is right where t is right and what is left from t on is
+pub record Goes (w second : ℕ) (b : List ℕ) (i end : ℕ) (s t : Passed) : Type 0 where
+  pub left : t .left ≤ s .left
+  pub least : t .least ≤ 4295032832 + 65536 * end
+  pub same : (words bound : ℕ) → end ≤ words
+      → passesOn w second words bound b (s .least) (s .left) i ≡ both (t .right) (passesOn w second words bound b (t .least) (t .left) end)
 
 -- rank 0 has the difference 0
 unfoldable pub starts : View → List ℕ → Bool

@@ -9,6 +9,7 @@ use Rattle.format.specs.declared.View.{View}
 use Rattle.format.specs.Tools.{pick, both}
 use Rattle.format.specs.Bytes.{field}
 use Rattle.wire.specs.Wire.{whole}
+use Rattle.parts.specs.Encoder.{ifZero}
 use Rattle.jumps.specs.declared.search.Reached.{Reached}
 use Rattle.jumps.specs.declared.search.Place.{Place}
 
@@ -29,6 +30,11 @@ walked w start second b r (suc n) s = stepped w start second b (r + suc n) (walk
 unfoldable pub plain : ℕ → ℕ → List ℕ → ℕ → ℕ → Bool
 plain w second b r zero = true
 plain w second b r (suc n) = both (not (eqb (field w (second + w * (r + suc n)) b) 0)) (plain w second b r n)
+
+-- so many of them are 0
+unfoldable pub zeros : ℕ → ℕ → List ℕ → ℕ → ℕ → ℕ
+zeros w second b r zero = 0
+zeros w second b r (suc n) = zeros w second b r n + ifZero (field w (second + w * (r + suc n)) b) 1 0
 
 -- their sum
 unfoldable pub total : ℕ → ℕ → List ℕ → ℕ → ℕ → ℕ

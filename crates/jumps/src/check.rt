@@ -1,26 +1,15 @@
 // The parts, checked in one pass.
+use super::differences::difference;
+use super::differences::next_group;
+use super::differences::no_jump;
+use super::differences::sum;
 use format::View;
-use wire::get_u8;
-use wire::get_u16;
 use wire::get_u32;
 ghost use mathlib.Core.Path.{_≡_};
-ghost use Prim.Native.Nat.{_+_, _*_, _^_, _≤_, _<_};
-ghost use lib.ListN.{length};
-ghost use Rattle.format.specs.Bytes.{field};
+ghost use Prim.Native.Nat.{_+_, _^_};
 ghost use Rattle.format.specs.Jumps.{jumpsKind};
 ghost use Rattle.parts.specs.Holds.{Counted, partsRight};
-ghost use Rattle.jumps.specs.Pass.{Laid, passesFrom, starts};
-
-// The difference of rank i, of width 1 or 2.
-pub fn difference(file: &[u8], second: usize, i: usize, width: u32) -> u32
-    requires { ⌜ (1 ≤ width) × (width ≤ 2) × (second + width * i + width ≤ length (now file)) ⌝ }
-    ensures { λ r. ⌜ (r ≡ field width (second + width * i) (now (file .entry))) × (r < 65536) ⌝ }
-{
-    if width == 1 {
-        return get_u8(file, second + i);
-    }
-    get_u16(file, second + 2 * i)
-}
+ghost use Rattle.jumps.specs.Pass.{Laid, Readable, Goes, passesFrom, starts};
 
 // Rank 0 has the difference 0.
 fn starts_right(file: &[u8], v: View) -> bool
@@ -33,40 +22,115 @@ fn starts_right(file: &[u8], v: View) -> bool
     difference(file, v.second as usize, 0, v.width) == 0
 }
 
-// One pass over the ranks. `least` is the least position that a jump may have: past what a difference reaches from the position before, `reach` and
-// more cells on. So positions rise, and only the last is held against cells.
+// How far a pass has come: the least position that a jump may have, which is past what a difference reaches from the position before; the
+// jumps that are left; and whether all was right.
+pub struct Passed {
+    pub least: usize,
+    pub left: usize,
+    pub right: bool,
+}
+
+// Over the ranks from i on up to an end, one by one; `reach` is the least distance that a difference does not reach.
+fn pass_ranks(
+    file: &[u8],
+    second: usize,
+    width: u32,
+    reach: usize,
+    i: usize,
+    end: usize,
+    s: Passed,
+) -> Passed
+    requires { ⌜ Readable width second (now file) i end s × (reach ≡ 256 ^ width) ⌝ }
+    ensures { λ t. ⌜ Goes width second (now (file .entry)) i end s t ⌝ }
+{
+    let mut least = s.least;
+    let mut left = s.left;
+    let mut k = i;
+    while k < end {
+        let d = difference(file, second, k, width);
+        k += 1;
+        if d != 0 {
+            least += d as usize;
+        } else {
+            if left == 0 {
+                return Passed {
+                    least,
+                    left,
+                    right: false,
+                };
+            }
+            let jump = get_u32(file, second - 4 * left) as usize;
+            if jump < least {
+                return Passed {
+                    least,
+                    left,
+                    right: false,
+                };
+            }
+            left -= 1;
+            least = jump + reach;
+        }
+    }
+    Passed {
+        least,
+        left,
+        right: true,
+    }
+}
+
+// The same. 128 ranks after rank 0 without a jump are taken by their sum.
+fn pass_group(
+    file: &[u8],
+    second: usize,
+    width: u32,
+    reach: usize,
+    i: usize,
+    end: usize,
+    s: Passed,
+) -> Passed
+    requires { ⌜ Readable width second (now file) i end s × (reach ≡ 256 ^ width) ⌝ }
+    ensures { λ t. ⌜ Goes width second (now (file .entry)) i end s t ⌝ }
+{
+    if 0 < i {
+        if end - i == 128 {
+            if no_jump(file, second, width, i - 1) {
+                let least = s.least + sum(file, second, width, i - 1) as usize;
+                return Passed {
+                    least,
+                    left: s.left,
+                    right: true,
+                };
+            }
+        }
+    }
+    pass_ranks(file, second, width, reach, i, end, s)
+}
+
+// One pass over the ranks, group by group: positions rise, and only the last is held against cells.
 fn pass(file: &[u8], v: View, width: u32, reach: usize) -> bool
     requires { ⌜ Laid (now file) v × (width ≡ v .width) × (reach ≡ 256 ^ width) ⌝ }
     ensures { λ r. ⌜ r ≡ passesFrom v (now (file .entry)) 0 0 0 ⌝ }
 {
     let n = v.words as usize;
-    let firsts = v.firsts as usize;
-    let start = v.start as usize;
     let second = v.second as usize;
-    let mut least: usize = 0;
-    let mut taken: usize = 0;
+    let mut s = Passed {
+        least: 0,
+        left: v.firsts as usize,
+        right: true,
+    };
     let mut i: usize = 0;
     while i < n {
-        let d = difference(file, second, i, width);
-        i += 1;
-        if d != 0 {
-            least += d as usize;
-        } else {
-            if taken == firsts {
-                return false;
-            }
-            let jump = get_u32(file, start + 4 * taken) as usize;
-            if jump < least {
-                return false;
-            }
-            taken += 1;
-            least = jump + reach;
+        let end = i + next_group(n - i);
+        s = pass_group(file, second, width, reach, i, end, s);
+        if !s.right {
+            return false;
         }
+        i = end;
     }
-    if taken != firsts {
+    if s.left != 0 {
         return false;
     }
-    least < v.cells as usize + reach
+    s.least < v.cells as usize + reach
 }
 
 // The parts are those of rising positions below cells, as many as the words.

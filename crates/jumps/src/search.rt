@@ -1,5 +1,8 @@
 // The searches: one pass from rank 0 on, over any bytes and any view. Ranks are taken in groups.
-use super::check::difference;
+use super::differences::difference;
+use super::differences::next_group;
+use super::differences::no_jump;
+use super::differences::sum;
 use format::Position;
 use format::Rank;
 use format::View;
@@ -10,7 +13,7 @@ ghost use Prim.Native.Nat.{_+_, _*_, _≤_, _<_};
 ghost use Rattle.format.specs.Jumps.{jumpsKind};
 ghost use Rattle.wire.specs.Wire.{whole};
 ghost use Rattle.parts.specs.Found.{FoundIn, PositionIn};
-ghost use Rattle.jumps.specs.Walk.{stepped, walked, plain, total, Within, Room, Stopped, OfWidth};
+ghost use Rattle.jumps.specs.Walk.{stepped, walked, Within, Room, Stopped, OfWidth};
 
 // A position that no walk reaches.
 const NO_TARGET: usize = 0xffff_ffff_ffff_ffff;
@@ -48,36 +51,6 @@ fn advance(file: &[u8], start: u32, second: usize, width: u32, r: usize, s: Reac
     }
 }
 
-// Whether no jump is among the 128 differences after rank r.
-fn no_jump(file: &[u8], second: usize, width: u32, r: usize) -> bool
-    requires { ⌜ Room width second (now file) (r + 128) ⌝ }
-    ensures { λ g. ⌜ g ≡ plain width second (now (file .entry)) r 128 ⌝ }
-{
-    let mut none = true;
-    let mut k: usize = 0;
-    while k < 128 {
-        k += 1;
-        if difference(file, second, r + k, width) == 0 {
-            none = false;
-        }
-    }
-    none
-}
-
-// The sum of the 128 differences after rank r.
-fn sum(file: &[u8], second: usize, width: u32, r: usize) -> u32
-    requires { ⌜ Room width second (now file) (r + 128) ⌝ }
-    ensures { λ x. ⌜ (x ≡ total width second (now (file .entry)) r 128) × (x ≤ 65536 * 128) ⌝ }
-{
-    let mut x: u32 = 0;
-    let mut k: usize = 0;
-    while k < 128 {
-        k += 1;
-        x += difference(file, second, r + k, width);
-    }
-    x
-}
-
 // From rank r to the n-th rank after it. A group of 128 without a jump is taken by its sum.
 fn walk_group(
     file: &[u8],
@@ -106,16 +79,6 @@ fn walk_group(
         t = advance(file, start, second, width, r + k, t);
     }
     t
-}
-
-// The ranks to take next where so many are left: a group, or what is left.
-fn next_group(left: usize) -> usize
-    ensures { λ n. ⌜ (n ≤ left) × (1 ≤ left → 1 ≤ n) ⌝ }
-{
-    if left < 128 {
-        return left;
-    }
-    128
 }
 
 // From rank 0 on to rank n, group by group, as long as the position stays below the target.

@@ -1,124 +1,100 @@
--- The pass over the ranks. Assumes nothing.
-use Prim.Native.Nat.{ℕ, _+_, _*_, _-_, _^_, _≤_, _<_}
-use mathlib.Core.Path.{_≡_, sym, ap, _∙_}
+-- The pass over all ranks. Assumes nothing.
+use Prim.Native.Nat.{_+_, _*_, _-_, _≤_}
+use mathlib.Core.Path.{_≡_, sym, _∙_}
 use native.Mathlib.Nat.{pos-of-ne-zero}
 use native.Mathlib.Omega.{arith}
-use lib.Arith.{lt-of-le-ne}
-use lib.ListN.{length}
-use Rattle.format.specs.Bytes.{field}
-use Rattle.jumps.specs.Pass.{Laid, passesFrom}
-use Rattle.jumps.proofs.Turns.{reach-most, entry-room, jump-room, over, over-jump, turn-difference, turn-none, turn-near, turn-jump}
+use borrow.Author.Tests.{not-true, not-false}
+use Rattle.format.specs.Tools.{both}
+use Rattle.jumps.specs.Pass.{passesFrom, passesOn}
+use Rattle.jumps.proofs.Turns.{none, reach-most, over, over-jump, passes-whole}
+use Rattle.jumps.proofs.Groups.{readable}
 use borrow.Author.Needs.{needs}
 use Rattle.jumps.proofs.check.pass.Statement.{statement}
 use Rattle.jumps.proofs.check.pass.Tie as tie
 
--- i ranks and `taken` jumps are passed, and what is left tells the whole
+-- rank i is reached, and what is left tells the whole
 abbrev Inv-loop : tie.InvT-loop
-Inv-loop file v width reach n firsts start second least₀ taken₀ i₀ least taken i =
-    (i ≤ n) × (taken ≤ firsts) × (least ≤ 4295032832 + 65536 * i) × (passesFrom v file least taken i ≡ passesFrom v file 0 0 0)
+Inv-loop file v width reach n second s₀ i₀ s i =
+    (i ≤ n)
+    × (4 * s .left ≤ v .second)
+    × (s .least ≤ 4295032832 + 65536 * i)
+    × (passesOn width (v .second) (v .words) (v .cells) file (s .least) (s .left) i ≡ passesFrom v file 0 0 0)
 
 abbrev μ-loop : tie.MeasureT-loop
-μ-loop file v width reach n firsts start second least₀ taken₀ i₀ least taken i = n - i
+μ-loop file v width reach n second s₀ i₀ s i = n - i
 
--- where a turn comes from
-abbrev start : tie.In-loop Inv-loop μ-loop → tie.Start Inv-loop μ-loop
-start c = c .before .before .before .before .before .before .before
+loop-holds : tie.Need-loop-holds Inv-loop μ-loop
+loop-holds c =
+    let o = c .before .before .before .before in
+    let a = o .args in
+    let p = o .pre .0 .place in
+    (omega arith, omega arith, omega arith, rw (o .pre .1) (sym (passes-whole (a .v) (a .file .now) p)))
 
--- the header's counts and places, and what a difference reaches
-frame : (c : tie.In-loop Inv-loop μ-loop) → Laid (start c .args .file .now) (start c .args .v)
-frame c = start c .pre .0
+-- the next group is a part of the ranks
+ends : (c : tie.After-next-group Inv-loop μ-loop) → c .before .before .loop .i + c .next-group .result ≤ c .before .before .before .before .before .before .before .args .v .words
+ends c = let m = c .next-group .ensures .0 in let h = c .before .loop-test .taken in omega arith
 
-reach-of : (c : tie.Start Inv-loop μ-loop) → c .args .reach ≡ 256 ^ c .args .v .width
-reach-of c = c .pre .2 ∙ ap (λ (w : ℕ). 256 ^ w) (c .pre .1)
+add-end : tie.Need-add-end Inv-loop μ-loop
+add-end c = let m = ends c in omega arith
 
-reaches : (c : tie.Start Inv-loop μ-loop) → c .args .reach ≤ 65536
-reaches c = reach-most (reach-of c) (c .pre .0 .wide)
+pass-group-requires : tie.Need-pass-group-requires Inv-loop μ-loop
+pass-group-requires c κs =
+    let o = c .before .before .before .before .before .before .before in
+    let l = c .before .before .loop in
+    (readable (o .args .file .now) (o .args .v) (o .pre .0) (o .pre .1) (l .i) _ (l .s) (omega arith) (ends c) (l .inv .1) (l .inv .2), o .pre .2)
 
--- the difference read is the entry of rank i
-entry : (c : tie.After-difference Inv-loop μ-loop)
-    → let v = start (c .before) .args .v in
-    c .difference .result ≡ field (v .width) (v .second + v .width * c .before .before .loop .i) (start (c .before) .args .file .now)
-entry c = rw (start (c .before) .pre .1) at (c .difference .ensures .0)
+-- what is left after a group, by whether it was right
+after : (c : tie.After-pass-group Inv-loop μ-loop)
+    → let a = c .before .before .before .before .before .before .before .before .args in
+    let l = c .before .before .before .loop in
+    let t = c .pass-group .result in
+    both (t .right) (passesOn (a .width) (a .v .second) (a .v .words) (a .v .cells) (a .file .now) (t .least) (t .left) (l .i + c .before .next-group .result))
+    ≡ passesFrom (a .v) (a .file .now) 0 0 0
+after c =
+    let v = c .before .before .before .before .before .before .before .before .args .v in
+    sym (c .pass-group .ensures .same (v .words) (v .cells) (ends (c .before))) ∙ c .before .before .before .loop .inv .3
 
-difference-requires : tie.Need-difference-requires Inv-loop μ-loop
-difference-requires c κs = entry-room _ _ (c .before .loop .i) (frame c) (start c .pre .1) (c .loop-test .taken)
+returns : tie.Need-returns Inv-loop μ-loop
+returns c = rw (not-true (c .before .before .pass-group .result .right) (c .if1 .taken)) at (after (c .before .before))
+
+loop-less : tie.Need-loop-less Inv-loop μ-loop
+loop-less c =
+    let h = c .before .before .before .before .loop-test .taken in
+    let m = c .before .before .before .next-group .ensures .1 (omega arith) in
+    omega arith
 
 loop-again : tie.Need-loop-again Inv-loop μ-loop
 loop-again c =
-    let t = c .before .before in
-    let a = start t .args in
-    let l = t .before .loop in
-    let e = turn-difference (a .v) (a .file .now) (l .least) (l .taken) (l .i) (t .loop-test .taken) (entry (c .before)) (pos-of-ne-zero (c .if1 .taken)) in
-    (omega arith, l .inv .1, omega arith, sym e ∙ l .inv .3)
-
-returns : tie.Need-returns Inv-loop μ-loop
-returns c =
-    let t = c .before .before .before in
-    let a = start t .args in
-    let l = t .before .loop in
-    let q = c .if2 .taken in
-    sym (turn-none (a .v) (a .file .now) (l .least) (l .taken) (l .i) (t .loop-test .taken) (entry (c .before .before)) (c .before .if1 .left) (omega arith)) ∙ l .inv .3
-
--- a jump is left, and lies in the file
-more : (c : tie.Else2 Inv-loop μ-loop) → c .before .before .before .before .loop .taken < start (c .before .before .before) .args .v .firsts
-more c = lt-of-le-ne (c .before .before .before .before .loop .inv .1) (c .if2 .left)
-
-inside : (c : tie.Else2 Inv-loop μ-loop) → start (c .before .before .before) .args .v .start + 4 * c .before .before .before .before .loop .taken + 4 ≤ length (start (c .before .before .before) .args .file .now)
-inside c = jump-room _ _ _ (frame (c .before .before .before)) (more c)
-
-mul-get-u32 : tie.Need-mul-get-u32 Inv-loop μ-loop
-mul-get-u32 c = let h = inside c in omega arith
-
-add-get-u32 : tie.Need-add-get-u32 Inv-loop μ-loop
-add-get-u32 c = let h = inside c in omega arith
-
-get-u32-requires : tie.Need-get-u32-requires Inv-loop μ-loop
-get-u32-requires c κs = inside c
+    let l = c .before .before .before .before .before .loop in
+    let g = c .before .before .pass-group .ensures in
+    let n = g .left in
+    let j = l .inv .1 in
+    (ends (c .before .before .before), omega arith, g .least, rw (not-false (c .before .before .pass-group .result .right) (c .if1 .left)) at (after (c .before .before)))
 
 returns-2 : tie.Need-returns-2 Inv-loop μ-loop
 returns-2 c =
-    let t = c .before .before .before .before .before in
-    let a = start t .args in
-    let l = t .before .loop in
-    let k = more (c .before .before) in
-    let q = entry (c .before .before .before .before) in
-    let z = c .before .before .before .if1 .left in
-    sym (turn-near (a .v) (a .file .now) (l .least) (l .taken) (l .i) (t .loop-test .taken) q z k (c .before .get-u32 .ensures .0) (c .if3 .taken)) ∙ l .inv .3
+    let a = c .before .before .before .before .before .before .before .before .args in
+    let l = c .before .before .before .loop in
+    sym (over-jump (a .width) (a .v .second) (a .v .words) (a .v .cells) (a .file .now) (l .s .least) (l .s .left) (l .i) (c .before .before .loop-test .left)
+    (pos-of-ne-zero (c .if2 .taken)) (l .inv .1))
+    ∙ l .inv .3
 
-add-least-2 : tie.Need-add-least-2 Inv-loop μ-loop
-add-least-2 c = let m = reaches (start (c .before .before .before .before .before)) in let r = c .before .get-u32 .ensures .1 in omega arith
-
-loop-again-2 : tie.Need-loop-again-2 Inv-loop μ-loop
-loop-again-2 c =
-    let t = c .before .before .before .before .before in
-    let a = start t .args in
-    let l = t .before .loop in
-    let k = more (c .before .before) in
-    let m = reaches (start t) in
-    let r = c .before .get-u32 .ensures in
-    let r1 = r .1 in
-    let q = entry (c .before .before .before .before) in
-    let z = c .before .before .before .if1 .left in
-    let e = turn-jump (a .v) (a .file .now) (l .least) (l .taken) (l .i) (t .loop-test .taken) q z k (r .0) (reach-of (start t)) (c .if3 .left) in
-    (omega arith, omega arith, omega arith, sym e ∙ l .inv .3)
+add-result : tie.Need-add-result Inv-loop μ-loop
+add-result c =
+    let o = c .before .before .before .before .before .before .before .before .before in
+    let w : o .args .width ≤ 2 = rw (o .pre .1) (o .pre .0 .wide) in
+    let m = reach-most (o .pre .2) w in
+    omega arith
 
 returns-3 : tie.Need-returns-3 Inv-loop μ-loop
 returns-3 c =
-    let a = c .before .before .before .before .before .before .before .before .args in
-    let l = c .before .before .loop in
-    sym (over-jump (a .v) (a .file .now) (l .least) (l .taken) (l .i) (c .before .loop-test .left) (lt-of-le-ne (l .inv .1) (c .if4 .taken))) ∙ l .inv .3
-
-add-result : tie.Need-add-result Inv-loop μ-loop
-add-result c = let m = reaches (c .before .before .before .before .before .before .before .before .before) in omega arith
-
-returns-4 : tie.Need-returns-4 Inv-loop μ-loop
-returns-4 c =
-    let o = c .before .before .before .before .before .before .before .before .before in
+    let o = c .before .before .before .before .before .before .before .before .before .before in
     let a = o .args in
-    let l = c .before .before .before .loop in
-    let q = c .before .if4 .left in
-    let h : a .v .firsts ≤ l .taken = omega arith in
-    sym (over (a .v) (a .file .now) (l .least) (l .taken) (l .i) (reach-of o) (c .before .before .loop-test .left) h) ∙ l .inv .3
+    let l = c .before .before .before .before .before .loop in
+    let q = c .before .before .if2 .left in
+    sym (over (a .width) (a .v .second) (a .v .words) (a .v .cells) (a .file .now) (l .s .least) (l .s .left) (l .i) (o .pre .2)
+    (c .before .before .before .before .loop-test .left) (none q))
+    ∙ l .inv .3
 
 pub pass-spec : {M : Type 1} → statement M
 pass-spec =
@@ -129,25 +105,15 @@ pass-spec =
     (λ c. search needs)
     (λ c. search needs)
     (λ c. search needs)
+    loop-holds
     (λ c. search needs)
-    (λ c. search needs)
-    difference-requires
-    (λ c. search needs)
-    (λ c. search needs)
-    (λ c. search needs)
-    (λ c. search needs)
-    loop-again
+    (λ c κs. search needs)
+    add-end
+    pass-group-requires
     returns
-    mul-get-u32
-    add-get-u32
-    get-u32-requires
-    (λ c. search needs)
+    loop-less
+    loop-again
     returns-2
     (λ c. search needs)
-    add-least-2
-    (λ c. search needs)
-    loop-again-2
-    returns-3
-    (λ c. search needs)
     add-result
-    returns-4)
+    returns-3)

@@ -3,7 +3,8 @@ use Prim.Native.Nat.{_+_, _-_, _≤_, _<_}
 use mathlib.Core.Path.{_≡_}
 use native.Mathlib.Omega.{arith}
 use Rattle.jumps.specs.Walk.{walked, Within}
-use Rattle.jumps.proofs.Walked.{origin, earlier, walked-start, walked-further}
+use Rattle.jumps.proofs.Walked.{origin, walked-start, walked-further}
+use Rattle.jumps.proofs.Groups.{earlier}
 use borrow.Author.Needs.{needs}
 use Rattle.jumps.proofs.search.walk.Statement.{statement}
 use Rattle.jumps.proofs.search.walk.Tie as tie

@@ -3,7 +3,8 @@ use Prim.Native.Nat.{_+_, _-_, _≤_}
 use mathlib.Core.Path.{_≡_, sym, _∙_}
 use native.Mathlib.Omega.{arith}
 use Rattle.jumps.specs.Walk.{walked, Room, Within}
-use Rattle.jumps.proofs.Walked.{earlier, walked-start, walked-next, group-sum}
+use Rattle.jumps.proofs.Walked.{walked-start, walked-next, group-sum}
+use Rattle.jumps.proofs.Groups.{earlier}
 use borrow.Author.Needs.{needs}
 use Rattle.jumps.proofs.search.walk_group.Statement.{statement}
 use Rattle.jumps.proofs.search.walk_group.Tie as tie

@@ -4,8 +4,8 @@ use mathlib.Core.Path.{_≡_}
 use native.Mathlib.Omega.{arith}
 use lib.ListN.{length}
 use Rattle.wire.proofs.Laws.{other-width}
-use Rattle.jumps.proofs.check.difference.Statement.{statement}
-use Rattle.jumps.proofs.check.difference.Tie as tie
+use Rattle.jumps.proofs.differences.difference.Statement.{statement}
+use Rattle.jumps.proofs.differences.difference.Tie as tie
 
 -- where the bytes of the entry stand, at each width
 one : (c : tie.Then1) → c .before .before .args .second + c .before .before .args .i + 1 ≤ length (c .before .before .args .file .now)

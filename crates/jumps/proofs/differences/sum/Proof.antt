@@ -3,10 +3,10 @@ use Prim.Native.Nat.{_+_, _*_, _-_, _≤_}
 use mathlib.Core.Path.{_≡_}
 use native.Mathlib.Omega.{arith}
 use Rattle.jumps.specs.Walk.{total, Room}
-use Rattle.jumps.proofs.Walked.{earlier, total-start, total-next}
+use Rattle.jumps.proofs.Groups.{earlier, total-start, total-next}
 use borrow.Author.Needs.{needs}
-use Rattle.jumps.proofs.search.sum.Statement.{statement}
-use Rattle.jumps.proofs.search.sum.Tie as tie
+use Rattle.jumps.proofs.differences.sum.Statement.{statement}
+use Rattle.jumps.proofs.differences.sum.Tie as tie
 
 -- k differences are added
 abbrev Inv-loop : tie.InvT-loop

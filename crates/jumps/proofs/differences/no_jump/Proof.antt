@@ -1,0 +1,30 @@
+-- Whether a group holds no jump, at each width. Assumes nothing.
+use Prim.Native.Nat.{_+_}
+use mathlib.Core.Path.{_≡_}
+use Rattle.wire.proofs.Laws.{other-width}
+use Rattle.jumps.specs.Walk.{Room}
+use Rattle.jumps.proofs.Groups.{none-counted}
+use Rattle.jumps.proofs.differences.no_jump.Statement.{statement}
+use Rattle.jumps.proofs.differences.no_jump.Tie as tie
+
+two : (c : tie.Else1) → c .before .before .args .width ≡ 2
+two c = let z = c .before .before .pre in other-width _ (z .narrow) (z .wide) (c .if1 .left)
+
+zeros-u8-requires : tie.Need-zeros-u8-requires
+zeros-u8-requires c κs = rw (c .if1 .taken) at (c .before .before .pre)
+
+returns : tie.Need-returns
+returns c =
+    let a = c .before .before .before .args in
+    rw (c .before .if1 .taken) (none-counted 1 (a .second) (a .file .now) (a .r) 128 (c .zeros-u8 .ensures))
+
+zeros-u16-requires : tie.Need-zeros-u16-requires
+zeros-u16-requires c κs = rw (two c) at (c .before .before .pre)
+
+returns-2 : tie.Need-returns-2
+returns-2 c =
+    let a = c .before .before .before .args in
+    rw (two (c .before)) (none-counted 2 (a .second) (a .file .now) (a .r) 128 (c .zeros-u16 .ensures))
+
+pub no-jump-spec : {M : Type 1} → statement M
+no-jump-spec = tie.close (tie.spec zeros-u8-requires returns zeros-u16-requires returns-2)
