@@ -1,7 +1,7 @@
 #!/usr/bin/env python3
 """Writes docs/performance/*.svg and the generated parts of docs/PERFORMANCE.md from the raw output of one run.
 
-    figures.py [FOLDER]    FOLDER has bench.txt, sizes.txt and conditions.txt; without it the last run's, docs/performance/run
+    figures.py [FOLDER]    FOLDER has bench.txt, sizes.txt and conditions.txt, and peers.txt where the peers were asked; without it the last run's, docs/performance/run
 
 Nothing is written unless the whole run is fit for it.
 """
@@ -15,7 +15,7 @@ import page
 import ratio_plot
 import size_plot
 import tables
-from results import FILES, Unfit, read_run
+from results import FILES, PEERS, Unfit, read_run
 
 DOCS = Path(__file__).resolve().parents[2] / "docs"
 DOCUMENT = Path("PERFORMANCE.md")
@@ -36,8 +36,11 @@ def main():
         files = generated(read_run(folder), (DOCS / DOCUMENT).read_text())
     except Unfit as error:
         sys.exit(f"figures: {error}; nothing written")
-    files.update({str(RUN / name): (folder / name).read_text() for name in FILES})
+    found = [name for name in [*FILES, PEERS] if (folder / name).exists()]
+    files.update({str(RUN / name): (folder / name).read_text() for name in found})
     (DOCS / RUN).mkdir(parents=True, exist_ok=True)
+    if PEERS not in found:
+        (DOCS / RUN / PEERS).unlink(missing_ok=True)
     for name, text in files.items():
         (DOCS / name).write_text(text)
         print(f"docs/{name}: {len(text.encode()):,} bytes")

@@ -9,8 +9,10 @@ Line = namedtuple("Line", "texture kind call peer engine unit ratio")
 Growth = namedtuple("Growth", "kind call who times ratios")
 # means["call"]["make"], also by "kind" and "texture"
 Bench = namedtuple("Bench", "pictures lines growth mean means steepest")
-# sizes[texture][name] in bytes, cells or stored cells
-Run = namedtuple("Run", "bench sizes conditions")
+# a store of positions asked beside the engine: ns for the rank at a position and for the position of a rank, bytes without the words
+Peer = namedtuple("Peer", "texture store rank position bytes")
+# sizes[texture][name] in bytes, cells or stored cells; `peers` is empty where they were not asked
+Run = namedtuple("Run", "bench sizes conditions peers")
 
 KIND = r"(\d(?: w\d+)?(?: [lb]\d+)?)"
 TIME = r"(\d+\.\d{3})"
@@ -24,6 +26,7 @@ MEANS = {name: re.compile(rf"geometric means by {name}:  (.+)$") for name in ("c
 STEEPEST = re.compile(r"steepest growth .*: peer (\S+), engine (\S+); .*: peer (\S+), engine (\S+)$")
 
 FILES = ["bench.txt", "sizes.txt", "conditions.txt"]
+PEERS = "peers.txt"
 
 
 class Unfit(Exception):
@@ -112,8 +115,18 @@ def read_sizes(text, pictures):
     return sizes
 
 
+def read_peers(text, pictures):
+    """The stores of positions; each was asked on each picture that was timed."""
+    peers = [Peer(texture, store, float(rank), float(position), int(size)) for texture, store, rank, position, size in read_fields(text, 5)]
+    whole(peers, ["texture"], "store")
+    if {peer.texture for peer in peers} != set(pictures):
+        raise Unfit("the peers were asked on other pictures than those timed")
+    return peers
+
+
 def read_run(folder):
-    """The raw output in a folder (a pathlib.Path)."""
+    """The raw output in a folder (a pathlib.Path); the peers' is there or not."""
     bench_text, sizes_text, conditions_text = [(folder / name).read_text() for name in FILES]
     bench = read_bench(bench_text)
-    return Run(bench, read_sizes(sizes_text, bench.pictures), dict(read_fields(conditions_text, 2)))
+    peers = read_peers((folder / PEERS).read_text(), bench.pictures) if (folder / PEERS).exists() else []
+    return Run(bench, read_sizes(sizes_text, bench.pictures), dict(read_fields(conditions_text, 2)), peers)

@@ -100,4 +100,21 @@ def sizes(results):
     return f"![{alt}](performance/sizes.svg)\n\n" + table(["Bytes", *raw], lines)
 
 
-PARTS = {"run": run, "ratios": ratios, "means": means, "worst": worst_lines, "growth": growth, "sizes": sizes}
+def peers(results):
+    """A row for each store of positions: its times and its bytes a stored cell, for each picture."""
+    if not results.peers:
+        return "Not measured in this run: it had no `--peers`."
+    pictures = results.bench.pictures
+    by_key = {(peer.store, peer.texture): peer for peer in results.peers}
+    head = ["Store", *(f"{texture}: {what}" for texture in pictures for what in ("rank, ns", "position, ns", "bytes a cell"))]
+    rows = []
+    for store in dict.fromkeys(peer.store for peer in results.peers):
+        cells = []
+        for texture, picture in pictures.items():
+            peer = by_key[store, texture]
+            cells += [f"{peer.rank:,.1f}", f"{peer.position:,.1f}", f"{peer.bytes / picture.stored:.2f}"]
+        rows.append([store, *cells])
+    return table(head, rows)
+
+
+PARTS = {"run": run, "ratios": ratios, "means": means, "worst": worst_lines, "growth": growth, "sizes": sizes, "peers": peers}

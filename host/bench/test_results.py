@@ -2,11 +2,12 @@
 import unittest
 from pathlib import Path
 
-from results import Picture, Unfit, geometric_mean, read_bench, read_run, read_sizes
+from results import Peer, Picture, Unfit, geometric_mean, read_bench, read_peers, read_run, read_sizes
 
 SAMPLE = Path(__file__).parent / "sample"
 BENCH = (SAMPLE / "bench.txt").read_text()
 SIZES = (SAMPLE / "sizes.txt").read_text()
+PEERS = (SAMPLE / "peers.txt").read_text()
 
 
 class Reading(unittest.TestCase):
@@ -89,6 +90,18 @@ class Refusing(unittest.TestCase):
             read_sizes(SIZES + "sea zstd\n", read_bench(BENCH).pictures)
         with self.assertRaisesRegex(Unfit, "3 fields"):
             read_sizes("", {})
+
+
+class Peers(unittest.TestCase):
+    def test_read(self):
+        self.assertEqual(read_run(SAMPLE).peers[1], Peer("sea", "Roaring", 411.2, 812.0, 35948))
+
+    def test_each_on_each_picture(self):
+        pictures = read_bench(BENCH).pictures
+        rows = PEERS.splitlines(keepends=True)
+        for text in ["".join(rows[:3]), "".join(rows[:2]), PEERS.replace("harbour", "coast"), PEERS.replace("\t35948", "")]:
+            with self.assertRaises(Unfit):
+                read_peers(text, pictures)
 
 
 if __name__ == "__main__":

@@ -53,6 +53,12 @@ class Tables(unittest.TestCase):
         self.assertEqual(row(text, "sea"), ["sea", "16,777,216", "179,124", "1.1 %"])
         self.assertEqual(row(text, "date"), ["date", "2024-11-15"])
 
+    def test_peers(self):
+        text = tables.peers(RUN)
+        self.assertEqual(row(text, "Roaring"), ["Roaring", "411.2", "812.0", "0.20", "180.8", "1,863.7", "0.25"])
+        self.assertEqual(row(text, "Store")[1:4], ["sea: rank, ns", "sea: position, ns", "sea: bytes a cell"])
+        self.assertIn("--peers", tables.peers(RUN._replace(peers=[])))
+
     def test_ratios(self):
         text = tables.ratios(RUN)
         self.assertEqual(row(text, "Picture"), ["Picture", "Kind", "check", "change to 4 w2", "opened rank", "box 64x64"])
