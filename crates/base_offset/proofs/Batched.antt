@@ -108,7 +108,7 @@ module _ (b : List ℕ) (v : View) where
         rw (next-stand c i p (omega arith) (omega arith))
         (stepped-stand m (i + 1) (add32 (c .base) (entryOf b v (c .rank + (i + 1)))) q (omega arith) (omega arith) ∙ rw x)
 
-    pub along-batch : (n : ℕ) (r : Cursor) (out : List ℕ) → There b v c n → 1 ≤ n → n ≤ 1 + (v .step - c .used)
+    pub along-batch : (n : ℕ) (r : Cursor) (out : List ℕ) → There b (v .width) (v .second) (c .rank) n → 1 ≤ n → n ≤ 1 + (v .step - c .used)
         → out ≡ set (sums (c .base) (numbersOf w n (drop (v .second + w * c .rank) b))) 0 (c .at) → r ≡ next b v (stand c (n - 1) (c .at))
         → Batch (next b v) c n r out
     along-batch zero r out t s h o q = absurd (omega arith)
@@ -143,8 +143,8 @@ rank-stepped b v (suc m) c h =
     let z : next b v c .rank ≡ c .rank + 1 = walks .rank b v c ∙ add32-small (c .rank) 1 (omega arith) in
     rank-stepped b v m (next b v c) (omega arith) ∙ omega arith
 
-module _ (b : List ℕ) (v : View) (c : Cursor) (i n j : ℕ) (t : Cut (1 + (v .step - c .used)) i n j) (h : There b v c (n - i)) where
-  pub there-front : There b v c (j - i)
+module _ (b : List ℕ) (v : View) (c : Cursor) (i n j : ℕ) (t : Cut (1 + (v .step - c .used)) i n j) (h : There b (v .width) (v .second) (c .rank) (n - i)) where
+  pub there-front : There b (v .width) (v .second) (c .rank) (j - i)
   there-front =
       let a = t .more in
       let d = t .inside in
@@ -153,7 +153,7 @@ module _ (b : List ℕ) (v : View) (c : Cursor) (i n j : ℕ) (t : Cut (1 + (v .
       let m : w b v * (c .rank + (j - i)) ≤ w b v * (c .rank + (n - i)) = mul-le-mul (le-refl (w b v)) (omega arith) in
       record { size = h .size; ranks = omega arith; long = omega arith }
 
-  pub there-rest : (r : Cursor) → r ≡ steppedAs (next b v) c (j - i) → There b v r (n - j)
+  pub there-rest : (r : Cursor) → r ≡ steppedAs (next b v) c (j - i) → There b (v .width) (v .second) (r .rank) (n - j)
   there-rest r q =
       let a = t .more in
       let d = t .inside in

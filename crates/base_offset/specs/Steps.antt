@@ -33,11 +33,11 @@ next b v c = offsetFrom b v (baseOf b v c)
 
 -- ---- many ranks at a time
 
--- the offsets of the n ranks from the cursor's on, of 1 or 2 bytes, are all in the file
-pub record There (b : List ℕ) (v : View) (c : Cursor) (n : ℕ) : Type 0 where
-  pub size : 1 ≤ entrySize (v .width)
-  pub ranks : c .rank + n < 2 ^ 32
-  pub long : v .second + entrySize (v .width) * (c .rank + n) ≤ length b
+-- the offsets of n ranks from a rank on, of 1 or 2 bytes, are all in the file
+pub record There (b : List ℕ) (width second rank n : ℕ) : Type 0 where
+  pub size : 1 ≤ entrySize width
+  pub ranks : rank + n < 2 ^ 32
+  pub long : second + entrySize width * (rank + n) ≤ length b
 
 -- each of the numbers with the base added
 unfoldable pub sums : ℕ → List ℕ → List ℕ

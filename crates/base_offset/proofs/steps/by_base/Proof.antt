@@ -13,7 +13,7 @@ use Rattle.base_offset.proofs.steps.by_base.Tie as tie
 
 abbrev Inv-loop : tie.InvT-loop
 Inv-loop file v c₀ out₀ i₀ c out i =
-    (i ≤ length out₀) × (length out ≡ length out₀) × Partly (next file v) c₀ (length out₀) c out i × There file v c (length out₀ - i)
+    (i ≤ length out₀) × (length out ≡ length out₀) × Partly (next file v) c₀ (length out₀) c out i × There file (v .width) (v .second) (c .rank) (length out₀ - i)
 
 abbrev μ-loop : tie.MeasureT-loop
 μ-loop file v c₀ out₀ i₀ c out i = length out₀ - i
@@ -32,7 +32,7 @@ turn c =
 loop-holds : tie.Need-loop-holds Inv-loop μ-loop
 loop-holds c =
     let s = c .before .before in
-    (omega arith, refl, batch-start _ _ _ _, subst (There (s .args .file .now) (s .args .v) (s .args .c)) (omega arith) (s .pre))
+    (omega arith, refl, batch-start _ _ _ _, subst (There (s .args .file .now) (s .args .v .width) (s .args .v .second) (s .args .c .rank)) (omega arith) (s .pre))
 
 add-end : tie.Need-add-end Inv-loop μ-loop
 add-end c = let t = turn c .inside in search needs
