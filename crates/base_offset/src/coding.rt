@@ -98,6 +98,7 @@ fn put_offsets_u16(dst: &mut [u8], at: usize, base: u32, ps: &[u32])
     }
 }
 
+// The same by the width.
 fn put_offsets(dst: &mut [u8], at: usize, width: u32, base: u32, ps: &[u32])
     requires { ⌜ Rising base 16777216 (now ps) × (at + width * length (now ps) ≤ length (now dst)) × (1 ≤ width) × (width ≤ 2) ⌝ }
     ensures { λ _. ⌜ now (dst .exit) ≡ put (now (dst .entry)) at (bytesOf width (offsetsOver base (now (ps .entry)))) ⌝ }
