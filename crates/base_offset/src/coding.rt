@@ -33,17 +33,16 @@ fn served(step: u32, left: u32, n: usize) -> usize
 }
 
 // The encoder with the base of p: its own, or p where none is left to serve it.
-fn with_base(step: u32, e: Encoder, p: u32) -> Encoder
+fn with_base(step: u32, mut e: Encoder, p: u32) -> Encoder
     requires { ⌜ Next e p ⌝ }
     ensures { λ r. ⌜ r ≡ opened step e p ⌝ }
 {
-    let mut at = e;
-    if at.left == 0 {
-        at.left = step;
-        at.base = p;
-        at.first += 4;
+    if e.left == 0 {
+        e.left = step;
+        e.base = p;
+        e.first += 4;
     }
-    at
+    e
 }
 
 // Each offset so far fits, and one more.
@@ -55,23 +54,23 @@ fn still_fits(width: u32, fits: bool, offset: u32) -> bool
 }
 
 // The encoder after the positions of one base. They rise, so the last offset is the largest.
-fn take_group(width: u32, step: u32, e: Encoder, ps: &[u32]) -> Encoder
+fn take_group(width: u32, step: u32, mut e: Encoder, ps: &[u32]) -> Encoder
     requires { ⌜ OneBase step e (now ps) × (1 ≤ width) × (width ≤ 2) × (1 ≤ step) ⌝ }
     ensures { λ r. ⌜ r ≡ takenAllBy (coder width step) e (now (ps .entry)) ⌝ }
 {
-    let at = with_base(step, e, ps[0]);
+    e = with_base(step, e, ps[0]);
     let n = ps.len();
     let last = ps[n - 1];
     Encoder {
-        rank: at.rank + n as u32,
+        rank: e.rank + n as u32,
         last,
-        left: at.left - n as u32,
-        base: at.base,
-        cells: at.cells,
-        empty: at.empty,
-        first: at.first,
-        second: at.second + width as usize * n,
-        fits: still_fits(width, at.fits, last - at.base),
+        left: e.left - n as u32,
+        base: e.base,
+        cells: e.cells,
+        empty: e.empty,
+        first: e.first,
+        second: e.second + width as usize * n,
+        fits: still_fits(width, e.fits, last - e.base),
     }
 }
 
@@ -99,6 +98,7 @@ fn put_offsets_u16(dst: &mut [u8], at: usize, base: u32, ps: &[u32])
     }
 }
 
+// The same by the width.
 fn put_offsets(dst: &mut [u8], at: usize, width: u32, base: u32, ps: &[u32])
     requires { ⌜ Rising base 16777216 (now ps) × (at + width * length (now ps) ≤ length (now dst)) × (1 ≤ width) × (width ≤ 2) ⌝ }
     ensures { λ _. ⌜ now (dst .exit) ≡ put (now (dst .entry)) at (bytesOf width (offsetsOver base (now (ps .entry)))) ⌝ }
@@ -124,33 +124,31 @@ fn put_group(dst: &mut [u8], width: u32, step: u32, e: Encoder, ps: &[u32]) -> E
 }
 
 // The encoder after the positions, with nothing put out.
-pub fn take_all(width: u32, step: u32, e: Encoder, ps: &[u32]) -> Encoder
+pub fn take_all(width: u32, step: u32, mut e: Encoder, ps: &[u32]) -> Encoder
     requires { ⌜ (basedKind width step .allowed ≡ true) × Along e (now ps) ⌝ }
     ensures { λ r. ⌜ r ≡ takenAllBy (coder width step) e (now (ps .entry)) ⌝ }
 {
-    let mut at = e;
     let mut i: usize = 0;
     while i < ps.len() {
-        let end = i + served(step, at.left, ps.len() - i);
-        at = take_group(width, step, at, &ps[i..end]);
+        let end = i + served(step, e.left, ps.len() - i);
+        e = take_group(width, step, e, &ps[i..end]);
         i = end;
     }
-    at
+    e
 }
 
 // The bytes that the positions add; the encoder after them.
-pub fn put_all(dst: &mut [u8], width: u32, step: u32, e: Encoder, ps: &[u32]) -> Encoder
+pub fn put_all(dst: &mut [u8], width: u32, step: u32, mut e: Encoder, ps: &[u32]) -> Encoder
     requires { ⌜ (basedKind width step .allowed ≡ true) × Along e (now ps) × RoomAll (coder width step) e (now ps) (length (now dst)) ⌝ }
     ensures { λ r. ⌜ (r ≡ takenAllBy (coder width step) e (now (ps .entry))) × (now (dst .exit) ≡ putAllBy (coder width step) (now (dst .entry)) e (now (ps .entry))) ⌝ }
 {
-    let mut at = e;
     let mut i: usize = 0;
     while i < ps.len() {
-        let end = i + served(step, at.left, ps.len() - i);
-        at = put_group(dst, width, step, at, &ps[i..end]);
+        let end = i + served(step, e.left, ps.len() - i);
+        e = put_group(dst, width, step, e, &ps[i..end]);
         i = end;
     }
-    at
+    e
 }
 
 // The end adds nothing.

@@ -15,7 +15,7 @@ ghost use lib.ListN.{length, drop};
 ghost use Rattle.format.specs.Bytes.{numbersOf};
 ghost use Rattle.wire.specs.Wire.{entrySize};
 ghost use Rattle.parts.specs.Cursor.{Batch};
-ghost use Rattle.base_offset.specs.Steps.{baseOf, offsetFrom, next, There, sums};
+ghost use Rattle.base_offset.specs.Steps.{baseOf, offsetFrom, next, There, SameBase, aheadOf, sums};
 
 // The base of the next rank: the same, or the next one.
 fn base_of(file: &[u8], v: View, mut c: Cursor) -> Cursor
@@ -47,22 +47,22 @@ pub fn next(file: &[u8], v: View, c: Cursor) -> Cursor
     offset_from(file, v, base_of(file, v, c))
 }
 
-// Whether the offsets of the n ranks from the cursor's on are all there.
-fn all_there(file: &[u8], v: View, c: Cursor, n: usize) -> bool
-    ensures { λ r. ⌜ (r ≡ true → There (now (file .entry)) v c n) ⌝ }
+// Whether the offsets of n ranks from a rank on are all there.
+fn all_there(file: &[u8], width: u32, second: u32, rank: u32, n: usize) -> bool
+    ensures { λ r. ⌜ (r ≡ true → There (now (file .entry)) width second rank n) ⌝ }
 {
     if 65536 < n {
         return false;
     }
-    let end = c.rank as usize + n;
+    let end = rank as usize + n;
     if 4294967295 < end {
         return false;
     }
-    let size = entry_size(v.width);
+    let size = entry_size(width);
     if size == 0 {
         return false;
     }
-    v.second as usize + size * end <= file.len()
+    second as usize + size * end <= file.len()
 }
 
 // The sums of a base and the numbers of one byte from an index on.
@@ -89,71 +89,54 @@ fn sums_u16(file: &[u8], at: usize, base: u32, out: &mut [u32])
     }
 }
 
-// The sums of the cursor's base and the offsets of the ranks from the cursor's on.
-fn offsets(file: &[u8], v: View, c: Cursor, out: &mut [u32])
-    requires { ⌜ There (now file) v c (length (now out)) ⌝ }
-    ensures { λ _. ⌜ now (out .exit) ≡ sums (c .base) (numbersOf (entrySize (v .width)) (length (now (out .entry)))
-        (drop (v .second + entrySize (v .width) * c .rank) (now (file .entry)))) ⌝ }
+// The sums of a base and the offsets of the ranks from a rank on.
+fn offsets(file: &[u8], width: u32, second: u32, rank: u32, base: u32, out: &mut [u32])
+    requires { ⌜ There (now file) width second rank (length (now out)) ⌝ }
+    ensures { λ _. ⌜ now (out .exit) ≡ sums base (numbersOf (entrySize width) (length (now (out .entry))) (drop (second + entrySize width * rank) (now (file .entry)))) ⌝ }
 {
-    let second = v.second as usize;
-    let rank = c.rank as usize;
-    if v.width == 1 {
-        sums_u8(file, second + rank, c.base, out);
+    if width == 1 {
+        sums_u8(file, second as usize + rank as usize, base, out);
     } else {
-        sums_u16(file, second + 2 * rank, c.base, out);
+        sums_u16(file, second as usize + 2 * rank as usize, base, out);
     }
 }
 
-// How many of the next n ranks have the cursor's base, with the cursor's own.
-fn ranks_ahead(step: u32, used: u32, n: usize) -> usize
-    ensures { λ r. ⌜ r ≡ min (1 + (step - used)) n ⌝ }
+// How many of the next n ranks have the cursor's base, with the cursor's own; only that one where offsets are missing.
+fn ranks_ahead(there: bool, step: u32, used: u32, n: usize) -> usize
+    ensures { λ r. ⌜ r ≡ min (aheadOf there step used) n ⌝ }
 {
-    if used < step {
+    if there & (used < step) {
         lesser(1 + (step - used) as usize, n)
     } else {
         lesser(1, n)
     }
 }
 
-// The positions of the ranks from the cursor on, all of the cursor's base but for its own; the cursor after them.
+// The positions of the ranks from the cursor on, all of its base but for its own; the cursor after them.
 fn along(file: &[u8], v: View, mut c: Cursor, out: &mut [u32]) -> Cursor
-    requires { ⌜ There (now file) v c (length (now out)) × (1 ≤ length (now out)) × (length (now out) ≤ 1 + (v .step - c .used)) ⌝ }
+    requires { ⌜ SameBase (now file) v c (length (now out)) ⌝ }
     ensures { λ r. ⌜ Batch (next (now (file .entry)) v) c (length (now (out .entry))) r (now (out .exit)) ⌝ }
 {
-    let more = (out.len() - 1) as u32;
-    offsets(file, v, c, out);
+    let more = out.len() - 1;
+    if 0 < more {
+        offsets(file, v.width, v.second, c.rank, c.base, out);
+    }
     out[0] = c.at;
-    c.rank += more;
-    c.used += more;
+    c.rank += more as u32;
+    c.used += more as u32;
     next(file, v, c)
 }
 
-// The positions of the ranks from the cursor on, base by base, where their offsets are all there; the cursor after them.
-fn by_base(file: &[u8], v: View, mut c: Cursor, out: &mut [u32]) -> Cursor
-    requires { ⌜ There (now file) v c (length (now out)) ⌝ }
-    ensures { λ r. ⌜ Batch (next (now (file .entry)) v) c (length (now (out .entry))) r (now (out .exit)) ⌝ }
-{
-    let mut i: usize = 0;
-    while i < out.len() {
-        let end = i + ranks_ahead(v.step, c.used, out.len() - i);
-        c = along(file, v, c, &mut out[i..end]);
-        i = end;
-    }
-    c
-}
-
-// The positions of the ranks from the cursor on, as many as `out` has elements; the cursor after them.
+// The positions of the ranks from the cursor on, as many as `out` has elements; the cursor after them. After one test they go base by base.
 pub fn positions(file: &[u8], v: View, mut c: Cursor, out: &mut [u32]) -> Cursor
     ensures { λ r. ⌜ Batch (next (now (file .entry)) v) c (length (now (out .entry))) r (now (out .exit)) ⌝ }
 {
-    if all_there(file, v, c, out.len()) {
-        return by_base(file, v, c, out);
-    }
+    let there = all_there(file, v.width, v.second, c.rank, out.len());
     let mut i: usize = 0;
     while i < out.len() {
-        out[i] = c.at;
-        c = next(file, v, c);
-        i += 1;
+        let end = i + ranks_ahead(there, v.step, c.used, out.len() - i);
+        c = along(file, v, c, &mut out[i..end]);
+        i = end;
     }
     c
 }

@@ -12,18 +12,18 @@ use Rattle.base_offset.proofs.coding.put_all.Statement.{statement}
 use Rattle.base_offset.proofs.coding.put_all.Tie as tie
 
 abbrev Inv-loop : tie.InvT-loop
-Inv-loop dst₀ width step ps at₀ i₀ dst at i = Writing (coder width step) ps at₀ dst₀ at dst i
+Inv-loop dst₀ width step e₀ ps i₀ dst e i = Writing (coder width step) ps e₀ dst₀ e dst i
 
 abbrev μ-loop : tie.MeasureT-loop
-μ-loop dst₀ width step ps at₀ i₀ dst at i = length ps - i
+μ-loop dst₀ width step e₀ ps i₀ dst e i = length ps - i
 
 -- the positions of one turn
 turn : (c : tie.After-served Inv-loop μ-loop)
-    → let a = c .before .before .before .before .before .args in let l = c .before .before .loop in Cut (due (a .step) (l .at .left)) (l .i) (length (a .ps .now)) (l .i + c .served .result)
+    → let a = c .before .before .before .before .before .args in let l = c .before .before .loop in Cut (due (a .step) (l .e .left)) (l .i) (length (a .ps .now)) (l .i + c .served .result)
 turn c =
     let s = c .before .before .before .before .before in
     let l = c .before .before .loop in
-    cut (due (s .args .step) (l .at .left)) (l .i) (length (s .args .ps .now)) (c .served .result) (due-some _ _ (allows _ _ (s .pre .0) .step-least))
+    cut (due (s .args .step) (l .e .left)) (l .i) (length (s .args .ps .now)) (c .served .result) (due-some _ _ (allows _ _ (s .pre .0) .step-least))
     (c .before .loop-test .taken) (c .served .ensures)
 
 loop-holds : tie.Need-loop-holds Inv-loop μ-loop
@@ -46,8 +46,8 @@ put-group-requires c κs =
     let l = c .before .before .before .before .loop in
     let t = turn (c .before .before) in
     let a = allows _ _ (s .pre .0) in (
-      one-base (s .args .width) (s .args .step) (s .args .ps .now) (s .args .e) (l .at) (l .i) _ t (l .inv .measured),
-      group-room (s .args .width) (s .args .step) (s .args .ps .now) (s .args .e) (s .args .dst .now) (l .at) (l .dst) (l .i) _ t (l .inv),
+      one-base (s .args .width) (s .args .step) (s .args .ps .now) (s .args .e) (l .e) (l .i) _ t (l .inv .measured),
+      group-room (s .args .width) (s .args .step) (s .args .ps .now) (s .args .e) (s .args .dst .now) (l .e) (l .dst) (l .i) _ t (l .inv),
       a .width-least,
       a .width-most,
       a .step-least,
@@ -66,14 +66,14 @@ loop-again c =
     let l = c .before .before .before .before .before .before .before .loop in
     let o = c .before .before .put-group in
     let a = allows _ _ (s .pre .0) in
-    write-group (s .args .width) (s .args .step) (s .args .ps .now) (s .args .e) (s .args .dst .now) (l .at) (l .dst) (l .i) _ (turn (c .before .before .before .before .before)) (l .inv)
+    write-group (s .args .width) (s .args .step) (s .args .ps .now) (s .args .e) (s .args .dst .now) (l .e) (l .dst) (l .i) _ (turn (c .before .before .before .before .before)) (l .inv)
     (keeps (s .args .width) (s .args .step) (a .width-most)) (o .result) (o .last .0) (o .ensures)
 
 returns : tie.Need-returns Inv-loop μ-loop
 returns c =
     let a = c .before .before .before .before .args in
     let l = c .before .loop in
-    write-end (coder (a .width) (a .step)) (a .ps .now) (a .e) (a .dst .now) (l .at) (l .dst) (l .i) (c .loop-test .left) (l .inv)
+    write-end (coder (a .width) (a .step)) (a .ps .now) (a .e) (a .dst .now) (l .e) (l .dst) (l .i) (c .loop-test .left) (l .inv)
 
 pub put-all-spec : {M : Type 1} → statement M
 put-all-spec =

@@ -12,18 +12,18 @@ use Rattle.base_offset.proofs.coding.take_all.Statement.{statement}
 use Rattle.base_offset.proofs.coding.take_all.Tie as tie
 
 abbrev Inv-loop : tie.InvT-loop
-Inv-loop width step ps at₀ i₀ at i = Measuring (coder width step) ps at₀ at i
+Inv-loop width step e₀ ps i₀ e i = Measuring (coder width step) ps e₀ e i
 
 abbrev μ-loop : tie.MeasureT-loop
-μ-loop width step ps at₀ i₀ at i = length ps - i
+μ-loop width step e₀ ps i₀ e i = length ps - i
 
 -- the positions of one turn
 turn : (c : tie.After-served Inv-loop μ-loop)
-    → let a = c .before .before .before .before .args in let l = c .before .before .loop in Cut (due (a .step) (l .at .left)) (l .i) (length (a .ps .now)) (l .i + c .served .result)
+    → let a = c .before .before .before .before .args in let l = c .before .before .loop in Cut (due (a .step) (l .e .left)) (l .i) (length (a .ps .now)) (l .i + c .served .result)
 turn c =
     let s = c .before .before .before .before in
     let l = c .before .before .loop in
-    cut (due (s .args .step) (l .at .left)) (l .i) (length (s .args .ps .now)) (c .served .result) (due-some _ _ (allows _ _ (s .pre .0) .step-least))
+    cut (due (s .args .step) (l .e .left)) (l .i) (length (s .args .ps .now)) (c .served .result) (due-some _ _ (allows _ _ (s .pre .0) .step-least))
     (c .before .loop-test .taken) (c .served .ensures)
 
 loop-holds : tie.Need-loop-holds Inv-loop μ-loop
@@ -45,7 +45,7 @@ take-group-requires c κs =
     let s = c .before .before .before .before .before in
     let l = c .before .before .before .loop in
     let a = allows _ _ (s .pre .0) in
-    (one-base (s .args .width) (s .args .step) (s .args .ps .now) (s .args .e) (l .at) (l .i) _ (turn (c .before)) (l .inv), a .width-least, a .width-most, a .step-least)
+    (one-base (s .args .width) (s .args .step) (s .args .ps .now) (s .args .e) (l .e) (l .i) _ (turn (c .before)) (l .inv), a .width-least, a .width-most, a .step-least)
 
 loop-less : tie.Need-loop-less Inv-loop μ-loop
 loop-less c =
@@ -59,14 +59,14 @@ loop-again c =
     let s = c .before .before .before .before .before .before in
     let l = c .before .before .before .before .loop in
     let a = allows _ _ (s .pre .0) in
-    measure-group (s .args .width) (s .args .step) (s .args .ps .now) (s .args .e) (l .at) (l .i) _ (turn (c .before .before))
+    measure-group (s .args .width) (s .args .step) (s .args .ps .now) (s .args .e) (l .e) (l .i) _ (turn (c .before .before))
     (keeps (s .args .width) (s .args .step) (a .width-most)) (l .inv) (c .take-group .result) (c .take-group .ensures)
 
 returns : tie.Need-returns Inv-loop μ-loop
 returns c =
     let a = c .before .before .before .args in
     let l = c .before .loop in
-    measure-end (coder (a .width) (a .step)) (a .ps .now) (a .e) (l .at) (l .i) (c .loop-test .left) (l .inv)
+    measure-end (coder (a .width) (a .step)) (a .ps .now) (a .e) (l .e) (l .i) (c .loop-test .left) (l .inv)
 
 pub take-all-spec : {M : Type 1} → statement M
 take-all-spec =

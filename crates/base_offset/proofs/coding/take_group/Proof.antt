@@ -25,27 +25,27 @@ sub-last c = let s = c .before .before .before .pre .0 .some in search needs
 read-last : tie.Need-shared-slice-read-last
 read-last c = let s = c .before .before .before .before .pre .0 .some in omega arith
 
-cast-t9 : tie.Need-cast-t9
-cast-t9 c = let z = small (c .before) .ranks in search needs
+cast-t8 : tie.Need-cast-t8
+cast-t8 c = let z = small (c .before) .ranks in search needs
 
-add-t13 : tie.Need-add-t13
-add-t13 c = let z = small (c .before .before) .ranks in search needs
+add-t12 : tie.Need-add-t12
+add-t12 c = let z = small (c .before .before) .ranks in search needs
 
-cast-t14 : tie.Need-cast-t14
-cast-t14 c = let z = small (c .before .before) .ranks in search needs
+cast-t13 : tie.Need-cast-t13
+cast-t13 c = let z = small (c .before .before) .ranks in search needs
 
-sub-t15 : tie.Need-sub-t15
-sub-t15 c = let z = small (c .before .before .before) .left in search needs
+sub-t14 : tie.Need-sub-t14
+sub-t14 c = let z = small (c .before .before .before) .left in search needs
 
-mul-t11 : tie.Need-mul-t11
-mul-t11 c =
+mul-t10 : tie.Need-mul-t10
+mul-t10 c =
     let z = small (c .before .before .before) in
     let n = z .ranks in
     let b = z .bytes in
     search needs
 
-add-t16 : tie.Need-add-t16
-add-t16 c =
+add-t15 : tie.Need-add-t15
+add-t15 c =
     let z = small (c .before .before .before .before) in
     let n = z .ranks in
     let b = z .bytes in
@@ -72,12 +72,12 @@ take-group-spec =
     sub-last
     (λ c. search needs)
     read-last
-    cast-t9
-    add-t13
-    cast-t14
-    sub-t15
-    mul-t11
-    add-t16
+    cast-t8
+    add-t12
+    cast-t13
+    sub-t14
+    mul-t10
+    add-t15
     sub-still-fits
     (λ c κs. search needs)
     returns)

@@ -9,38 +9,36 @@ use borrow.Author.Needs.{needs}
 use Rattle.base_offset.proofs.steps.offsets.Statement.{statement}
 use Rattle.base_offset.proofs.steps.offsets.Tie as tie
 
-wide : (s : tie.Start) → (s .args .v .width ≡ 1 → ⊥) → s .args .v .width ≡ 2
-wide s n = other-size (s .args .v .width) (s .pre .size) n
+wide : (s : tie.Start) → (s .args .width ≡ 1 → ⊥) → s .args .width ≡ 2
+wide s n = other-size (s .args .width) (s .pre .size) n
 
 sums-u8-requires : tie.Need-sums-u8-requires
 sums-u8-requires c κs =
-    let l = rw (c .before .if1 .taken) at (c .before .before .before .before .before .before .before .pre .long) in
+    let l = rw (c .before .if1 .taken) at (c .before .before .before .before .pre .long) in
     omega arith
 
 sums-u16-requires : tie.Need-sums-u16-requires
 sums-u16-requires c κs =
-    let s = c .before .before .before .before .before .before .before in
+    let s = c .before .before .before .before in
     let l = rw (wide s (c .before .if1 .left)) at (s .pre .long) in
     omega arith
 
 returns : tie.Need-returns
 returns c =
-    let a = c .before .before .before .before .before .before .before .before .before .before .args in
-    let e : a .v .second + a .c .rank ≡ a .v .second + 1 * a .c .rank = omega arith in
+    let a = c .before .before .before .before .before .before .before .args in
+    let e : a .second + a .rank ≡ a .second + 1 * a .rank = omega arith in
     rw (c .before .before .before .before .if1 .taken)
-    (c .before .before .sums-u8 .ensures ∙ ap (λ (at : ℕ). sums (a .c .base) (numbersOf 1 (length (a .out .now)) (drop at (a .file .now)))) e)
+    (c .before .before .sums-u8 .ensures ∙ ap (λ (at : ℕ). sums (a .base) (numbersOf 1 (length (a .out .now)) (drop at (a .file .now)))) e)
 
 returns-2 : tie.Need-returns-2
 returns-2 c =
-    let s = c .before .before .before .before .before .before .before .before .before .before in
+    let s = c .before .before .before .before .before .before .before in
     rw (wide s (c .before .before .before .before .if1 .left)) (c .before .before .sums-u16 .ensures)
 
 pub offsets-spec : {M : Type 1} → statement M
 offsets-spec =
     tie.close
     (tie.spec
-    (λ c. search needs)
-    (λ c. search needs)
     (λ c. search needs)
     sums-u8-requires
     (λ c. search needs)
