@@ -96,17 +96,17 @@ module _ (e : Encoder) (p : ℕ) (ls : List ℕ) (a : Along e (p ∷ ls)) where
       (no-second (takenBy runsCoder e p) ls)
       ∙ put-nil _ (takenBy runsCoder e p .second))
 
--- as the code has them: x is the encoder after the first position, o the destination, and `is` the ends
-module _ (e : Encoder) (x : Encoder) (is : List ℕ) where
-  pub ends-room : (ls : List ℕ) (n : ℕ) → (length ls ≡ 0 → ⊥) → Along e ls → RoomAll runsCoder e ls n → x ≡ takenBy runsCoder e (getD ls 0 0) → is ≡ endsOf ls
-      → x .first + 8 * length is ≤ n
-  ends-room [] n h a r q f = absurd (h refl)
-  ends-room (p ∷ ls) n h a r q f = rw (q, f) (after-room e p ls a n r)
+-- as the code has them: x is the encoder after the first position, and o the destination
+module _ (e : Encoder) (x : Encoder) where
+  pub ends-room : (ls : List ℕ) (n : ℕ) → (length ls ≡ 0 → ⊥) → Along e ls → RoomAll runsCoder e ls n → x ≡ takenBy runsCoder e (getD ls 0 0)
+      → x .first + 8 * length (endsOf ls) ≤ n
+  ends-room [] n h a r q = absurd (h refl)
+  ends-room (p ∷ ls) n h a r q = rw q (after-room e p ls a n r)
 
   pub put-far : (ls d o : List ℕ) → (length ls ≡ 0 → ⊥) → Along e ls → RoomAll runsCoder e ls (length d) → x ≡ takenBy runsCoder e (getD ls 0 0)
-      → o ≡ putBy runsCoder d e (getD ls 0 0) → is ≡ endsOf ls → put o (x .first) (endPairs (e .rank) ls is) ≡ putAllBy runsCoder d e ls
-  put-far [] d o h a r q w f = absurd (h refl)
-  put-far (p ∷ ls) d o h a r q w f = rw (q, w, f) (put-after e p ls a d r)
+      → o ≡ putBy runsCoder d e (getD ls 0 0) → put o (x .first) (endPairs (e .rank) ls (endsOf ls)) ≡ putAllBy runsCoder d e ls
+  put-far [] d o h a r q w = absurd (h refl)
+  put-far (p ∷ ls) d o h a r q w = rw (q, w) (put-after e p ls a d r)
 
 -- ---- a loop over the ends
 

@@ -18,6 +18,7 @@ ghost use Rattle.stores.specs.Put.{put};
 ghost use Rattle.parts.specs.Encoder.{takenBy, takenAllBy, endedBy};
 ghost use Rattle.parts.specs.Ready.{passed, Sound, Next, Room, putBy};
 ghost use Rattle.parts.specs.Batch.{Along, RoomAll, putAllBy};
+ghost use Rattle.parts.specs.Far.{far, endsOf};
 ghost use Rattle.runs.specs.Coding.{runsCoder, further, endPairs, coder};
 
 // The most positions whose run ends are listed at a time: a caller's largest batch.
@@ -74,8 +75,8 @@ pub fn take_all(width: u32, step: u32, e: Encoder, ps: &[u32]) -> Encoder
     further(take_one(e, ps[0]), (n - 1) as u32, ps[n - 1], ends as usize)
 }
 
-// The pairs of the runs that end at the indices `ends` of ps, of which the first has the rank `rank`, one after the other from `at` on.
-fn put_ends<'a>(dst: &mut [u8], at: usize, rank: u32, ps: &'a [u32], ends: &'a [u32])
+// The pairs of the runs that end at the indices `ends` of ps, whose first position has the rank `rank`, one after the other from `at` on.
+fn put_pairs<'a>(dst: &mut [u8], at: usize, rank: u32, ps: &'a [u32], ends: &'a [u32])
     requires { ⌜ (1 ≤ length (now ps)) × Rising rank 16777216 (now ps) × Below (length (now ps)) (now ends) × (at + 8 * length (now ends) ≤ length (now dst)) ⌝ }
     ensures { λ _. ⌜ now (dst .exit) ≡ put (now (dst .entry)) at (endPairs rank (now (ps .entry)) (now (ends .entry))) ⌝ }
 {
@@ -86,6 +87,18 @@ fn put_ends<'a>(dst: &mut [u8], at: usize, rank: u32, ps: &'a [u32], ends: &'a [
         put_pair(dst, at + 8 * t, last, last - (rank + end));
         t += 1;
     }
+}
+
+// The pairs of all the runs that end among the positions of a batch: the ends are listed first, without a branch. Their number.
+fn put_ends(dst: &mut [u8], at: usize, rank: u32, ps: &[u32]) -> usize
+    requires { ⌜ (1 ≤ length (now ps)) × (length (now ps) ≤ 1024) × Rising rank 16777216 (now ps) × (at + 8 * length (endsOf (now ps)) ≤ length (now dst)) ⌝ }
+    ensures { λ r. ⌜ (r ≡ far 1 (now (ps .entry))) × (r ≤ 1024)
+        × (now (dst .exit) ≡ put (now (dst .entry)) at (endPairs rank (now (ps .entry)) (endsOf (now (ps .entry))))) ⌝ }
+{
+    let mut ends = [0u32; BATCH];
+    let n = list_ends(ps, &mut ends);
+    put_pairs(dst, at, rank, ps, &ends[..n]);
+    n
 }
 
 // The bytes that the positions add, one position at a time; the encoder after them.
@@ -102,32 +115,22 @@ fn put_each(dst: &mut [u8], e: Encoder, ps: &[u32]) -> Encoder
     at
 }
 
-// The bytes that the positions of a batch add, whose run ends are listed without a branch; the encoder after them.
-fn put_batch(dst: &mut [u8], e: Encoder, ps: &[u32]) -> Encoder
-    requires { ⌜ (1 ≤ length (now ps)) × (length (now ps) ≤ 1024) × Along e (now ps) × RoomAll runsCoder e (now ps) (length (now dst)) ⌝ }
-    ensures { λ r. ⌜ (r ≡ takenAllBy runsCoder e (now (ps .entry))) × (now (dst .exit) ≡ putAllBy runsCoder (now (dst .entry)) e (now (ps .entry))) ⌝ }
-{
-    let n = ps.len();
-    let mut ends = [0u32; BATCH];
-    let k = list_ends(ps, &mut ends);
-    let at = put_one(dst, e, ps[0]);
-    put_ends(dst, at.first, e.rank, ps, &ends[..k]);
-    further(at, (n - 1) as u32, ps[n - 1], k)
-}
-
 // The bytes that the positions add; the encoder after them.
 pub fn put_all(dst: &mut [u8], width: u32, step: u32, e: Encoder, ps: &[u32]) -> Encoder
     requires { ⌜ (runsKind width step .allowed ≡ true) × Along e (now ps) × RoomAll (coder width step) e (now ps) (length (now dst)) ⌝ }
     ensures { λ r. ⌜ (r ≡ takenAllBy (coder width step) e (now (ps .entry)))
         × (now (dst .exit) ≡ putAllBy (coder width step) (now (dst .entry)) e (now (ps .entry))) ⌝ }
 {
-    if ps.len() == 0 {
+    let n = ps.len();
+    if n == 0 {
         return e;
     }
-    if BATCH < ps.len() {
+    if BATCH < n {
         return put_each(dst, e, ps);
     }
-    put_batch(dst, e, ps)
+    let at = put_one(dst, e, ps[0]);
+    let ends = put_ends(dst, at.first, e.rank, ps);
+    further(at, (n - 1) as u32, ps[n - 1], ends)
 }
 
 // The bytes that n consecutive positions from p on add; the encoder after them.

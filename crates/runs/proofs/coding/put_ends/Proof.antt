@@ -1,89 +1,58 @@
 -- `runs::coding::put_ends` meets its contract. Assumes nothing.
-use Prim.Native.Nat.{ℕ, _+_, _-_, _*_, _≤_, _<_}
-use mathlib.Core.Path.{_≡_, refl, sym, ap, _∙_}
+use Prim.Native.Nat.{ℕ}
+use mathlib.Core.Path.{_≡_, sym, ap, _∙_}
 use mathlib.Core.List.{List}
 use native.Mathlib.Omega.{arith}
-use lib.ListN.{length, getD, drop}
-use Rattle.laws.proofs.Bounds.{below-getD}
+use lib.ListN.{length, take}
+use lib.Seq.{length-take-le}
+use Rattle.laws.proofs.Stored.{rising-weaken}
 use Rattle.stores.specs.Put.{put}
-use Rattle.stores.proofs.Laws.{length-put}
-use Rattle.parts.proofs.Places.{rising-below}
+use Rattle.parts.proofs.Ends.{length-ends}
 use Rattle.runs.specs.Coding.{endPairs}
-use Rattle.runs.proofs.Ends.{rising-far, ends-turn, ends-done}
+use Rattle.runs.proofs.Ends.{below-ends}
 use borrow.Author.Needs.{needs}
 use Rattle.runs.proofs.coding.put_ends.Statement.{statement}
 use Rattle.runs.proofs.coding.put_ends.Tie as tie
 
--- the pairs of the ends that are left, after those put out
-abbrev Inv-loop : tie.InvT-loop
-Inv-loop dst₀ at rank ps ends t₀ dst t =
-    (length dst ≡ length dst₀) × (put dst (at + 8 * t) (endPairs rank ps (drop t ends)) ≡ put dst₀ at (endPairs rank ps ends))
+list-ends-requires : tie.Need-list-ends-requires
+list-ends-requires c κs =
+    let s = c .before .before .before in
+    (rising-weaken 0 (s .args .rank) 16777216 (s .args .ps .now) (omega arith) (s .pre .2), s .pre .1)
 
-abbrev μ-loop : tie.MeasureT-loop
-μ-loop dst₀ at rank ps ends t₀ dst t = length ends - t
+-- the ends fill as many elements of the array as were listed
+listed : (c : tie.After-list-ends) → length (take (c .list-ends .result) (c .list-ends .last .1 .0)) ≡ c .list-ends .result
+listed c =
+    let p = c .before .before .before .before .pre .1 in
+    let e = c .list-ends .ensures in
+    let n : length (c .list-ends .last .1 .0) ≡ 1024 = e .2 in
+    length-take-le _ (c .list-ends .last .1 .0) (omega (arith, e .1))
 
-loop-holds : tie.Need-loop-holds Inv-loop μ-loop
-loop-holds c = let a = c .before .before .before .args in let z : a .at + 8 * 0 ≡ a .at = omega arith in (refl, rw z)
+put-pairs-requires : tie.Need-put-pairs-requires
+put-pairs-requires c κs =
+    let s = c .before .before .before .before .before .before .before in
+    let f = c .before .before .before .list-ends .ensures .0 in
+    rw f (s .pre .0, s .pre .2, below-ends (s .args .ps .now), s .pre .3)
 
--- an end is the index of a position, which is not below its rank
-there : (c : tie.In-loop Inv-loop μ-loop) → getD (c .before .before .before .before .before .args .ends .now) (c .before .loop .t) 0
-    < length (c .before .before .before .before .before .args .ps .now)
-there c =
-    let s = c .before .before .before .before .before in
-    below-getD (length (s .args .ps .now)) (s .args .ends .now) (c .before .loop .t) (omega arith) (s .pre .2)
-
-ranked : (c : tie.In-loop Inv-loop μ-loop)
-    → c .before .before .before .before .before .args .rank + getD (c .before .before .before .before .before .args .ends .now) (c .before .loop .t) 0
-    ≤ getD (c .before .before .before .before .before .args .ps .now) (getD (c .before .before .before .before .before .args .ends .now) (c .before .loop .t) 0) 0
-ranked c =
-    let s = c .before .before .before .before .before in
-    rising-far (s .args .rank) 16777216 (s .args .ps .now) (getD (s .args .ends .now) (c .before .loop .t) 0) (s .pre .1) (there c)
-
-add-put-pair-2 : tie.Need-add-put-pair-2 Inv-loop μ-loop
-add-put-pair-2 c =
-    let l = c .before .before .before in
-    let s = l .before .before .before .before .before in
-    let r = ranked l in
-    let b = rising-below (s .args .rank) 16777216 (s .args .ps .now) (getD (s .args .ends .now) (l .before .loop .t) 0) (s .pre .1) (there l) in
-    record { fits = omega arith }
-
-loop-again : tie.Need-loop-again Inv-loop μ-loop
-loop-again c =
-    let b = c .before .before .before .before .before .before in
-    let a = b .before .before .before .before .before .args in
-    let l = b .before .loop in
-    let o = c .before .before .put-pair in (
-      ap length (o .ensures) ∙ length-put (l .dst) _ _ ∙ l .inv .0,
-      ap (λ (d : List ℕ). put d (a .at + 8 * (l .t + 1)) (endPairs (a .rank) (a .ps .now) (drop (l .t + 1) (a .ends .now)))) (o .ensures)
-          ∙ ends-turn (a .rank) (a .at) (a .ps .now) (a .ends .now) (l .dst) (l .t) (b .loop-test .taken)
-          ∙ l .inv .1,
-    )
-
-returns : tie.Need-returns Inv-loop μ-loop
+returns : tie.Need-returns
 returns c =
-    let a = c .before .before .before .before .before .args in
-    let l = c .before .loop in
-    sym (ends-done (a .rank) (a .at) (a .ps .now) (a .ends .now) (l .dst) (l .t) (c .loop-test .left)) ∙ l .inv .1
+    let s = c .before .before .before .before .before .before .before .before .before .before in
+    let o = c .before .before .before .before .before .before .list-ends in
+    let f = o .ensures .0 in
+    let k = o .ensures .1 in
+    let p = s .pre .1 in (
+      sym (listed (c .before .before .before .before .before .before)) ∙ ap length f ∙ length-ends (s .args .ps .now),
+      omega arith,
+      c .before .before .put-pairs .ensures ∙ ap (λ (x : List ℕ). put (s .args .dst .now) (s .args .at) (endPairs (s .args .rank) (s .args .ps .now) x)) f,
+    )
 
 pub put-ends-spec : {M : Type 1} → statement M
 put-ends-spec =
     tie.close
     (tie.spec
-    Inv-loop
-    μ-loop
-    loop-holds
     (λ c. search needs)
+    list-ends-requires
     (λ c. search needs)
-    (λ c. let h = there (c .before) in omega arith)
-    (λ c. let h = there (c .before) in omega arith)
-    (λ c. there (c .before .before))
+    (λ c. sym (listed (c .before .before .before)))
+    put-pairs-requires
     (λ c. search needs)
-    (λ c. let s = c .before .before .before .before .before .before .before .before in let h = c .before .before .before .loop-test .taken in let r = s .pre .3 in omega arith)
-    add-put-pair-2
-    (λ c. ranked (c .before .before .before))
-    (λ c κs. let s = c .before .before .before .before .before .before .before .before in let h = c .before .before .before .loop-test .taken in let r = s .pre .3 in let n = c .before .before .before .before .loop .inv .0 in omega arith)
-    (λ c. search needs)
-    (λ c. search needs)
-    loop-again
-    (λ c. c .before .loop .inv .0)
     returns)
