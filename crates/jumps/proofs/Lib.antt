@@ -9,6 +9,7 @@ pub mod Ahead
 pub mod Walked
 pub mod Found
 pub mod Walks
+pub mod Filled
 -- The encoder.
 pub mod Adds
 pub mod Taken

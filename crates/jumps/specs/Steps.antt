@@ -1,12 +1,14 @@
 -- The cursor's step. Assumes nothing.
 use Prim.Native.Nat.{ℕ, _+_, _*_}
+use mathlib.Core.Path.{_≡_}
 use mathlib.Core.List.{List}
 use lib.Dec.{eqb}
 use Rattle.format.specs.declared.View.{View}
 use Rattle.format.specs.Tools.{pick}
 use Rattle.wire.specs.Wire.{whole}
+use Rattle.stores.specs.Put.{put}
 use Rattle.parts.specs.declared.Cursor.{Cursor}
-use Rattle.parts.specs.Cursor.{add32, movedTo, entryOf}
+use Rattle.parts.specs.Cursor.{add32, movedTo, entryOf, walkedAs, steppedAs}
 
 -- to the next jump; the jumps begin at `start`
 unfoldable pub jumpFrom : List ℕ → ℕ → Cursor → Cursor
@@ -27,3 +29,12 @@ jumpBy b start d c = pick (eqb d 0) (jumpFrom b start c) (movedTo (add32 (c .at)
 
 unfoldable pub next : List ℕ → View → Cursor → Cursor
 next b v c = jumpBy b (v .start) (entryOf b v (add32 (c .rank) 1)) c
+
+-- the same by the places of the jumps and of the differences, of w bytes each
+unfoldable pub nextAt : ℕ → ℕ → ℕ → List ℕ → Cursor → Cursor
+nextAt w start second b c = jumpBy b start (whole w (second + w * add32 (c .rank) 1) b) c
+
+-- m steps f from c lead to r, and their positions stand in `after` from an index on; else it is as `before`
+pub record Filled (f : Cursor → Cursor) (c : Cursor) (from m : ℕ) (before : List ℕ) (r : Cursor) (after : List ℕ) : Type 0 where
+  pub cursor : r ≡ steppedAs f c m
+  pub positions : after ≡ put before from (walkedAs f c m)

@@ -26,21 +26,21 @@ fn zero(d: u32) -> u8
     if d == 0 { 1 } else { 0 }
 }
 
-// How many of the 128 differences after rank r are 0, for differences of one byte. They are counted in a byte, so that as many are compared at once.
-fn zeros_u8(file: &[u8], second: usize, r: usize) -> u8
-    requires { ⌜ Room 1 second (now file) (r + 128) ⌝ }
-    ensures { λ n. ⌜ n ≡ zeros 1 second (now (file .entry)) r 128 ⌝ }
+// How many of the n differences after rank r are 0, for differences of one byte. At most 128 are counted in a byte, so that as many are compared at once.
+pub fn zeros_u8(file: &[u8], second: usize, r: usize, n: usize) -> u8
+    requires { ⌜ Room 1 second (now file) (r + n) × (n ≤ 128) ⌝ }
+    ensures { λ x. ⌜ x ≡ zeros 1 second (now (file .entry)) r n ⌝ }
 {
     let mut count: u8 = 0;
     let mut k: usize = 0;
-    while k < 128 {
+    while k < n {
         k += 1;
         count += zero(difference(file, second, r + k, 1));
     }
     count
 }
 
-// The same for differences of two bytes.
+// How many of the 128 differences after rank r are 0, for differences of two bytes.
 fn zeros_u16(file: &[u8], second: usize, r: usize) -> u16
     requires { ⌜ Room 2 second (now file) (r + 128) ⌝ }
     ensures { λ n. ⌜ n ≡ zeros 2 second (now (file .entry)) r 128 ⌝ }
@@ -60,7 +60,7 @@ pub fn no_jump(file: &[u8], second: usize, width: u32, r: usize) -> bool
     ensures { λ g. ⌜ g ≡ plain width second (now (file .entry)) r 128 ⌝ }
 {
     if width == 1 {
-        return zeros_u8(file, second, r) == 0;
+        return zeros_u8(file, second, r, 128) == 0;
     }
     zeros_u16(file, second, r) == 0
 }

@@ -1,7 +1,6 @@
 use mathlib.Core.Path.{sym, _∙_}
 use native.Mathlib.Omega.{arith}
 use Rattle.jumps.proofs.Adds.{difference-first, difference-later}
-use borrow.Author.Needs.{needs}
 use Rattle.jumps.proofs.coding.difference_at.Statement.{statement}
 use Rattle.jumps.proofs.coding.difference_at.Tie as tie
 

@@ -1,6 +1,5 @@
 -- The encoder after a batch. Assumes nothing.
 use Prim.Native.Nat.{_+_, _-_, _≤_}
-use mathlib.Core.Path.{_≡_}
 use native.Mathlib.Nat.{mul-le-mul-right, pos-of-ne-zero}
 use native.Mathlib.Omega.{arith}
 use lib.ListN.{length}

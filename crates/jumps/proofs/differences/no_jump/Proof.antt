@@ -1,8 +1,7 @@
 -- Whether a group holds no jump, at each width. Assumes nothing.
-use Prim.Native.Nat.{_+_}
 use mathlib.Core.Path.{_≡_}
+use native.Mathlib.Omega.{arith}
 use Rattle.wire.proofs.Laws.{other-width}
-use Rattle.jumps.specs.Walk.{Room}
 use Rattle.jumps.proofs.Groups.{none-counted}
 use Rattle.jumps.proofs.differences.no_jump.Statement.{statement}
 use Rattle.jumps.proofs.differences.no_jump.Tie as tie
@@ -11,7 +10,7 @@ two : (c : tie.Else1) → c .before .before .args .width ≡ 2
 two c = let z = c .before .before .pre in other-width _ (z .narrow) (z .wide) (c .if1 .left)
 
 zeros-u8-requires : tie.Need-zeros-u8-requires
-zeros-u8-requires c κs = rw (c .if1 .taken) at (c .before .before .pre)
+zeros-u8-requires c κs = (rw (c .if1 .taken) at (c .before .before .pre), omega arith)
 
 returns : tie.Need-returns
 returns c =

@@ -1,48 +1,67 @@
-use Prim.Native.Nat.{_-_, _≤_}
-use mathlib.Core.Path.{_≡_, refl, _∙_}
+-- The positions, by whether all differences are there, and by the width. Assumes nothing.
+use mathlib.Core.Path.{_≡_}
 use native.Mathlib.Omega.{arith}
-use lib.ListN.{length, length-set}
-use Rattle.jumps.specs.Steps.{next}
-use Rattle.parts.proofs.Batches.{Partly, batch-start, batch-turn, batch-end}
+use lib.ListN.{length}
+use borrow.Author.Tests.{not-false}
+use Rattle.wire.proofs.Laws.{other-width}
+use Rattle.jumps.specs.Steps.{nextAt}
+use Rattle.jumps.proofs.Filled.{filled-batch, filled-length, next-at}
 use borrow.Author.Needs.{needs}
 use Rattle.jumps.proofs.steps.positions.Statement.{statement}
 use Rattle.jumps.proofs.steps.positions.Tie as tie
 
-abbrev Inv-loop : tie.InvT-loop
-Inv-loop file v c₀ out₀ i₀ c out i = (i ≤ length out₀) × (length out ≡ length out₀) × Partly (next file v) c₀ (length out₀) c out i
+two : (c : tie.Else2) → c .before .before .before .before .before .before .args .v .width ≡ 2
+two c =
+    let z = c .before .before .before .all-there .ensures (not-false _ (c .before .before .if1 .left)) in
+    other-width _ (z .narrow) (z .wide) (c .if2 .left)
 
-abbrev μ-loop : tie.MeasureT-loop
-μ-loop file v c₀ out₀ i₀ c out i = length out₀ - i
+along-u8-requires : tie.Need-along-u8-requires
+along-u8-requires c κs =
+    let t = c .before .before in
+    rw (t .if2 .taken) at (t .before .before .before .all-there .ensures (not-false _ (t .before .before .if1 .left)))
 
-loop-holds : tie.Need-loop-holds Inv-loop μ-loop
-loop-holds c = (omega arith, refl, batch-start _ _ _ _)
+returns-2 : tie.Need-returns-2
+returns-2 c =
+    let t = c .before .before .before .before .before in
+    let a = t .before .before .before .before .before .before .args in
+    rw (← next-at (a .file .now) (a .v) (t .if2 .taken) (omega arith) (omega arith))
+    (filled-batch (nextAt 1 (a .v .start) (a .v .second) (a .file .now)) (a .c) (a .out .now) (c .before .before .along-u8 .ensures))
 
-loop-again : tie.Need-loop-again Inv-loop μ-loop
-loop-again c =
-    let l = c .before .before .loop in
-    let h = c .before .loop-test .taken in
-    (omega arith, length-set (l .out) (l .i) (l .c .at) ∙ l .inv .1, batch-turn _ _ _ (l .c) _ (l .out) (l .i) h (l .inv .1) (c .next .ensures) (l .inv .2))
+same-length-2 : tie.Need-same-length-2
+same-length-2 c =
+    let a = c .before .before .before .before .before .before .before .before .before .before .before .args in
+    filled-length (nextAt 1 (a .v .start) (a .v .second) (a .file .now)) (a .c) 0 (length (a .out .now)) (a .out .now) (c .before .before .along-u8 .ensures)
 
-same-length : tie.Need-same-length Inv-loop μ-loop
-same-length c = c .before .loop .inv .1
+along-u16-requires : tie.Need-along-u16-requires
+along-u16-requires c κs =
+    let t = c .before .before in
+    rw (two t) at (t .before .before .before .all-there .ensures (not-false _ (t .before .before .if1 .left)))
 
-returns : tie.Need-returns Inv-loop μ-loop
-returns c =
-    let l = c .before .loop in
-    batch-end _ _ _ (l .c) (l .out) (l .i) (c .loop-test .left) (l .inv .1) (l .inv .2)
+returns-3 : tie.Need-returns-3
+returns-3 c =
+    let t = c .before .before .before .before .before in
+    let a = t .before .before .before .before .before .before .args in
+    rw (← next-at (a .file .now) (a .v) (two t) (omega arith) (omega arith))
+    (filled-batch (nextAt 2 (a .v .start) (a .v .second) (a .file .now)) (a .c) (a .out .now) (c .before .before .along-u16 .ensures))
+
+same-length-3 : tie.Need-same-length-3
+same-length-3 c =
+    let a = c .before .before .before .before .before .before .before .before .before .before .before .args in
+    filled-length (nextAt 2 (a .v .start) (a .v .second) (a .file .now)) (a .c) 0 (length (a .out .now)) (a .out .now) (c .before .before .along-u16 .ensures)
 
 pub positions-spec : {M : Type 1} → statement M
 positions-spec =
     tie.close
     (tie.spec
-    Inv-loop
-    μ-loop
-    loop-holds
-    (λ c. search needs)
-    (λ c. search needs)
+    (λ c κs. search needs)
     (λ c κs. search needs)
     (λ c. search needs)
     (λ c. search needs)
-    loop-again
-    same-length
-    returns)
+    (λ c. search needs)
+    along-u8-requires
+    same-length-2
+    returns-2
+    (λ c. search needs)
+    along-u16-requires
+    same-length-3
+    returns-3)
