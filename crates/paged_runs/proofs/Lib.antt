@@ -5,6 +5,7 @@ pub mod Along
 pub mod Held
 pub mod PartsAgain
 pub mod CheckSteps
+pub mod Counting
 pub mod Whole
 pub mod Answering
 pub mod Finding
