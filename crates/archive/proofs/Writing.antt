@@ -40,9 +40,10 @@ use Rattle.stores.proofs.Laws.{put-front}
 use Rattle.rewrite.specs.declared.Edit.{Edit}
 use Rattle.rewrite.specs.Edit.{edited, overlaid, Writes}
 use Rattle.rewrite.proofs.Edits.{keeping, keeping-positions, keeping-words, keeps, rank-below, adds, removes, replaces, same-word}
-use Rattle.archive.specs.Recoded.{wordsAfter, Recodes, Recoded, Copied, sameSetting}
+use Rattle.recode.specs.Recoded.{wordsAfter, Recodes, Recoded}
+use Rattle.archive.specs.Same.{Copied, sameSetting}
 use Rattle.checked.proofs.Number.{setting-later}
-use Rattle.archive.proofs.Recoding.{after-is, recodes}
+use Rattle.recode.proofs.Recoding.{after-is, recodes}
 
 -- ---- the edit of a write
 

@@ -1,15 +1,15 @@
 // The setting of a file changed.
-use super::recode::recoded;
 use checked::check;
 use format::Setting;
 use format::View;
 use format::signals::SMALL;
 use kinds::setting::setting_number;
+use recode::recoded;
 use rewrite::Edit;
 use rewrite::words::copy;
 ghost use mathlib.Core.Path.{_≡_};
 ghost use Rattle.format.specs.Calls.{Changed};
-ghost use Rattle.archive.specs.Recoded.{Copied, sameSetting};
+ghost use Rattle.archive.specs.Same.{Copied, sameSetting};
 
 // The setting is the view's.
 fn own_setting(s: Setting, v: View) -> bool

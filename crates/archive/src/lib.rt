@@ -5,5 +5,4 @@ pub mod check;
 pub mod expand;
 pub mod lookup;
 pub mod make;
-mod recode;
 pub mod write;

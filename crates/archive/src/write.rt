@@ -1,5 +1,4 @@
 // One cell of a file written.
-use super::recode::recoded;
 use checked::check;
 use format::Position;
 use format::RankAnswer;
@@ -7,6 +6,7 @@ use format::View;
 use format::signals::BEYOND;
 use header::view::read_setting;
 use kinds::search::find;
+use recode::recoded;
 use rewrite::Edit;
 use search::rank_answer;
 ghost use Prim.Native.Nat.{_<_};

@@ -16,7 +16,8 @@ use Rattle.parts.specs.Codes.{PutOut, sizesIn}
 use Rattle.parts.proofs.Sounds.{sound-begun}
 use Rattle.parts.proofs.Taking.{first-all, second-all}
 use Rattle.kinds.specs.declared.Measured.{Measured}
-use Rattle.kinds.specs.Coding.{coder, takenAll}
+use Rattle.kinds.specs.Coding.{coder, takenAll, countedBy}
+use Rattle.kinds.proofs.Counts.{ByCount, follows}
 use Rattle.kinds.proofs.Laws.{codes}
 use Rattle.kinds.proofs.Driving.{rank-added, sound-added}
 use Rattle.layout.specs.Laid.{noSizes, Fitting, Bounded, Measures, measuredBy}
@@ -46,6 +47,11 @@ module _ (s : Setting) (a : settingAllowed s ≡ true) (n : ℕ) (ls : List ℕ)
             ap (λ (x : Bool). pick x (coder s .sizes (endedBy (coder s) e)) noSizes) t
             ∙ out .sizes (not-true (e .fits) (codec s .unfit ls) fit t);
       }
+
+  -- the same by the counts that the sizes follow from
+  pub counts-measure : (ranks runs : ℕ) (m : Measured) → m .fits ≡ true → m .sizes ≡ coder s .sizes (countedBy (s .kind) ranks runs) → ByCount s ls ranks runs
+      → Measures s n ls m
+  counts-measure ranks runs m f z b = let t = follows n ls h r ranks runs s b in record { fits = f ∙ rw (t .fits); sizes = λ e. z ∙ t .sizes }
 
   few : length ls ≤ n
   few = let m = rising-length 0 n ls (omega arith) r in omega arith

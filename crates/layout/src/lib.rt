@@ -6,13 +6,16 @@ use format::Setting;
 use format::signals::SMALL;
 use format::signals::UNFIT;
 use kinds::Measured;
+use kinds::coding::counted;
 use kinds::coding::ended;
 use kinds::coding::sizes;
 use parts::Encoder;
 use parts::Sizes;
 ghost use mathlib.Core.Path.{_≡_};
 ghost use mathlib.Core.Bool.{true};
+ghost use Prim.Native.Nat.{_≤_};
 ghost use Rattle.format.specs.Kinds.{settingAllowed};
+ghost use Rattle.kinds.specs.Coding.{coder, countedBy};
 ghost use Rattle.layout.specs.Laid.{noSizes, Fitting, totalOf, outOf, measuredBy, Bounded};
 
 // What an encoder has measured that has taken all positions: whether they fit, and the sizes with the end.
@@ -29,6 +32,17 @@ pub fn measured(s: Setting, e: Encoder) -> Measured
     Measured {
         fits: true,
         sizes: sizes(s, ended(s, e)),
+    }
+}
+
+// What a file of so many ranks and runs measures, in a kind whose sizes follow from these.
+pub fn by_counts(s: Setting, ranks: u32, runs: u32) -> Measured
+    requires { ⌜ (settingAllowed s ≡ true) × (ranks ≤ 16777216) × (runs ≤ 16777216) ⌝ }
+    ensures { λ r. ⌜ (r .fits ≡ true) × (r .sizes ≡ coder s .sizes (countedBy (s .kind) ranks runs)) ⌝ }
+{
+    Measured {
+        fits: true,
+        sizes: sizes(s, counted(s.kind, ranks, runs)),
     }
 }
 

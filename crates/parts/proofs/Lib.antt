@@ -15,6 +15,7 @@ pub mod Added
 pub mod Grown
 -- The parts, and the facts of an accepted file.
 pub mod Falls
+pub mod Ends
 pub mod Last
 pub mod Places
 pub mod Seen

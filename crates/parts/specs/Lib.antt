@@ -9,3 +9,4 @@ pub mod Batch
 pub mod Codes
 pub mod Last
 pub mod Falls
+pub mod Far

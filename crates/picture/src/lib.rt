@@ -3,14 +3,19 @@ use format::Setting;
 use kinds::Measured;
 use kinds::coding::finish;
 use kinds::coding::put_all;
+use kinds::coding::sized_by_ranks;
 use kinds::coding::take_all;
+use kinds::steps::stores_runs;
+use layout::by_counts;
 use layout::measured;
 use parts::Encoder;
 use parts::encode::begin;
 use stored_cells::put_kept;
 use stored_cells::stored_cells;
+use stored_cells::tally::count_cells;
 ghost use mathlib.Core.Path.{_≡_};
 ghost use mathlib.Core.Bool.{true};
+ghost use mathlib.Core.Logic.{_⊎_};
 ghost use Prim.Native.Nat.{_+_, _*_, _≤_, min};
 ghost use lib.ListN.{length};
 ghost use Rattle.format.specs.Kinds.{settingAllowed};
@@ -19,7 +24,8 @@ ghost use Rattle.format.specs.Stored.{storedFrom, stored, kept};
 ghost use Rattle.stores.specs.Put.{put};
 ghost use Rattle.parts.specs.Encoder.{begun};
 ghost use Rattle.parts.specs.Batch.{Along};
-ghost use Rattle.kinds.specs.Coding.{takenAll, firsts, seconds, Apart};
+ghost use Rattle.kinds.specs.Steps.{storesRuns};
+ghost use Rattle.kinds.specs.Coding.{takenAll, firsts, seconds, Apart, sizedByRanks};
 ghost use Rattle.layout.specs.Laid.{Measures};
 ghost use Rattle.picture.specs.Chunk.{putChunk, ChunkRoom};
 
@@ -50,8 +56,8 @@ fn measure_chunk(
     take_all(s, e, &batch[..n])
 }
 
-// What the file of the words measures, with nothing put out.
-pub fn measure(words: &[u32], empty: u32, s: Setting) -> Measured
+// What the file of the words measures, along its stored positions.
+fn measure_along(words: &[u32], empty: u32, s: Setting) -> Measured
     requires { ⌜ (settingAllowed s ≡ true) × (length (now words) ≤ 16777216) ⌝ }
     ensures { λ r. ⌜ Measures s (length (now (words .entry))) (stored empty (now (words .entry))) r ⌝ }
 {
@@ -65,6 +71,29 @@ pub fn measure(words: &[u32], empty: u32, s: Setting) -> Measured
         at = end;
     }
     measured(s, e)
+}
+
+// What the file of the words measures, in a kind whose sizes follow from the stored cells and their runs.
+fn measure_counted(words: &[u32], empty: u32, s: Setting) -> Measured
+    requires { ⌜ (settingAllowed s ≡ true) × (length (now words) ≤ 16777216) × (sizedByRanks (s .kind) ⊎ storesRuns (s .kind)) ⌝ }
+    ensures { λ r. ⌜ Measures s (length (now (words .entry))) (stored empty (now (words .entry))) r ⌝ }
+{
+    let n = count_cells(words, empty);
+    by_counts(s, n.stored, n.runs)
+}
+
+// What the file of the words measures, with nothing put out.
+pub fn measure(words: &[u32], empty: u32, s: Setting) -> Measured
+    requires { ⌜ (settingAllowed s ≡ true) × (length (now words) ≤ 16777216) ⌝ }
+    ensures { λ r. ⌜ Measures s (length (now (words .entry))) (stored empty (now (words .entry))) r ⌝ }
+{
+    if sized_by_ranks(s.kind) {
+        return measure_counted(words, empty, s);
+    }
+    if stores_runs(s.kind) {
+        return measure_counted(words, empty, s);
+    }
+    measure_along(words, empty, s)
 }
 
 // The stored cells of a chunk put out: their positions into the parts, and their words after those put out before, the first of which

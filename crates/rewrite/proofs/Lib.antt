@@ -4,6 +4,3 @@ pub mod Copied
 pub mod Stretch
 pub mod RunTurns
 pub mod Three
-pub mod RunCounts
-pub mod RunEdits
-pub mod RunSizes

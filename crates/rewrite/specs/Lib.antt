@@ -1,3 +1,2 @@
 pub mod Edit
-pub mod RunCount
 pub mod Walk

@@ -1,5 +1,4 @@
 // The positions and words of a checked file with one cell laid over them, into the parts and words of a new file.
-pub mod counted;
 pub mod edited;
 pub mod runs;
 pub mod walk;

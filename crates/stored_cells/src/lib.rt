@@ -1,4 +1,6 @@
 // The cells of a picture: the positions of the stored ones, and their words.
+pub mod tally;
+
 use stores::put_u32;
 ghost use mathlib.Core.Path.{_≡_};
 ghost use mathlib.Core.List.{_++_};

@@ -1,0 +1,4 @@
+pub mod RunCounts
+pub mod RunEdits
+pub mod RunSizes
+pub mod Recoding

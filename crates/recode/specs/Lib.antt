@@ -1,0 +1,2 @@
+pub mod Recoded
+pub mod RunCount
