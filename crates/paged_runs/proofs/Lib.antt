@@ -12,6 +12,7 @@ pub mod Finding
 -- The cursor and the encoder.
 pub mod Walk
 pub mod OneEntry
+pub mod RunEnds
 pub mod Codes
 -- The upper levels, made of level 0.
 pub mod FirstPart
