@@ -9,7 +9,7 @@ use borrow.Author.Tests.{le-leb, lt-ltb}
 use Rattle.format.specs.declared.View.{View}
 use Rattle.format.specs.Answers.{given}
 use Rattle.format.specs.Runs.{Span, runs, spans, positionsFrom}
-use Rattle.format.specs.PagedRuns.{plus, none, upperLevels, levels, descent, positionAtPlace, storedCells, pagesKind}
+use Rattle.format.specs.PagedRuns.{plus, none, upperLevels, levels, at, descent, positionAtPlace, storedCells, pagesKind}
 use Rattle.laws.proofs.Bounds.{length-level}
 use Rattle.laws.proofs.Positions.{runs-back}
 use Rattle.laws.proofs.Search.{seekFrom, Proper, positionAmong, along-position}
@@ -22,6 +22,7 @@ use Rattle.levels.specs.Comparing.{Inside}
 use Rattle.paged_runs.specs.Descent.{counted, foundAt, descended, viewFits, searched, placeBy, positionBy}
 use Rattle.levels.proofs.Cutting.{sizes-enough, Cut, cut-levels}
 use Rattle.levels.proofs.Bounded.{proper-runs}
+use Rattle.paged_runs.proofs.Counting.{counts-descend}
 use Rattle.paged_runs.proofs.Held.{inside, seconds-held, firsts-held, entries-held}
 use Rattle.paged_runs.proofs.Answering.{place-along, stored-at, position-at}
 
@@ -70,7 +71,9 @@ module _ (b : List ℕ) (v : View) (ls : List ℕ) (h : Holds (pagesKind (v .wid
       let i = known in
       let fits : viewFits v ≡ true = rw (le-leb 2 (v .step) (i .low), le-leb (v .step) 64 (i .high), le-leb (v .seconds) 16777216 (i .seconds)) in
       rw (fits, total-all, le-leb (v .start + 8 * (v .firsts + v .seconds)) (length b) (i .long), cut-all)
-      (ap foundAt (descent-finds (counted s) (counted-add s) (counted-none s) (v .step) n (spans (runs ls)) (i .low) proper-held))
+      (ap foundAt
+      (counts-descend (counted s) (counted-add s) (v .step) (omega (arith, i .low)) (length (spans (runs ls))) (spans (runs ls)) (at 0 n none none) proper-held
+      ∙ descent-finds (counted s) (counted-add s) (counted-none s) (v .step) n (spans (runs ls)) (i .low) proper-held))
 
   -- ---- the answers
 

@@ -5,12 +5,14 @@ pub mod Along
 pub mod Held
 pub mod PartsAgain
 pub mod CheckSteps
+pub mod Counting
 pub mod Whole
 pub mod Answering
 pub mod Finding
 -- The cursor and the encoder.
 pub mod Walk
 pub mod OneEntry
+pub mod RunEnds
 pub mod Codes
 -- The upper levels, made of level 0.
 pub mod FirstPart

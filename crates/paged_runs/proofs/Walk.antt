@@ -4,7 +4,7 @@ use mathlib.Core.Path.{_≡_, refl, ap, _∙_}
 use mathlib.Core.List.{List, [], _∷_}
 use native.Mathlib.Omega.{arith}
 use lib.Dec.{ltb}
-use borrow.Author.Tests.{lt-ltb, ltb-true, ltb-false}
+use borrow.Author.Tests.{lt-ltb, le-ltb, ltb-true, ltb-false}
 use Rattle.format.specs.declared.View.{View}
 use Rattle.format.specs.Tools.{Below}
 use Rattle.format.specs.Runs.{Span, runs, spans}
@@ -13,6 +13,7 @@ use Rattle.laws.proofs.Tools.{cases}
 use Rattle.laws.proofs.Bounds.{below-level}
 use Rattle.laws.proofs.Levels.{none-plus}
 use Rattle.laws.proofs.Stored.{Rising}
+use Rattle.wire.specs.declared.Pair.{Pair}
 use Rattle.wire.specs.Wire.{pairAt}
 use Rattle.parts.specs.declared.Cursor.{Cursor}
 use Rattle.parts.specs.Cursor.{add32, alongRun, before}
@@ -21,12 +22,33 @@ use Rattle.parts.specs.Walks.{Walks, StepsAlong}
 use Rattle.parts.proofs.Entries.{Entries, first-pair, rest-pairs, all-entries}
 use Rattle.parts.proofs.Steps.{add32-small, add32-back, upper, kept-walk}
 use Rattle.parts.proofs.RunWalk.{Fit, Along, along-run, none-left, enter-run, all-fit, all-along}
-use Rattle.paged_runs.specs.Steps.{pageOf, entered, next}
+use Rattle.paged_runs.specs.Steps.{pageOf, enteredBy, entered, next}
 use Rattle.paged_runs.proofs.Allowed.{page-step}
 
 pub next-along : StepsAlong next
 unfolding next
 next-along b v c h = rw (lt-ltb _ _ h)
+
+pub page-next : (step : ℕ) (c : Cursor) → pageOf step c .next ≡ c .next
+unfolding pageOf
+page-next step c = cases (ltb (c .used) step) (λ t. rw t) (λ t. rw t)
+
+-- at most one entry is read in a step
+pub next-near : (b : List ℕ) (v : View) (c : Cursor) → next b v c .next ≤ c .next + 1
+unfolding next alongRun entered enteredBy
+next-near b v c =
+    cases (ltb (c .at) (c .last))
+    (λ t. rw t (omega arith))
+    (λ t. rw (t, page-next (v .step) c) (most (c .next)))
+  where
+    most : (n : ℕ) → add32 n 1 ≤ n + 1
+    most n = unfold add32 in omega arith
+
+-- where the run ends, with the next entry x
+pub next-entered : (b : List ℕ) (v : View) (c p : Cursor) (x : Pair) → c .last ≤ c .at → p ≡ pageOf (v .step) c → x ≡ pairAt (v .second + 8 * p .next) b
+    → enteredBy x p ≡ next b v c
+unfolding next entered
+next-entered b v c p x h e f = rw (le-ltb (c .at) (c .last) h, f, e)
 
 -- a is the sum of the page's pairs so far, and base and empty say what stands before the page, while entries of the page are left
 record Ahead (b : List ℕ) (w : View) (B : ℕ) (c : Cursor) (ls : List ℕ) : Type 0 where
@@ -48,7 +70,7 @@ module _ (b : List ℕ) (w : View) (B : ℕ) (small : B < 2 ^ 32) (c : Cursor) (
       → q .rank ≡ c .rank → q .next ≡ c .next → q .base < 2 ^ 32 → add32 (q .base) 1 + a .cells ≡ e → q .empty + a .empty ≡ v
       → Entries b 4 (w .second) (2 * q .next) (flatSpans (plus a x ∷ sumsFrom (w .step) (w .step - q .used) (plus a x) xs))
       → (entered b w q .at ≡ p) × Ahead b w B (entered b w q) ls
-  unfolding entered flatSpans
+  unfolding entered enteredBy flatSpans
   enter-entry q a x xs h f o qr qn qb qc qe es =
       let f0 = f .0 in
       let f1 = f .1 in
@@ -167,7 +189,7 @@ pub walks : Walks pagesKind next
 walks =
     record {
       rank = λ b v c.
-          unfold next alongRun entered pageOf in
+          unfold next alongRun entered enteredBy pageOf in
           cases (ltb (c .at) (c .last))
           (λ t. rw t)
           (λ t. rw t (cases (ltb (c .used) (v .step)) (λ u. rw u) (λ u. rw u)));

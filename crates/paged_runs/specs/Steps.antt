@@ -1,9 +1,11 @@
 -- Kind 5: the cursor's step along level 0, as the code takes it. Assumes nothing.
-use Prim.Native.Nat.{ℕ, _+_, _-_, _*_}
+use Prim.Native.Nat.{ℕ, _+_, _-_, _*_, _≤_}
 use mathlib.Core.List.{List}
+use lib.ListN.{length}
 use lib.Dec.{ltb}
 use Rattle.format.specs.declared.View.{View}
 use Rattle.format.specs.Tools.{pick}
+use Rattle.wire.specs.declared.Pair.{Pair}
 use Rattle.wire.specs.Wire.{pairAt}
 use Rattle.parts.specs.declared.Cursor.{Cursor}
 use Rattle.parts.specs.Cursor.{add32, alongRun}
@@ -15,10 +17,9 @@ pageOf step c =
     (record { rank = c .rank; at = c .at; next = c .next; last = c .last; used = c .used + 1; base = c .base; empty = c .empty })
     (record { rank = c .rank; at = c .at; next = c .next; last = c .last; used = 1; base = c .at; empty = c .at - c .rank })
 
--- the first stored cell of the run of the next entry, which counts the cells and the empty cells from the start of the page in p
-unfoldable pub entered : List ℕ → View → Cursor → Cursor
-entered b v p =
-    let x = pairAt (v .second + 8 * p .next) b in
+-- the first stored cell of the run of the entry x, which counts the cells and the empty cells from the start of the page in p
+unfoldable pub enteredBy : Pair → Cursor → Cursor
+enteredBy x p =
     record {
       rank = add32 (p .rank) 1;
       at = add32 (add32 (p .rank) 1) (add32 (p .empty) (x .second));
@@ -29,6 +30,14 @@ entered b v p =
       empty = p .empty;
     }
 
+-- that of the run of the next entry in the file
+unfoldable pub entered : List ℕ → View → Cursor → Cursor
+entered b v p = enteredBy (pairAt (v .second + 8 * p .next) b) p
+
 -- the cursor at the next rank
 unfoldable pub next : List ℕ → View → Cursor → Cursor
 next b v c = pick (ltb (c .at) (c .last)) (alongRun c) (entered b v (pageOf (v .step) c))
+
+-- the n entries from the cursor's next on are all in the file
+abbrev pub There : List ℕ → View → Cursor → ℕ → Type 0
+There b v c n = v .second + 8 * (c .next + n) ≤ length b

@@ -7,6 +7,7 @@ use parts::encode::grow;
 use parts::encode::left_after;
 use parts::encode::move_on;
 use parts::encode::run_ends;
+use parts::far::list_ends;
 use stores::put_pair;
 ghost use mathlib.Core.Path.{_≡_};
 ghost use mathlib.Core.Bool.{true};
@@ -15,22 +16,23 @@ ghost use lib.ListN.{length};
 ghost use Rattle.format.specs.Tools.{range};
 ghost use Rattle.format.specs.PagedRuns.{pagesKind};
 ghost use Rattle.stores.specs.Put.{put};
-ghost use Rattle.parts.specs.Encoder.{takenBy, takenAllBy, endedBy};
+ghost use Rattle.parts.specs.Encoder.{runEnds, takenBy, takenAllBy, endedBy};
 ghost use Rattle.parts.specs.Ready.{passed, Sound, Next, Room, putBy};
 ghost use Rattle.parts.specs.Batch.{Along, RoomAll, putAllBy};
 ghost use Rattle.parts.specs.Codes.{Standing};
+ghost use Rattle.parts.specs.Far.{endsAfter};
 ghost use Rattle.paged_runs.specs.Coding.{pagesCoder, coder};
+
+// The most positions whose run ends are listed at a time: a caller's largest batch.
+const BATCH: usize = 1024;
 
 // ---- one position
 
-// The encoder after p.
-fn pages_taken(step: u32, e: Encoder, p: u32) -> Encoder
-    requires { ⌜ Next e p × (1 ≤ step) ⌝ }
+// The encoder after p, before which a run ends.
+fn after_run(step: u32, e: Encoder, p: u32) -> Encoder
+    requires { ⌜ Next e p × (1 ≤ step) × (runEnds e p ≡ true) ⌝ }
     ensures { λ r. ⌜ r ≡ takenBy (pagesCoder step) e p ⌝ }
 {
-    if !run_ends(e, p) {
-        return move_on(e, p, e.first, e.second);
-    }
     let left = left_after(step, e.left);
     let mut cells = e.cells;
     let mut empty = e.empty;
@@ -51,16 +53,36 @@ fn pages_taken(step: u32, e: Encoder, p: u32) -> Encoder
     }
 }
 
-// The entry of the run that ends before p; the encoder after p.
+// The encoder after p.
+fn pages_taken(step: u32, e: Encoder, p: u32) -> Encoder
+    requires { ⌜ Next e p × (1 ≤ step) ⌝ }
+    ensures { λ r. ⌜ r ≡ takenBy (pagesCoder step) e p ⌝ }
+{
+    if run_ends(e, p) {
+        return after_run(step, e, p);
+    }
+    move_on(e, p, e.first, e.second)
+}
+
+// The entry of the run, which ends before p; the encoder after p.
+fn put_entry(dst: &mut [u8], step: u32, e: Encoder, p: u32) -> Encoder
+    requires { ⌜ Next e p × Room (pagesCoder step) e p (length (now dst)) × (1 ≤ step) × (runEnds e p ≡ true) ⌝ }
+    ensures { λ r. ⌜ (r ≡ takenBy (pagesCoder step) e p) × (now (dst .exit) ≡ putBy (pagesCoder step) (now (dst .entry)) e p) ⌝ }
+{
+    let end = e.last + 1;
+    put_pair(dst, e.second, end - e.cells, end - e.rank - e.empty);
+    after_run(step, e, p)
+}
+
+// The entry of the run, where one ends before p; the encoder after p.
 fn pages_put(dst: &mut [u8], step: u32, e: Encoder, p: u32) -> Encoder
     requires { ⌜ Next e p × Room (pagesCoder step) e p (length (now dst)) × (1 ≤ step) ⌝ }
     ensures { λ r. ⌜ (r ≡ takenBy (pagesCoder step) e p) × (now (dst .exit) ≡ putBy (pagesCoder step) (now (dst .entry)) e p) ⌝ }
 {
     if run_ends(e, p) {
-        let end = e.last + 1;
-        put_pair(dst, e.second, end - e.cells, end - e.rank - e.empty);
+        return put_entry(dst, step, e, p);
     }
-    pages_taken(step, e, p)
+    move_on(e, p, e.first, e.second)
 }
 
 // ---- many positions
@@ -79,10 +101,28 @@ pub fn take_all(width: u32, step: u32, e: Encoder, ps: &[u32]) -> Encoder
     at
 }
 
-// The bytes that the positions add; the encoder after them.
-pub fn put_all(dst: &mut [u8], width: u32, step: u32, e: Encoder, ps: &[u32]) -> Encoder
-    requires { ⌜ (pagesKind width step .allowed ≡ true) × Along e (now ps) × RoomAll (coder width step) e (now ps) (length (now dst)) ⌝ }
-    ensures { λ r. ⌜ (r ≡ takenAllBy (coder width step) e (now (ps .entry))) × (now (dst .exit) ≡ putAllBy (coder width step) (now (dst .entry)) e (now (ps .entry))) ⌝ }
+// The entries of the runs that end among the positions ps, which follow one that is taken, and between it and them; the encoder after them. `ends` has
+// for each of these runs the number of positions up to its end.
+fn put_ends<'a>(dst: &mut [u8], step: u32, e: Encoder, ps: &'a [u32], ends: &'a [u32]) -> Encoder
+    requires { ⌜ (1 ≤ step) × (1 ≤ e .rank) × (now ends ≡ endsAfter 0 (e .last) (now ps)) × Along e (now ps) × RoomAll (pagesCoder step) e (now ps) (length (now dst)) ⌝ }
+    ensures { λ r. ⌜ (r ≡ takenAllBy (pagesCoder step) e (now (ps .entry))) × (now (dst .exit) ≡ putAllBy (pagesCoder step) (now (dst .entry)) e (now (ps .entry))) ⌝ }
+{
+    let mut at = e;
+    let mut taken: u32 = 0;
+    let mut t: usize = 0;
+    while t < ends.len() {
+        let end = ends[t];
+        at = put_entry(dst, step, grow(at, end - taken), ps[end as usize]);
+        taken = end + 1;
+        t += 1;
+    }
+    grow(at, ps.len() as u32 - taken)
+}
+
+// The bytes that the positions add, one position at a time; the encoder after them.
+fn put_each(dst: &mut [u8], step: u32, e: Encoder, ps: &[u32]) -> Encoder
+    requires { ⌜ (1 ≤ step) × Along e (now ps) × RoomAll (pagesCoder step) e (now ps) (length (now dst)) ⌝ }
+    ensures { λ r. ⌜ (r ≡ takenAllBy (pagesCoder step) e (now (ps .entry))) × (now (dst .exit) ≡ putAllBy (pagesCoder step) (now (dst .entry)) e (now (ps .entry))) ⌝ }
 {
     let mut at = e;
     let mut i: usize = 0;
@@ -91,6 +131,31 @@ pub fn put_all(dst: &mut [u8], width: u32, step: u32, e: Encoder, ps: &[u32]) ->
         i += 1;
     }
     at
+}
+
+// The bytes that the positions of a batch add; the encoder after them. The run ends are listed first, without a branch.
+fn put_batch(dst: &mut [u8], step: u32, e: Encoder, ps: &[u32]) -> Encoder
+    requires { ⌜ (1 ≤ step) × (1 ≤ length (now ps)) × (length (now ps) ≤ 1024) × Along e (now ps) × RoomAll (pagesCoder step) e (now ps) (length (now dst)) ⌝ }
+    ensures { λ r. ⌜ (r ≡ takenAllBy (pagesCoder step) e (now (ps .entry))) × (now (dst .exit) ≡ putAllBy (pagesCoder step) (now (dst .entry)) e (now (ps .entry))) ⌝ }
+{
+    let mut ends = [0u32; BATCH];
+    let k = list_ends(ps, &mut ends);
+    let at = pages_put(dst, step, e, ps[0]);
+    put_ends(dst, step, at, &ps[1..], &ends[..k])
+}
+
+// The bytes that the positions add; the encoder after them.
+pub fn put_all(dst: &mut [u8], width: u32, step: u32, e: Encoder, ps: &[u32]) -> Encoder
+    requires { ⌜ (pagesKind width step .allowed ≡ true) × Along e (now ps) × RoomAll (coder width step) e (now ps) (length (now dst)) ⌝ }
+    ensures { λ r. ⌜ (r ≡ takenAllBy (coder width step) e (now (ps .entry))) × (now (dst .exit) ≡ putAllBy (coder width step) (now (dst .entry)) e (now (ps .entry))) ⌝ }
+{
+    if ps.len() == 0 {
+        return e;
+    }
+    if BATCH < ps.len() {
+        return put_each(dst, step, e, ps);
+    }
+    put_batch(dst, step, e, ps)
 }
 
 // The bytes that n consecutive positions from p on add; the encoder after them.

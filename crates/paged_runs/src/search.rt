@@ -1,5 +1,6 @@
 // The searches (document 01, "The file", kind 5): along a page to the first entry whose count exceeds the number, and from there to the page
-// below it. For a position a search counts all cells of an entry, for a rank its stored cells.
+// below it. For a position a search counts all cells of an entry, for a rank its stored cells. The entries of a page rise, so those before that
+// entry are counted.
 use format::Position;
 use format::Rank;
 use format::View;
@@ -7,16 +8,18 @@ use levels::entry::pair_at;
 use levels::sizes::level_sizes;
 use levels::sizes::size_at;
 use parts::Found;
+use parts::search::counted;
 use wire::Pair;
 use wire::numbers::index;
 use wire::numbers::lesser;
 use wire::numbers::long;
 ghost use mathlib.Core.Path.{_≡_};
-ghost use Prim.Native.Nat.{_-_, _<_};
-ghost use Rattle.format.specs.PagedRuns.{none, at, pagesKind};
+ghost use Prim.Native.Nat.{_+_, _-_, _*_, _≤_, _<_, _^_};
+ghost use lib.ListN.{length, take, drop};
+ghost use Rattle.format.specs.PagedRuns.{allCells, storedCells, at, pagesKind};
 ghost use Rattle.parts.specs.Found.{FoundIn, PositionIn};
 ghost use Rattle.levels.specs.Levels.{entries, spanOf};
-ghost use Rattle.paged_runs.specs.Descent.{counted, ofEmpty, foundAt, descended, walked, PageFits, LevelsFit, searched, placeBy, positionBy};
+ghost use Rattle.paged_runs.specs.Descent.{counted, ofEmpty, passed, leftOf, foundAt, descended, walked, PageFits, LevelsFit, searched, placeBy, positionBy};
 
 // Where a search ends: the empty cells before a run, those that it begins with, and the number that is left within it.
 enum Reached {
@@ -42,8 +45,68 @@ fn count(x: Pair, stored: bool) -> u32
     }
 }
 
-// Along a page of the level that begins at entry `from`, from its first entry on, to the first entry whose count exceeds p; c is the entry to the left, or 0.
-// `level` counts the levels below.
+// How many of the n entries from a number on have at most p cells. Counted, and not branched on.
+fn cells_passed(file: &[u8], start: u32, number: usize, n: usize, p: u32) -> u32
+    requires { ⌜ (n ≤ 64) × (start + 8 * (number + n) ≤ length (now file)) ⌝ }
+    ensures { λ r. ⌜ (r ≡ passed allCells p (take n (drop number (entries start (now (file .entry)))))) × (r ≤ n) ⌝ }
+{
+    let mut next = number;
+    let mut left = n;
+    let mut count: u32 = 0;
+    while 0 < left {
+        let y = pair_at(file, start, next);
+        count += counted(y.first, p) as u32;
+        next += 1;
+        left -= 1;
+    }
+    count
+}
+
+// How many of them have at most p stored cells.
+fn stored_passed(file: &[u8], start: u32, number: usize, n: usize, p: u32) -> u32
+    requires { ⌜ (n ≤ 64) × (start + 8 * (number + n) ≤ length (now file)) ⌝ }
+    ensures { λ r. ⌜ (r ≡ passed storedCells p (take n (drop number (entries start (now (file .entry)))))) × (r ≤ n) ⌝ }
+{
+    let mut next = number;
+    let mut left = n;
+    let mut count: u32 = 0;
+    while 0 < left {
+        let y = pair_at(file, start, next);
+        count += counted(less(y.first, y.second), p) as u32;
+        next += 1;
+        left -= 1;
+    }
+    count
+}
+
+// How many of the n entries from a number on count at most p: where they rise, those before the first that exceeds p.
+fn passed(file: &[u8], start: u32, number: usize, n: usize, stored: bool, p: u32) -> usize
+    requires { ⌜ (n ≤ 64) × (start + 8 * (number + n) ≤ length (now file)) ⌝ }
+    ensures { λ r. ⌜ (r ≡ passed (counted stored) p (take n (drop number (entries start (now (file .entry)))))) × (r ≤ n) ⌝ }
+{
+    if stored {
+        index(stored_passed(file, start, number, n, p))
+    } else {
+        index(cells_passed(file, start, number, n, p))
+    }
+}
+
+// The entry to the left of the one after k entries of a page that begins at a number; zeros where there is none.
+fn entry_before(file: &[u8], start: u32, number: usize, k: usize) -> Pair
+    requires { ⌜ start + 8 * (number + k) ≤ length (now file) ⌝ }
+    ensures { λ r. ⌜ (spanOf r ≡ leftOf (drop number (entries start (now (file .entry)))) k) × (r .first < 2 ^ 32) × (r .second < 2 ^ 32) ⌝ }
+{
+    if k == 0 {
+        return Pair {
+            first: 0,
+            second: 0,
+        };
+    }
+    pair_at(file, start, number + k - 1)
+}
+
+// Along a page of the level that begins at entry `from`, past the entries whose count does not exceed p, to the page below the next one; `level` counts the
+// levels below. Where the entries rise, that is the first entry whose count exceeds p.
 fn page_walk<'a>(
     file: &'a [u8],
     start: u32,
@@ -58,37 +121,28 @@ fn page_walk<'a>(
     p: u32,
 ) -> Reached
     requires { ⌜ PageFits (now file) start (now sizes) step level from first left before ⌝ }
-    ensures { λ r. ⌜ r ≡ foundAt (walked (entries start (now (file .entry))) (now (sizes .entry)) step stored level from first left before none p) ⌝ }
+    ensures { λ r. ⌜ r ≡ foundAt (walked (entries start (now (file .entry))) (now (sizes .entry)) step stored level from first left before p) ⌝ }
 {
-    let end = first + left;
-    let mut entry = first;
-    let mut c = Pair {
-        first: 0,
-        second: 0,
-    };
-    while entry < end {
-        let y = pair_at(file, start, from + entry);
-        if p < count(y, stored) {
-            let rest = p - count(c, stored);
-            let own = less(y.second, c.second);
-            return descend(
-                file,
-                start,
-                sizes,
-                step,
-                stored,
-                level,
-                from + size_at(sizes, level),
-                entry,
-                before + c.second as u64,
-                own,
-                rest,
-            );
-        }
-        c = y;
-        entry += 1;
+    let number = from + first;
+    let k = passed(file, start, number, left, stored, p);
+    if left <= k {
+        return Reached::Nowhere;
     }
-    Reached::Nowhere
+    let c = entry_before(file, start, number, k);
+    let y = pair_at(file, start, number + k);
+    descend(
+        file,
+        start,
+        sizes,
+        step,
+        stored,
+        level,
+        from + size_at(sizes, level),
+        first + k,
+        before + c.second as u64,
+        less(y.second, c.second),
+        less(p, count(c, stored)),
+    )
 }
 
 // From an entry of a level to the page below it, which has the entry's number. `level` counts the levels below; they begin at entry `from`.

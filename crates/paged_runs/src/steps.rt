@@ -4,12 +4,15 @@ use parts::Cursor;
 use parts::walk::along_run;
 use parts::walk::fill_run;
 use std::num::wrapping_add_u32;
+use wire::Pair;
+use wire::get_pair;
 use wire::load_pair;
 ghost use mathlib.Core.Path.{_≡_};
+ghost use mathlib.Core.Bool.{true};
 ghost use Prim.Native.Nat.{_+_, _-_, _≤_};
 ghost use lib.ListN.{length};
 ghost use Rattle.parts.specs.Cursor.{steppedAs, Batch};
-ghost use Rattle.paged_runs.specs.Steps.{pageOf, entered, next};
+ghost use Rattle.paged_runs.specs.Steps.{pageOf, enteredBy, next, There};
 
 // The page of the next entry: the same, or the one after the run where the cursor stands at the end.
 fn page_of(step: u32, mut c: Cursor) -> Cursor
@@ -28,15 +31,14 @@ fn page_of(step: u32, mut c: Cursor) -> Cursor
     c
 }
 
-// The next entry of level 0, in the page p. It counts the cells and the empty cells from the page's start.
-fn enter(file: &[u8], v: View, mut p: Cursor) -> Cursor
-    ensures { λ r. ⌜ r ≡ entered (now (file .entry)) v p ⌝ }
+// In the run of the entry x, in the page p. The entry counts the cells and the empty cells from the page's start.
+fn enter(x: Pair, mut p: Cursor) -> Cursor
+    ensures { λ r. ⌜ r ≡ enteredBy x p ⌝ }
 {
-    let entry = load_pair(file, v.second as usize + 8 * p.next as usize);
     p.rank = wrapping_add_u32(p.rank, 1);
-    p.at = wrapping_add_u32(p.rank, wrapping_add_u32(p.empty, entry.second));
+    p.at = wrapping_add_u32(p.rank, wrapping_add_u32(p.empty, x.second));
     p.next = wrapping_add_u32(p.next, 1);
-    p.last = wrapping_add_u32(p.base, entry.first);
+    p.last = wrapping_add_u32(p.base, x.first);
     p
 }
 
@@ -49,7 +51,8 @@ pub fn next(file: &[u8], v: View, mut c: Cursor) -> Cursor
         c.at += 1;
         return c;
     }
-    enter(file, v, page_of(v.step, c))
+    let p = page_of(v.step, c);
+    enter(load_pair(file, v.second as usize + 8 * p.next as usize), p)
 }
 
 // k cells along the run, then one step.
@@ -60,10 +63,61 @@ pub fn past(file: &[u8], v: View, c: Cursor, k: u32) -> Cursor
     next(file, v, along_run(c, k))
 }
 
+// ---- many ranks
+
+// Whether the n entries from the cursor's next on are all there.
+fn all_there(file: &[u8], v: View, c: Cursor, n: usize) -> bool
+    ensures { λ r. ⌜ (r ≡ true → There (now (file .entry)) v c n) ⌝ }
+{
+    if 65536 < n {
+        return false;
+    }
+    v.second as usize + 8 * (c.next as usize + n) <= file.len()
+}
+
+// The cursor at the next rank, where the next entry is there.
+fn next_there(file: &[u8], v: View, mut c: Cursor) -> Cursor
+    requires { ⌜ There (now file) v c 1 ⌝ }
+    ensures { λ r. ⌜ r ≡ next (now (file .entry)) v c ⌝ }
+{
+    if c.at < c.last {
+        c.rank = wrapping_add_u32(c.rank, 1);
+        c.at += 1;
+        return c;
+    }
+    let p = page_of(v.step, c);
+    enter(get_pair(file, v.second as usize + 8 * p.next as usize), p)
+}
+
+// k cells along the run, then one step, where the next entry is there.
+fn past_there(file: &[u8], v: View, c: Cursor, k: u32) -> Cursor
+    requires { ⌜ (k ≤ c .last - c .at) × There (now file) v c 1 ⌝ }
+    ensures { λ r. ⌜ (r ≡ steppedAs (next (now (file .entry)) v) c (k + 1)) × (r .next ≤ c .next + 1) ⌝ }
+{
+    next_there(file, v, along_run(c, k))
+}
+
+// The positions of the ranks from the cursor on, where an entry for each is there.
+fn along(file: &[u8], v: View, mut c: Cursor, out: &mut [u32]) -> Cursor
+    requires { ⌜ There (now file) v c (length (now out)) ⌝ }
+    ensures { λ r. ⌜ Batch (next (now (file .entry)) v) c (length (now (out .entry))) r (now (out .exit)) ⌝ }
+{
+    let mut i: usize = 0;
+    while i < out.len() {
+        let m = fill_run(out, i, c);
+        c = past_there(file, v, c, (m - 1) as u32);
+        i += m;
+    }
+    c
+}
+
 // The positions of the ranks from the cursor on, as many as `out` has elements; the cursor after them.
 pub fn positions(file: &[u8], v: View, mut c: Cursor, out: &mut [u32]) -> Cursor
     ensures { λ r. ⌜ Batch (next (now (file .entry)) v) c (length (now (out .entry))) r (now (out .exit)) ⌝ }
 {
+    if all_there(file, v, c, out.len()) {
+        return along(file, v, c, out);
+    }
     let mut i: usize = 0;
     while i < out.len() {
         let m = fill_run(out, i, c);

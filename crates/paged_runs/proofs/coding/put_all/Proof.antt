@@ -1,63 +1,53 @@
-use Prim.Native.Nat.{_-_}
 use native.Mathlib.Omega.{arith}
-use lib.ListN.{length}
-use Rattle.parts.proofs.Taken.{Writing, write-begin, write-next, write-turn, write-end}
+use Rattle.parts.proofs.Taken.{write-begin, write-end}
 use Rattle.paged_runs.specs.Coding.{pagesCoder, coder}
 use Rattle.paged_runs.proofs.Allowed.{page-step}
-use Rattle.paged_runs.proofs.OneEntry.{keeps-pages}
 use borrow.Author.Needs.{needs}
 use Rattle.paged_runs.proofs.coding.put_all.Statement.{statement}
 use Rattle.paged_runs.proofs.coding.put_all.Tie as tie
 
-abbrev Inv-loop : tie.InvT-loop
-Inv-loop dst₀ width step ps at₀ i₀ dst at i = Writing (pagesCoder step) ps at₀ dst₀ at dst i
-
-abbrev μ-loop : tie.MeasureT-loop
-μ-loop dst₀ width step ps at₀ i₀ dst at i = length ps - i
-
-loop-holds : tie.Need-loop-holds Inv-loop μ-loop
-unfolding coder
-loop-holds c =
-    let p = c .before .before in
-    let a = p .args in
-    write-begin (pagesCoder (a .step)) (a .ps .now) (a .e) (a .dst .now) (p .pre .1) (p .pre .2)
-
-pages-put-requires : tie.Need-pages-put-requires Inv-loop μ-loop
-pages-put-requires c κs =
-    let p = c .before .before .before .before .before .before in
-    let a = p .args in
-    let l = c .before .before .before .loop in
-    let n = write-next (pagesCoder (a .step)) (a .ps .now) (a .e) (a .dst .now) (l .at) (l .dst) (l .i) (c .before .before .loop-test .taken) (l .inv) in
-    let s = page-step (a .width) (a .step) (p .pre .0) .0 in
-    (n .0, n .1, omega arith)
-
-loop-again : tie.Need-loop-again Inv-loop μ-loop
-loop-again c =
-    let a = c .before .before .before .before .before .before .before .before .before .args in
-    let l = c .before .before .before .before .before .before .loop in
-    let o = c .before .before .pages-put in
-    write-turn (pagesCoder (a .step)) (a .ps .now) (a .e) (a .dst .now) (l .at) (l .dst) (l .i) (c .before .before .before .before .before .loop-test .taken) (l .inv) (keeps-pages (a .step))
-    (o .result) (o .last .0) (o .ensures)
-
-returns : tie.Need-returns Inv-loop μ-loop
+-- of no positions
+returns : tie.Need-returns
 unfolding coder
 returns c =
-    let a = c .before .before .before .before .args in
-    let l = c .before .loop in
-    write-end (pagesCoder (a .step)) (a .ps .now) (a .e) (a .dst .now) (l .at) (l .dst) (l .i) (omega arith) (l .inv)
+    let p = c .before .before .before in
+    let a = p .args in
+    let z = c .if1 .taken in
+    write-end (pagesCoder (a .step)) (a .ps .now) (a .e) (a .dst .now) (a .e) (a .dst .now) 0 (omega arith)
+    (write-begin (pagesCoder (a .step)) (a .ps .now) (a .e) (a .dst .now) (p .pre .1) (p .pre .2))
+
+put-each-requires : tie.Need-put-each-requires
+unfolding coder
+put-each-requires c κs =
+    let p = c .before .before .before .before .before in
+    let s = page-step (p .args .width) (p .args .step) (p .pre .0) .0 in
+    (omega arith, p .pre .1, p .pre .2)
+
+returns-2 : tie.Need-returns-2
+unfolding coder
+returns-2 c = c .before .before .put-each .ensures
+
+put-batch-requires : tie.Need-put-batch-requires
+unfolding coder
+put-batch-requires c κs =
+    let p = c .before .before .before .before .before in
+    let s = page-step (p .args .width) (p .args .step) (p .pre .0) .0 in
+    let z = c .before .before .if1 .left in
+    let n = c .before .if2 .left in
+    (omega arith, omega arith, omega arith, p .pre .1, p .pre .2)
+
+returns-3 : tie.Need-returns-3
+unfolding coder
+returns-3 c = c .before .before .put-batch .ensures
 
 pub put-all-spec : {M : Type 1} → statement M
 put-all-spec =
     tie.close
     (tie.spec
-    Inv-loop
-    μ-loop
-    loop-holds
+    returns
+    put-each-requires
     (λ c. search needs)
+    returns-2
+    put-batch-requires
     (λ c. search needs)
-    pages-put-requires
-    (λ c. search needs)
-    (λ c. omega arith)
-    loop-again
-    (λ c. c .before .loop .inv .same)
-    returns)
+    returns-3)

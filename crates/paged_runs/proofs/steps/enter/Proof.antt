@@ -1,26 +1,21 @@
 use Rattle.parts.specs.Cursor.{add32}
-use Rattle.paged_runs.specs.Steps.{entered}
+use Rattle.paged_runs.specs.Steps.{enteredBy}
 use borrow.Author.Needs.{needs}
 use Rattle.paged_runs.proofs.steps.enter.Statement.{statement}
 use Rattle.paged_runs.proofs.steps.enter.Tie as tie
 
 returns : tie.Need-returns
-unfolding entered add32
+unfolding enteredBy add32
 returns c =
     let w = c .before .before in
     let x = w .before .before in
     rw (c .wrapping-add-u325 .ensures, c .before .wrapping-add-u324 .ensures, w .wrapping-add-u323 .ensures)
-    (rw (w .before .wrapping-add-u322 .ensures, x .wrapping-add-u32 .ensures, x .before .load-pair .ensures))
+    (rw (w .before .wrapping-add-u322 .ensures, x .wrapping-add-u32 .ensures))
 
 pub enter-spec : {M : Type 1} → statement M
 enter-spec =
     tie.close
     (tie.spec
-    (λ c. search needs)
-    (λ c. search needs)
-    (λ c. search needs)
-    (λ c. search needs)
-    (λ c κs. search needs)
     (λ c κs. search needs)
     (λ c κs. search needs)
     (λ c κs. search needs)

@@ -1,7 +1,9 @@
-use borrow.Author.Tests.{lt-ltb, le-ltb}
+use mathlib.Core.Path.{_∙_}
+use borrow.Author.Tests.{lt-ltb}
+use borrow.Author.Needs.{needs}
 use Rattle.parts.specs.Cursor.{add32, alongRun}
 use Rattle.paged_runs.specs.Steps.{next}
-use borrow.Author.Needs.{needs}
+use Rattle.paged_runs.proofs.Walk.{next-entered}
 use Rattle.paged_runs.proofs.steps.next.Statement.{statement}
 use Rattle.paged_runs.proofs.steps.next.Tie as tie
 
@@ -10,8 +12,9 @@ unfolding next alongRun add32
 returns c = rw (lt-ltb _ _ (c .before .before .if1 .taken), c .before .wrapping-add-u32 .ensures)
 
 returns-2 : tie.Need-returns-2
-unfolding next
-returns-2 c = rw (le-ltb _ _ (c .before .before .if1 .left), ← c .before .page-of .ensures) (c .enter .ensures)
+returns-2 c =
+    c .enter .ensures
+    ∙ next-entered _ _ _ _ _ (c .before .before .before .before .before .if1 .left) (c .before .before .before .before .page-of .ensures) (c .before .load-pair .ensures)
 
 pub next-spec : {M : Type 1} → statement M
 next-spec =
@@ -20,6 +23,11 @@ next-spec =
     (λ c κs. search needs)
     (λ c. search needs)
     returns
+    (λ c κs. search needs)
+    (λ c. search needs)
+    (λ c. search needs)
+    (λ c. search needs)
+    (λ c. search needs)
     (λ c κs. search needs)
     (λ c κs. search needs)
     returns-2)
