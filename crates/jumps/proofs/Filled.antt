@@ -19,7 +19,7 @@ use Rattle.stores.proofs.Laws.{put-append, put-front, length-put}
 use Rattle.parts.specs.declared.Cursor.{Cursor}
 use Rattle.parts.specs.Cursor.{add32, movedTo, entryOf, walkedAs, steppedAs, Batch}
 use Rattle.parts.proofs.Steps.{add32-small}
-use Rattle.parts.proofs.Batches.{walked-as-add, stepped-as-add, length-walked-as}
+use Rattle.parts.proofs.Batches.{stand, walked-as-add, stepped-as-add, length-walked-as}
 use Rattle.jumps.specs.Walk.{Room, plain}
 use Rattle.jumps.proofs.Groups.{earlier}
 use Rattle.jumps.specs.Steps.{jumpBy, jumpFrom, next, nextAt, Filled}
@@ -161,13 +161,7 @@ module _ (w second : ℕ) (b : List ℕ) (r : ℕ) where
       eqb-false (field w (second + w * (r + suc n)) b) 0 (not-true _ (y .0)) (rw q at z))
       (λ e. let q = eqb-false k n e in plain-at n k (y .1) (omega arith) z)
 
--- k ranks further, at a position
-abbrev pub stand : Cursor → ℕ → ℕ → Cursor
-stand c k p = record { rank = c .rank + k; at = p; next = c .next; last = c .last; used = c .used; base = c .base; empty = c .empty }
-
-pub stand-first : (c : Cursor) → stand c 0 (c .at) ≡ c
-stand-first c = rw (add-zero (c .rank))
-
+-- one rank further without a jump
 pub stand-next : (w start second : ℕ) (b : List ℕ) (c : Cursor) (n k p : ℕ) → Room w second b (c .rank + n) → plain w second b (c .rank) n ≡ true → k < n
     → {d : ℕ} → d ≡ field w (second + w * (c .rank + (k + 1))) b → stand c (k + 1) (add32 p d) ≡ nextAt w start second b (stand c k p)
 unfolding jumpBy movedTo

@@ -2,13 +2,22 @@
 use Prim.Native.Nat.{ℕ, zero, suc, _+_, _-_, _≤_, _<_}
 use mathlib.Core.Path.{_≡_, refl, sym, ap, _∙_}
 use mathlib.Core.List.{List, _∷_, _++_, append-nil}
-use native.Mathlib.Nat.{sub-zero, zero-add}
+use native.Mathlib.Nat.{sub-zero, zero-add, add-zero}
 use native.Mathlib.Numerals.{add-one}
 use native.Mathlib.Omega.{arith}
 use lib.ListN.{length, take, set}
 use lib.Seq.{take-all, take-suc-set, append-snoc}
 use Rattle.parts.specs.declared.Cursor.{Cursor}
 use Rattle.parts.specs.Cursor.{walkedAs, steppedAs, Batch}
+
+-- ---- a cursor that only rank and position tell
+
+-- i ranks further than c, at the position p
+abbrev pub stand : Cursor → ℕ → ℕ → Cursor
+stand c i p = record { rank = c .rank + i; at = p; next = c .next; last = c .last; used = c .used; base = c .base; empty = c .empty }
+
+pub stand-first : (c : Cursor) → stand c 0 (c .at) ≡ c
+stand-first c = rw (add-zero (c .rank))
 
 -- ---- a loop with the step f, that is to take n steps from c₀
 

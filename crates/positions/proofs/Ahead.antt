@@ -2,7 +2,6 @@
 use Prim.Native.Nat.{ℕ, _+_, _-_, _*_, _≤_, _<_}
 use mathlib.Core.Path.{_≡_, ap, _∙_}
 use mathlib.Core.List.{List}
-use native.Mathlib.Nat.{add-zero}
 use native.Mathlib.Omega.{arith}
 use lib.ListN.{length, set}
 use Rattle.format.specs.declared.View.{View}
@@ -12,15 +11,8 @@ use Rattle.wire.proofs.Laws.{whole-there}
 use Rattle.parts.specs.declared.Cursor.{Cursor}
 use Rattle.parts.specs.Cursor.{add32, movedTo, Batch}
 use Rattle.parts.proofs.Steps.{add32-small}
-use Rattle.parts.proofs.Batches.{Partly, batch-turn, batch-end}
+use Rattle.parts.proofs.Batches.{stand, Partly, batch-turn, batch-end}
 use Rattle.positions.specs.Steps.{next, There}
-
--- i ranks further, at a position
-abbrev pub stand : Cursor → ℕ → ℕ → Cursor
-stand c i p = record { rank = c .rank + i; at = p; next = c .next; last = c .last; used = c .used; base = c .base; empty = c .empty }
-
-pub stand-first : (c : Cursor) → stand c 0 (c .at) ≡ c
-stand-first c = ap (λ (r : ℕ). record { rank = r; at = c .at; next = c .next; last = c .last; used = c .used; base = c .base; empty = c .empty }) (add-zero (c .rank))
 
 -- the step by the first part's place, which is told by that of the entry after the cursor's
 unfoldable pub nextBy : List ℕ → Cursor → ℕ → Cursor → Cursor

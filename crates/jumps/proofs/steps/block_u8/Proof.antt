@@ -9,7 +9,8 @@ use Rattle.parts.specs.Cursor.{add32}
 use Rattle.jumps.specs.Walk.{Room, plain}
 use Rattle.jumps.specs.Steps.{nextAt}
 use Rattle.jumps.proofs.Groups.{earlier, none-counted}
-use Rattle.jumps.proofs.Filled.{Left, fill-begin, fill-turn, fill-end, filled-length, stand, stand-first, stand-next}
+use Rattle.parts.proofs.Batches.{stand, stand-first}
+use Rattle.jumps.proofs.Filled.{Left, fill-begin, fill-turn, fill-end, filled-length, stand-next}
 use borrow.Author.Needs.{needs}
 use Rattle.jumps.proofs.steps.block_u8.Statement.{statement}
 use Rattle.jumps.proofs.steps.block_u8.Tie as tie

@@ -2,8 +2,8 @@ use Prim.Native.Nat.{_+_, _-_, _*_, _≤_}
 use mathlib.Core.Path.{_≡_, refl, _∙_}
 use native.Mathlib.Omega.{arith}
 use lib.ListN.{length, length-set}
-use Rattle.parts.proofs.Batches.{Partly, batch-start}
-use Rattle.positions.proofs.Ahead.{stand, stand-first, nextBy, ahead-turn, ahead-end}
+use Rattle.parts.proofs.Batches.{Partly, batch-start, stand, stand-first}
+use Rattle.positions.proofs.Ahead.{nextBy, ahead-turn, ahead-end}
 use borrow.Author.Needs.{needs}
 use Rattle.positions.proofs.steps.along.Statement.{statement}
 use Rattle.positions.proofs.steps.along.Tie as tie
