@@ -22,7 +22,7 @@ unfoldable pub ranksBefore : List ℕ → ℕ → ℕ → ℕ
 ranksBefore b s zero = 0
 ranksBefore b s (suc j) = suc (lastAt b s j) - emptyAt b s j
 
--- the answer r of a search among n runs, or n past them: where the file has their pairs, run r is the last with at most x before it
+-- what a search among n runs answers: run r, or n after them all; where the file has their pairs, and `before` rises from run to run, it is the last with at most x before it
 pub record LastRun (before : ℕ → ℕ) (b : List ℕ) (s n x r : ℕ) : Type 0 where
   pub most : r ≤ n
   pub last : s + 8 * n ≤ length b → LastAtMost before (suc n) x r

@@ -38,7 +38,7 @@ further e n l c =
       fits = e .fits;
     }
 
--- the pairs of the runs that end at indices of ls, of which the first has the rank r
+-- the pairs of the runs that end at some indices of the positions ls, the first of which has the rank r
 unfoldable pub endPairs : ℕ → List ℕ → List ℕ → List ℕ
 endPairs r ls [] = []
 endPairs r ls (i ∷ is) = pair (getD ls i 0) (getD ls i 0 - (r + i)) ++ endPairs r ls is

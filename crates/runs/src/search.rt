@@ -1,4 +1,4 @@
-// The searches of kind 1, in eighths of the runs: which of them it goes on in is counted, and not branched on. Any bytes and any view are safe.
+// The searches of kind 1, in eighths of the runs: which eighth to go on in is counted, and not branched on. Any bytes and any view are safe.
 use format::Position;
 use format::Rank;
 use format::View;
@@ -73,7 +73,7 @@ fn parts_ended(file: &[u8], start: usize, low: usize, part: usize, n: usize, p: 
     count
 }
 
-// So many have ranks below r only.
+// Of the same parts, so many have ranks below r only.
 fn parts_below(file: &[u8], start: usize, low: usize, part: usize, n: usize, r: u32) -> usize
     requires { ⌜ (1 ≤ part) × (start + 8 * (low + part * n) ≤ length (now file)) ⌝ }
     ensures { λ c. ⌜ (c ≡ passing (λ i. leb (ranksBefore (now (file .entry)) start (low + part * i)) r) n) × (c ≤ n) ⌝ }
@@ -139,6 +139,7 @@ pub fn find(file: &[u8], v: View, p: Position) -> Found
         };
     }
     let first = ranks_before(file, v.start, j);
+    // Over unfit bytes only: else no more cells are stored before a run than stand there.
     if (place as u64) < first {
         return Found {
             below: v.words,
