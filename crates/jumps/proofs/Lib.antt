@@ -17,3 +17,4 @@ pub mod Batch
 pub mod PutBatch
 -- What the crate says of itself.
 pub mod Laws
+pub mod Way

@@ -1,5 +1,5 @@
 -- The cursor's step. Assumes nothing.
-use Prim.Native.Nat.{ℕ, _+_, _*_}
+use Prim.Native.Nat.{ℕ, _+_, _-_, _*_, _≤_}
 use mathlib.Core.Path.{_≡_}
 use mathlib.Core.List.{List}
 use lib.Dec.{eqb}
@@ -8,6 +8,7 @@ use Rattle.format.specs.Tools.{pick}
 use Rattle.wire.specs.Wire.{whole}
 use Rattle.stores.specs.Put.{put}
 use Rattle.parts.specs.declared.Cursor.{Cursor}
+use Rattle.parts.specs.Walks.{sought}
 use Rattle.parts.specs.Cursor.{add32, movedTo, entryOf, walkedAs, steppedAs}
 
 -- to the next jump; the jumps begin at `start`
@@ -38,3 +39,8 @@ nextAt w start second b c = jumpBy b start (whole w (second + w * add32 (c .rank
 pub record Filled (f : Cursor → Cursor) (c : Cursor) (from m : ℕ) (before : List ℕ) (r : Cursor) (after : List ℕ) : Type 0 where
   pub cursor : r ≡ steppedAs f c m
   pub positions : after ≡ put before from (walkedAs f c m)
+
+-- on the way from c to the first position from p on, or to rank n, by the step f: what is left from r on leads to the same
+pub record OnWay (f : Cursor → Cursor) (n p : ℕ) (c r : Cursor) : Type 0 where
+  pub rank : c .rank ≤ r .rank
+  pub same : sought f n p (n - r .rank) r ≡ sought f n p (n - c .rank) c

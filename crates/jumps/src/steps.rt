@@ -1,5 +1,7 @@
 // A walk along the stored positions.
 use super::differences::difference;
+use super::differences::no_jump;
+use super::differences::sum;
 use super::differences::zeros_u8;
 use format::Position;
 use format::View;
@@ -9,12 +11,12 @@ use std::num::wrapping_add_u32;
 use wire::load_u32;
 ghost use mathlib.Core.Path.{_≡_};
 ghost use mathlib.Core.Bool.{true};
-ghost use Prim.Native.Nat.{_+_, _-_, _≤_};
+ghost use Prim.Native.Nat.{_+_, _-_, _≤_, _<_};
 ghost use lib.ListN.{length};
 ghost use Rattle.parts.specs.Cursor.{Batch};
 ghost use Rattle.parts.specs.Walks.{sought};
 ghost use Rattle.jumps.specs.Walk.{Room};
-ghost use Rattle.jumps.specs.Steps.{jumpBy, next, nextAt, Filled};
+ghost use Rattle.jumps.specs.Steps.{jumpBy, next, nextAt, Filled, OnWay};
 
 // By a difference: 0 is the next jump; the jumps begin at `start`.
 fn jump_by(file: &[u8], start: u32, difference: u32, mut c: Cursor) -> Cursor
@@ -179,6 +181,62 @@ pub fn positions(file: &[u8], v: View, mut c: Cursor, out: &mut [u32]) -> Cursor
     along_u16(file, v.start, v.second as usize, c, out)
 }
 
+// Over the 128 ranks after the cursor's where no jump is among them and all stay below p; else over none.
+fn leap(file: &[u8], v: View, mut c: Cursor, p: u32) -> Cursor
+    ensures { λ r. ⌜ OnWay (next (now (file .entry)) v) (v .words) p c r ⌝ }
+{
+    let rank = c.rank as usize;
+    if v.words as usize <= rank + 128 {
+        return c;
+    }
+    if !all_there(file, v.second, v.width, c.rank, 128) {
+        return c;
+    }
+    let second = v.second as usize;
+    if !no_jump(file, second, v.width, rank) {
+        return c;
+    }
+    let at = c.at as usize + sum(file, second, v.width, rank) as usize;
+    if p as usize <= at {
+        return c;
+    }
+    c.rank += 128;
+    c.at = at as u32;
+    c
+}
+
+// Over at most 128 ranks, one by one, at least over the next.
+fn step_on(file: &[u8], v: View, c: Cursor, p: u32) -> Cursor
+    requires { ⌜ (c .rank < v .words) × (c .at < p) ⌝ }
+    ensures { λ r. ⌜ OnWay (next (now (file .entry)) v) (v .words) p c r × (c .rank < r .rank) ⌝ }
+{
+    let mut t = c;
+    let mut k: usize = 0;
+    while k < 128 {
+        if v.words <= t.rank {
+            return t;
+        }
+        if p <= t.at {
+            return t;
+        }
+        t = next(file, v, t);
+        k += 1;
+    }
+    t
+}
+
+// Over a group of ranks, at once or one by one.
+fn pass_over(file: &[u8], v: View, c: Cursor, p: u32) -> Cursor
+    requires { ⌜ (c .rank < v .words) × (c .at < p) ⌝ }
+    ensures { λ r. ⌜ OnWay (next (now (file .entry)) v) (v .words) p c r × (c .rank < r .rank) ⌝ }
+{
+    let t = leap(file, v, c, p);
+    if t.rank != c.rank {
+        return t;
+    }
+    step_on(file, v, c, p)
+}
+
 // On to the first position from p on, or past the last rank.
 pub fn seek(file: &[u8], v: View, mut c: Cursor, p: Position) -> Cursor
     ensures { λ r. ⌜ r ≡ sought (next (now (file .entry)) v) (v .words) (p .0) (v .words - c .rank) c ⌝ }
@@ -188,7 +246,7 @@ pub fn seek(file: &[u8], v: View, mut c: Cursor, p: Position) -> Cursor
         if wanted <= c.at {
             return c;
         }
-        c = next(file, v, c);
+        c = pass_over(file, v, c, wanted);
     }
     c
 }
