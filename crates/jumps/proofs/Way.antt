@@ -13,11 +13,12 @@ use Rattle.laws.proofs.Tools.{both-true}
 use Rattle.parts.specs.declared.Cursor.{Cursor}
 use Rattle.parts.specs.Walks.{sought}
 use Rattle.parts.proofs.Steps.{add32-small}
+use Rattle.parts.proofs.Batches.{stand}
 use Rattle.parts.proofs.Sought.{sought-next}
 use Rattle.jumps.specs.Walk.{Room, plain, total}
 use Rattle.jumps.specs.Steps.{next, OnWay}
 use Rattle.jumps.proofs.Groups.{earlier}
-use Rattle.jumps.proofs.Filled.{next-at, stand, stand-next}
+use Rattle.jumps.proofs.Filled.{next-at, stand-next}
 use Rattle.jumps.proofs.Laws.{walks}
 
 -- ---- a step
