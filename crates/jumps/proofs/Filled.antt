@@ -165,9 +165,6 @@ module _ (w second : ℕ) (b : List ℕ) (r : ℕ) where
 abbrev pub stand : Cursor → ℕ → ℕ → Cursor
 stand c k p = record { rank = c .rank + k; at = p; next = c .next; last = c .last; used = c .used; base = c .base; empty = c .empty }
 
-pub stand-first : (c : Cursor) → stand c 0 (c .at) ≡ c
-stand-first c = rw (add-zero (c .rank))
-
 pub stand-next : (w start second : ℕ) (b : List ℕ) (c : Cursor) (n k p : ℕ) → Room w second b (c .rank + n) → plain w second b (c .rank) n ≡ true → k < n
     → {d : ℕ} → d ≡ field w (second + w * (c .rank + (k + 1))) b → stand c (k + 1) (add32 p d) ≡ nextAt w start second b (stand c k p)
 unfolding jumpBy movedTo

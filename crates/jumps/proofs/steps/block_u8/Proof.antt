@@ -9,7 +9,7 @@ use Rattle.parts.specs.Cursor.{add32}
 use Rattle.jumps.specs.Walk.{Room, plain}
 use Rattle.jumps.specs.Steps.{nextAt}
 use Rattle.jumps.proofs.Groups.{earlier, none-counted}
-use Rattle.jumps.proofs.Filled.{Left, fill-begin, fill-turn, fill-end, filled-length, stand, stand-first, stand-next}
+use Rattle.jumps.proofs.Filled.{Left, fill-begin, fill-turn, fill-end, filled-length, stand, stand-next}
 use borrow.Author.Needs.{needs}
 use Rattle.jumps.proofs.steps.block_u8.Statement.{statement}
 use Rattle.jumps.proofs.steps.block_u8.Tie as tie
@@ -43,7 +43,7 @@ same-length c = let a = c .before .before .before .before .before .before .befor
 loop-holds : tie.Need-loop-holds Inv-loop μ-loop
 loop-holds c =
     let a = c .before .before .before .before .before .args in
-    (omega arith, rw (stand-first (a .c), add-zero (a .from)) (fill-begin (nextAt 1 (a .start) (a .second) (a .file .now)) (a .c) (a .from) 16 (a .out .now)))
+    (omega arith, rw (add-zero (a .c .rank), add-zero (a .from)) (fill-begin (nextAt 1 (a .start) (a .second) (a .file .now)) (a .c) (a .from) 16 (a .out .now)))
 
 slice-write-out : tie.Need-slice-write-out Inv-loop μ-loop
 slice-write-out c =
