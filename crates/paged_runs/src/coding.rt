@@ -101,8 +101,8 @@ pub fn take_all(width: u32, step: u32, e: Encoder, ps: &[u32]) -> Encoder
     at
 }
 
-// The entries of the runs that end among the positions ps, which follow one that is taken, and between it and them; the encoder after them. `ends` has
-// for each of these runs the number of positions up to its end.
+// The entries of the runs that end before or among the positions ps, which follow a taken one; the encoder after them. `ends` has the number of positions
+// of ps up to each of these ends.
 fn put_ends<'a>(dst: &mut [u8], step: u32, e: Encoder, ps: &'a [u32], ends: &'a [u32]) -> Encoder
     requires { ⌜ (1 ≤ step) × (1 ≤ e .rank) × (now ends ≡ endsAfter 0 (e .last) (now ps)) × Along e (now ps) × RoomAll (pagesCoder step) e (now ps) (length (now dst)) ⌝ }
     ensures { λ r. ⌜ (r ≡ takenAllBy (pagesCoder step) e (now (ps .entry))) × (now (dst .exit) ≡ putAllBy (pagesCoder step) (now (dst .entry)) e (now (ps .entry))) ⌝ }
