@@ -6,7 +6,8 @@ use mathlib.Core.List.{List}
 use native.Mathlib.Nat.{zero-add}
 use native.Mathlib.Omega.{arith}
 use lib.ListN.{length, getD}
-use borrow.Author.Tests.{lt-ltb, le-ltb}
+use lib.Dec.{ltb}
+use borrow.Author.Tests.{lt-ltb, le-ltb, ltb-true, ltb-false}
 use Rattle.format.specs.declared.View.{View}
 use Rattle.format.specs.Tools.{pick}
 use Rattle.format.specs.Answers.{refused, empty, given}
@@ -21,7 +22,7 @@ use Rattle.parts.specs.Holds.{ViewOf, kindOf}
 use Rattle.parts.specs.Found.{countBelow, among, FoundIn, PositionIn}
 use Rattle.parts.proofs.Places.{rising-below, rank-found}
 use Rattle.parts.proofs.Seen.{seen}
-use Rattle.search.specs.Searched.{rankFrom, RankSearched, PositionSearched}
+use Rattle.search.specs.Searched.{rankFrom, positionFrom, RankSearched, PositionSearched}
 
 module _ (b : List ℕ) (v : View) where
   -- a position past the cells
@@ -68,10 +69,10 @@ module _ (b : List ℕ) (v : View) where
         let k = rising-below 0 (v .cells) (positionsOf b) r (n .rising) (omega arith) in
         (e, omega arith)
 
-    pub position-forged : v .cells ≤ q → PositionSearched b v r (refused 8)
+    position-forged : v .cells ≤ q → PositionSearched b v r (refused 8)
     position-forged k = record { right = λ o. let p = position-is o .1 in absurd (omega arith); free = beyond }
 
-    pub position-here : q < v .cells → PositionSearched b v r (given q)
+    position-here : q < v .cells → PositionSearched b v r (given q)
     unfolding positionIn
     position-here k =
         record {
@@ -81,3 +82,9 @@ module _ (b : List ℕ) (v : View) where
               sym (rw (lt-ltb r (length (stored (emptyOf b) (wordsOf b))) (omega arith), ← seen b v o .stored) (ap given (sym e)));
           free = number q k;
         }
+
+    pub position-found : PositionSearched b v r (positionFrom q (v .cells))
+    position-found =
+        cases (ltb q (v .cells))
+        (λ t. rw t (position-here (ltb-true q (v .cells) t)))
+        (λ t. rw t (position-forged (ltb-false q (v .cells) t)))

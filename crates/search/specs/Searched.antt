@@ -3,9 +3,11 @@
 use Prim.Native.Nat.{ℕ}
 use mathlib.Core.Path.{_≡_}
 use mathlib.Core.List.{List}
+use lib.Dec.{ltb}
 use Rattle.format.specs.declared.View.{View}
 use Rattle.format.specs.Tools.{pick}
-use Rattle.format.specs.Answers.{Answer, empty, given}
+use Rattle.format.specs.Signals.{BEYOND}
+use Rattle.format.specs.Answers.{Answer, refused, empty, given}
 use Rattle.format.specs.Accepted.{emptyOf, wordsOf}
 use Rattle.format.specs.Lookups.{cellIn, rankIn, positionIn}
 use Rattle.format.specs.Opened.{Free, FreeWord}
@@ -15,6 +17,10 @@ use Rattle.parts.specs.Holds.{ViewOf}
 -- the answer of a place: a rank, or "empty"
 abbrev pub rankFrom : Found → Answer
 rankFrom f = pick (f .here) (given (f .below)) empty
+
+-- the answer of a number that was found for a position: 8 past the cells
+abbrev pub positionFrom : ℕ → ℕ → Answer
+positionFrom q cells = pick (ltb q cells) (given q) (refused BEYOND)
 
 pub record RankSearched (b : List ℕ) (v : View) (p : ℕ) (answer : Answer) : Type 0 where
   pub right : ViewOf b v → answer ≡ rankIn (emptyOf b) (wordsOf b) p

@@ -18,9 +18,8 @@ ghost use Prim.Native.Nat.{_<_};
 ghost use lib.ListN.{getD};
 ghost use Rattle.format.specs.Answers.{cellSays, rankSays, positionSays};
 ghost use Rattle.format.specs.Accepted.{positionsOf};
-ghost use Rattle.parts.specs.Holds.{ViewOf, kindOf};
-ghost use Rattle.parts.specs.Found.{PositionIn};
-ghost use Rattle.search.specs.Searched.{rankFrom, CellSearched, RankSearched, PositionSearched};
+ghost use Rattle.parts.specs.Holds.{ViewOf};
+ghost use Rattle.search.specs.Searched.{rankFrom, positionFrom, CellSearched, RankSearched, PositionSearched};
 
 // A place as an answer: a rank, or "empty".
 pub fn rank_answer(found: Found) -> RankAnswer
@@ -42,29 +41,27 @@ pub fn rank_in(file: &[u8], v: View, p: Position) -> RankAnswer
     rank_answer(find(file, v, p))
 }
 
-// The position of a rank below the words; any number over unfit bytes. Where the rank gives its place, no search is called.
-fn position_at(file: &[u8], v: View, r: Rank) -> u64
-    requires { ⌜ r .0 < v .words ⌝ }
-    ensures { λ q. ⌜ PositionIn (kindOf v) (now (file .entry)) v (r .0) q ⌝ }
+// A number that was found for a position, as an answer: 8 where the picture has no such cell, which only unfit bytes give.
+fn position_answer(p: u64, cells: u32) -> PositionAnswer
+    ensures { λ a. ⌜ positionSays a ≡ positionFrom p cells ⌝ }
 {
-    if placed_by_rank(v.kind) {
-        return placed_position(file, v, r);
+    if cells as u64 <= p {
+        return PositionAnswer::Refused(BEYOND);
     }
-    position_of(file, v, r)
+    PositionAnswer::Position(Position(p as u32))
 }
 
-// The position of a rank.
+// The position of a rank. Where the rank gives its place, no search is called.
 pub fn position_in(file: &[u8], v: View, r: Rank) -> PositionAnswer
     ensures { λ a. ⌜ PositionSearched (now (file .entry)) v (r .0) (positionSays a) ⌝ }
 {
     if v.words <= r.0 {
         return PositionAnswer::Refused(BEYOND);
     }
-    let p = position_at(file, v, r);
-    if v.cells as u64 <= p {
-        return PositionAnswer::Refused(BEYOND);
+    if placed_by_rank(v.kind) {
+        return position_answer(placed_position(file, v, r), v.cells);
     }
-    PositionAnswer::Position(Position(p as u32))
+    position_answer(position_of(file, v, r), v.cells)
 }
 
 // The position of a rank of an accepted file.
@@ -72,7 +69,7 @@ pub fn stored_position(file: &[u8], v: View, r: Rank) -> Position
     requires { ⌜ ViewOf (now file) v × (r .0 < v .words) ⌝ }
     ensures { λ p. ⌜ (p .0 ≡ getD (positionsOf (now (file .entry))) (r .0) 0) × (p .0 < v .cells) ⌝ }
 {
-    Position(position_at(file, v, r) as u32)
+    Position(position_of(file, v, r) as u32)
 }
 
 // The word at a position.
