@@ -11,6 +11,7 @@ use Rattle.stores.specs.Put.{put}
 use Rattle.stores.proofs.Laws.{length-put, put3-step}
 use Rattle.parts.specs.declared.Cursor.{Cursor}
 use Rattle.parts.specs.declared.Encoder.{Encoder}
+use Rattle.parts.specs.declared.walk.Walk.{Walk}
 use Rattle.parts.specs.Cursor.{walkedAs, steppedAs}
 use Rattle.parts.specs.Encoder.{Coder, takenBy, takenAllBy}
 use Rattle.parts.specs.Ready.{passed, Sound, Keeps}
@@ -164,6 +165,29 @@ pub written-begin : (f : Cursor → Cursor) (k : Coder) (d : List ℕ) (c : Curs
     → RoomAll k e (walkedAs f c n) (length d) → Written f k d c e n d c e n
 written-begin f k d c e n a r = record { rest = a; whole = refl; room = r; same = refl; written = refl }
 
+pub put-as : (f : Cursor → Cursor) (k : Coder) (c : Cursor) (e : Encoder) (n : ℕ) (d : List ℕ) (c′ : Cursor) (e′ : Encoder) (d′ : List ℕ) → c′ ≡ steppedAs f c n
+    → e′ ≡ takenAllBy k e (walkedAs f c n) → d′ ≡ putAllBy k d e (walkedAs f c n) → PutAs f k c e n d (record { c = c′; e = e′ }) d′
+unfolding carried
+put-as f k c e n d c′ e′ d′ cursor encoder bytes = record { walk = rw (cursor, encoder); bytes = bytes }
+
+-- the next m ranks are put out
+module _ (f : Cursor → Cursor) (k : Coder) (keeps : Keeps k) (d₀ : List ℕ) (c₀ : Cursor) (e₀ : Encoder) (n : ℕ) (d : List ℕ) (c : Cursor) (e : Encoder) (left : ℕ)
+    (i : Written f k d₀ c₀ e₀ n d c e left) where
+  pub written-then : (m : ℕ) → m ≤ left → (w : Walk) (d′ : List ℕ) → PutAs f k c e m d w d′ → Written f k d₀ c₀ e₀ n d′ (w .c) (w .e) (left - m)
+  unfolding carried
+  written-then m h w d′ p =
+      let a : w .c ≡ steppedAs f c m = ap (λ (x : Walk). x .c) (p .walk) in
+      let t : w .e ≡ takenAllBy k e (walkedAs f c m) = ap (λ (x : Walk). x .e) (p .walk) in
+      let o = p .bytes in
+      let z : length d′ ≡ length d = ap length o ∙ length-put-all k d e (walkedAs f c m) in
+      record {
+        rest = rw (a, t) (turn-later f k c e m left h keeps (i .rest));
+        whole = rw (a, t) (turn-whole f k c e m left h) ∙ i .whole;
+        room = rw (z, a, t) (turn-room-later f k c e m left h (length d) (i .room));
+        same = z ∙ i .same;
+        written = rw (o, a, t) (turn-put f k c e m left h (length d) (i .room) d) ∙ i .written;
+      }
+
 -- m ranks of the run at c, of those left
 pub record Cells (c : Cursor) (m left : ℕ) : Type 0 where
   pub most : m ≤ left
@@ -197,20 +221,11 @@ module _ (f : Cursor → Cursor) (k : Coder) (goes : GoesAlong f) (c : Cursor) (
   run-room z r = rw positions at (turn-room-now f k c e m left (q .most) z r)
 
   -- one turn, to the cursor c′, the encoder e′ and the bytes d′
-  module _ (keeps : Keeps k) (d₀ : List ℕ) (c₀ : Cursor) (e₀ : Encoder) (n : ℕ) (d d′ : List ℕ) (c′ : Cursor) (e′ : Encoder)
-      (cursor : c′ ≡ steppedAs f c m) (take : e′ ≡ takenAllBy k e (range (c .at) m)) (bytes : d′ ≡ putAllBy k d e (range (c .at) m)) where
-    pub written-turn : Written f k d₀ c₀ e₀ n d c e left → Written f k d₀ c₀ e₀ n d′ c′ e′ (left - m)
-    written-turn i =
-        let p : d′ ≡ putAllBy k d e (walkedAs f c m) = rw positions bytes in
-        let t : e′ ≡ takenAllBy k e (walkedAs f c m) = rw positions take in
-        let z : length d′ ≡ length d = ap length p ∙ length-put-all k d e (walkedAs f c m) in
-        record {
-          rest = rw (cursor, t) (turn-later f k c e m left (q .most) keeps (i .rest));
-          whole = rw (cursor, t) (turn-whole f k c e m left (q .most)) ∙ i .whole;
-          room = rw (z, cursor, t) (turn-room-later f k c e m left (q .most) (length d) (i .room));
-          same = z ∙ i .same;
-          written = rw (p, cursor, t) (turn-put f k c e m left (q .most) (length d) (i .room) d) ∙ i .written;
-        }
+  pub written-turn : Keeps k → (d₀ : List ℕ) (c₀ : Cursor) (e₀ : Encoder) (n : ℕ) (d d′ : List ℕ) (c′ : Cursor) (e′ : Encoder) → c′ ≡ steppedAs f c m
+      → e′ ≡ takenAllBy k e (range (c .at) m) → d′ ≡ putAllBy k d e (range (c .at) m) → Written f k d₀ c₀ e₀ n d c e left → Written f k d₀ c₀ e₀ n d′ c′ e′ (left - m)
+  written-turn keeps d₀ c₀ e₀ n d d′ c′ e′ cursor take bytes i =
+      let w = put-as f k c e m d c′ e′ d′ cursor (rw positions take) (rw positions bytes) in
+      written-then f k keeps d₀ c₀ e₀ n d c e left i m (q .most) _ d′ w
 
 pub written-end : (f : Cursor → Cursor) (k : Coder) (d₀ : List ℕ) (c₀ : Cursor) (e₀ : Encoder) (n : ℕ) (d : List ℕ) (c : Cursor) (e : Encoder) (left : ℕ) → left ≤ 0
     → Written f k d₀ c₀ e₀ n d c e left → PutAs f k c₀ e₀ n d₀ (record { c = c; e = e }) d

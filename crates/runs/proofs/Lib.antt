@@ -7,3 +7,5 @@ pub mod Lookup
 pub mod Walk
 pub mod Adds
 pub mod Laws
+pub mod Whole
+pub mod Copying

@@ -26,10 +26,10 @@ use Rattle.runs.proofs.Body.{held}
 use Rattle.runs.proofs.Halves.{holds-above}
 
 -- A run with the pair l and y, whose first rank is f, among positions ls, the first of which has the rank o: it has a stored cell, and its positions stand in ls.
-record InRun (f l y o : ℕ) (ls : List ℕ) : Type 0 where
+pub record InRun (f l y o : ℕ) (ls : List ℕ) : Type 0 where
   low : o ≤ f
-  some : f + y ≤ l
-  most : l < o + length ls + y
+  pub some : f + y ≤ l
+  pub most : l < o + length ls + y
   at : (r : ℕ) → f ≤ r → r + y ≤ l → getD ls (r - o) 0 ≡ r + y
 
 getD-range : (a n i : ℕ) → i < n → getD (range a n) i 0 ≡ a + i
@@ -75,7 +75,7 @@ split e v x xs h = let g : e + (suc (x .last) - e) ≡ suc (x .last) = omega ari
 
 module _ (b : List ℕ) (s : ℕ) where
   -- the first of the runs is read
-  told : (i : ℕ) (x : Run) (xs : List Run) → Entries b 4 s (2 * i) (flatRuns (x ∷ xs)) → (lastAt b s i ≡ x .last) × (emptyAt b s i ≡ x .empty)
+  pub told : (i : ℕ) (x : Run) (xs : List Run) → Entries b 4 s (2 * i) (flatRuns (x ∷ xs)) → (lastAt b s i ≡ x .last) × (emptyAt b s i ≡ x .empty)
   unfolding flatRuns
   told i x xs es = let t = first-pair b s i (x .last) (x .empty) (flatRuns xs) es in (ap (λ (p : Pair). p .first) t, ap (λ (p : Pair). p .second) t)
 
@@ -121,7 +121,7 @@ module _ (b : List ℕ) (v : View) (ls : List ℕ) (h : Holds (runsKind (v .widt
   unfolding spans
   back = runs-back 0 (v .cells) ls (h .rising)
 
-  count : length (runs ls) ≡ v .firsts
+  pub count : length (runs ls) ≡ v .firsts
   unfolding runsKind runParts
   count = h .first-count
 
@@ -129,18 +129,18 @@ module _ (b : List ℕ) (v : View) (ls : List ℕ) (h : Holds (runsKind (v .widt
   unfolding ranksBefore
   none = refl
 
-  in-run : (j : ℕ) → j < v .firsts → InRun (ranksBefore b (v .start) j) (lastAt b (v .start) j) (emptyAt b (v .start) j) 0 ls
+  pub in-run : (j : ℕ) → j < v .firsts → InRun (ranksBefore b (v .start) j) (lastAt b (v .start) j) (emptyAt b (v .start) j) 0 ls
   in-run j k =
       let c = count in
       let z : 0 + j ≡ j = omega arith in
       rw (z, back) at (run-among b (v .start) (runs ls) 0 0 0 j (in-order 0 (v .cells) ls (h .rising)) (omega arith) none (held b v ls h) (omega arith))
 
   -- the position of a rank in run j
-  at-rank : (j r : ℕ) → j < v .firsts → ranksBefore b (v .start) j ≤ r → r + emptyAt b (v .start) j ≤ lastAt b (v .start) j
+  pub at-rank : (j r : ℕ) → j < v .firsts → ranksBefore b (v .start) j ≤ r → r + emptyAt b (v .start) j ≤ lastAt b (v .start) j
       → getD ls r 0 ≡ r + emptyAt b (v .start) j
   at-rank j r k f e = let z : r - 0 ≡ r = omega arith in rw z at (in-run j k .at r f e)
 
-  ranks : ranksBefore b (v .start) (v .firsts) ≡ length ls
+  pub ranks : ranksBefore b (v .start) (v .firsts) ≡ length ls
   ranks =
       let c = count in
       let z : 0 + length (runs ls) ≡ v .firsts = omega arith in

@@ -1,3 +1,4 @@
 pub mod Edge
 pub mod Steps
 pub mod Coding
+pub mod Copy

@@ -53,7 +53,7 @@ fn run_at(file: &[u8], start: u32, n: u32, p: u32) -> u32
 }
 
 // The first of n runs with rank r or a later one.
-fn run_with(file: &[u8], start: u32, n: u32, r: u32) -> u32
+pub fn run_with(file: &[u8], start: u32, n: u32, r: u32) -> u32
     ensures { λ j. ⌜ Edge (holds (now (file .entry)) start r) n j ⌝ }
 {
     let mut low = 0;
