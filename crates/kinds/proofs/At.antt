@@ -13,13 +13,15 @@ use Rattle.parts.specs.declared.Encoder.{Encoder}
 use Rattle.parts.specs.declared.Found.{Found}
 use Rattle.parts.specs.declared.PartBytes.{PartBytes}
 use Rattle.parts.specs.declared.Sizes.{Sizes}
-use Rattle.parts.specs.Holds.{kindOf, Counted, Sized, partsRight}
+use Rattle.parts.specs.declared.walk.Walk.{Walk}
+use Rattle.parts.specs.Holds.{kindOf, Counted, Sized, said, partsRight, Holds}
 use Rattle.parts.specs.Found.{FoundIn, PositionIn}
 use Rattle.parts.specs.Cursor.{Batch}
 use Rattle.parts.specs.Walks.{sought}
 use Rattle.parts.specs.Encoder.{Coder, endedBy, takenAllBy}
 use Rattle.parts.specs.Batch.{RoomAll, putAllBy}
 use Rattle.parts.specs.Codes.{Standing}
+use Rattle.parts.specs.Carried.{PutAs}
 use Rattle.kinds.specs.Steps.{nextBy, nextOf, walked, steppedBy, soughtBy}
 use Rattle.kinds.specs.Coding.{coderOf, coder, takenAll, derived}
 
@@ -110,3 +112,22 @@ module _ (s : Setting) (k : ℕ) (e : s .kind ≡ k) where
   pub setting-derived : (z : Sizes) (start : ℕ) (d after : List ℕ) → after ≡ its .derived z start d → after ≡ derived s z start d
   unfolding derived
   setting-derived z start d after h = from (λ (c : Coder). after ≡ c .derived z start d) h
+
+-- ---- of a view and a setting of one kind
+
+module _ (v : View) (s : Setting) (k : ℕ) (e : v .kind ≡ k) (g : s .kind ≡ k) (b : List ℕ) where
+  pub view-holds : (ls : List ℕ) → Holds (kindOf v) b v ls → Holds (codecOf k (v .width) (v .step)) b v (said (codecOf k (v .width) (v .step)) b v)
+  view-holds ls h =
+      let t = subst (λ (n : ℕ). Holds (codecOf n (v .width) (v .step)) b v ls) e h in
+      subst (λ (l : List ℕ). Holds (codecOf k (v .width) (v .step)) b v l) (sym (t .back)) t
+
+  pub view-step : (P : (Cursor → Cursor) → Type 0) → P (nextOf b v) → P (nextBy k b v)
+  unfolding nextOf
+  view-step P h = subst (λ (n : ℕ). P (nextBy n b v)) e h
+
+  pub put-both-kinds : (c : Cursor) (x : Encoder) (n : ℕ) (d : List ℕ) (w : Walk) (out : List ℕ)
+      → PutAs (nextBy k b v) (coderOf k (s .width) (s .step)) c x n d w out → PutAs (nextOf b v) (coder s) c x n d w out
+  unfolding nextOf coder
+  put-both-kinds c x n d w out h =
+      subst (λ (m : ℕ). PutAs (nextBy (v .kind) b v) (coderOf m (s .width) (s .step)) c x n d w out) (sym g)
+      (subst (λ (m : ℕ). PutAs (nextBy m b v) (coderOf k (s .width) (s .step)) c x n d w out) (sym e) h)

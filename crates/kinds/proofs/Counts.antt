@@ -1,5 +1,5 @@
 -- The kinds whose sizes follow from a count: of the ranks, or of the runs. Assumes nothing.
-use Prim.Native.Nat.{ℕ, suc, _+_, _-_, _*_, _/_, _≤_, _<_}
+use Prim.Native.Nat.{ℕ, _-_, _*_, _/_, _≤_}
 use mathlib.Core.Path.{_≡_, refl, sym, ap, subst, _∙_}
 use mathlib.Core.Logic.{_⊎_, inl, inr, ⊎-elim}
 use mathlib.Core.Bool.{Bool, true, false}
@@ -10,7 +10,7 @@ use lib.Dec.{eqb}
 use borrow.Author.Tests.{eq-eqb, ne-eqb, eqb-true}
 use Rattle.format.specs.declared.Setting.{Setting}
 use Rattle.format.specs.declared.View.{View}
-use Rattle.format.specs.Tools.{pick, range}
+use Rattle.format.specs.Tools.{pick}
 use Rattle.format.specs.Kinds.{codec, codecOf, settingAllowed}
 use Rattle.format.specs.Runs.{runs, spans, runsKind, runParts}
 use Rattle.format.specs.Positions.{positionsKind, positionParts}
@@ -20,18 +20,16 @@ use Rattle.laws.proofs.Stored.{Rising}
 use Rattle.laws.proofs.Bounds.{length-spansFrom}
 use Rattle.laws.proofs.Settings.{setting}
 use Rattle.laws.proofs.Parts.{known}
-use Rattle.parts.specs.declared.Cursor.{Cursor}
 use Rattle.parts.specs.declared.Sizes.{Sizes}
 use Rattle.parts.specs.Walks.{GoesAlong}
 use Rattle.parts.specs.Codes.{sizesIn}
 use Rattle.parts.specs.Holds.{Holds, kindOf}
-use Rattle.parts.proofs.Along.{walked-along, stretch-inside}
 use Rattle.runs.specs.Coding.{runsCoder}
 use Rattle.runs.proofs.Walk as run-walk
 use Rattle.positions.specs.Coding as positions
 use Rattle.paged_runs.specs.Coding as paged
 use Rattle.paged_runs.proofs.Walk as page-walk
-use Rattle.kinds.specs.Steps.{nextBy, nextOf, walked, storesRuns, runsOf}
+use Rattle.kinds.specs.Steps.{nextBy, nextOf, storesRuns, runsOf}
 use Rattle.kinds.specs.Coding.{coder, sizedByRanks, countedBy}
 
 -- ---- the runs of a file, by its view
@@ -52,18 +50,12 @@ module _ (b : List ℕ) (v : View) (ls : List ℕ) (h : Holds (kindOf v) b v ls)
   run-count s =
       ⊎-elim (λ k. rw (eq-eqb (v .kind) 1 k) (by-firsts k)) (λ k. rw (ne-eqb (v .kind) 1 (λ z. omega arith)) (by-seconds k)) s
 
--- ---- the positions of a stretch of a run, or of one cell
+-- ---- along a run
 
-module _ (b : List ℕ) (v : View) (s : storesRuns (v .kind)) where
-  next-along : GoesAlong (nextOf b v)
-  unfolding nextOf
-  next-along c h = ⊎-elim (λ e. ap (λ (k : ℕ). nextBy k b v c) e ∙ run-walk.next-along b v c h) (λ e. ap (λ (k : ℕ). nextBy k b v c) e ∙ page-walk.next-along b v c h) s
-
-  pub stretch-positions : (c : Cursor) (n : ℕ) → 0 < n → (1 < n → c .at + n ≤ c .last + 1) → walked b v c n ≡ range (c .at) n
-  unfolding walked
-  stretch-positions c n l h =
-      let e : suc (n - 1) ≡ n = omega arith in
-      rw e at (walked-along (nextOf b v) next-along (n - 1) c (stretch-inside n (c .at) (c .last) h))
+pub next-along : (b : List ℕ) (v : View) → storesRuns (v .kind) → GoesAlong (nextOf b v)
+unfolding nextOf
+next-along b v s c h =
+    ⊎-elim (λ e. ap (λ (k : ℕ). nextBy k b v c) e ∙ run-walk.next-along b v c h) (λ e. ap (λ (k : ℕ). nextBy k b v c) e ∙ page-walk.next-along b v c h) s
 
 -- ---- the sizes by the counts
 

@@ -1,3 +1,4 @@
 pub mod Steps
 pub mod Coding
+pub mod Copying
 pub mod Search

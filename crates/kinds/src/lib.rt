@@ -1,5 +1,6 @@
 // The kinds by their numbers: the one place where a kind number is matched. Everything above reads and writes the parts of a file through it.
 pub mod coding;
+pub mod copying;
 pub mod parts_of;
 pub mod search;
 pub mod setting;

@@ -13,6 +13,7 @@ pub mod Taken
 pub mod Outright
 pub mod Added
 pub mod Grown
+pub mod Carried
 -- The parts, and the facts of an accepted file.
 pub mod Falls
 pub mod Ends

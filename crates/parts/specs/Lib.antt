@@ -7,6 +7,7 @@ pub mod Encoder
 pub mod Ready
 pub mod Batch
 pub mod Codes
+pub mod Carried
 pub mod Last
 pub mod Falls
 pub mod Far

@@ -1,5 +1,6 @@
 // What the walks of the kinds share: the entry of a rank, cells along a run, positions in a buffer.
 use super::Cursor;
+use super::Encoder;
 use format::View;
 use std::num::wrapping_add_u32;
 use wire::load_u8;
@@ -9,6 +10,12 @@ ghost use Prim.Native.Nat.{_+_, _-_, _≤_, _<_, _^_};
 ghost use lib.ListN.{length};
 ghost use Rattle.parts.specs.Cursor.{before, entryOf, alongBy};
 ghost use Rattle.parts.specs.Stretch.{Filled, Stretch};
+
+// Where a walk along the ranks of a file into an encoder stands.
+pub struct Walk {
+    pub c: Cursor,
+    pub e: Encoder,
+}
 
 // Before rank 0, where rank, position and last cell are -1.
 pub fn before_first() -> Cursor

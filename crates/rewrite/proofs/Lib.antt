@@ -2,5 +2,4 @@ pub mod Written
 pub mod Edits
 pub mod Copied
 pub mod Stretch
-pub mod RunTurns
 pub mod Three

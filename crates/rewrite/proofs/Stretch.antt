@@ -1,111 +1,37 @@
--- A stretch of ranks into an encoder, batch by batch: the next k ranks first, then the rest. Assumes nothing.
-use Prim.Native.Nat.{ℕ, zero, suc, _+_, _-_, _≤_, _<_}
-use mathlib.Core.Path.{_≡_, refl, sym, ap, ap₂, _∙_}
+-- A stretch of ranks of a file into an encoder, batch by batch, by the file's kind and a setting. Assumes nothing.
+use Prim.Native.Nat.{ℕ, zero, suc, _-_, _≤_, _<_}
+use mathlib.Core.Path.{_≡_, refl, sym, ap, _∙_}
 use mathlib.Core.Bool.{true}
-use mathlib.Core.List.{List, [], _∷_, _++_, append-assoc}
-use native.Mathlib.Nat.{le-refl}
+use mathlib.Core.List.{List, [], _++_}
 use native.Mathlib.Omega.{arith}
-use lib.ListN.{length, take, drop, length-append}
+use lib.ListN.{length, take, drop}
 use lib.Seq.{length-take-le, length-front, take-append-seam}
 use Rattle.format.specs.declared.Setting.{Setting}
 use Rattle.format.specs.declared.View.{View}
 use Rattle.format.specs.Kinds.{settingAllowed}
 use Rattle.stores.specs.Put.{put}
-use Rattle.stores.proofs.Laws.{length-put, put3-step}
 use Rattle.parts.specs.declared.Cursor.{Cursor}
 use Rattle.parts.specs.declared.Encoder.{Encoder}
-use Rattle.parts.specs.Cursor.{walkedAs, steppedAs}
-use Rattle.parts.specs.Encoder.{Coder, takenBy, takenAllBy}
-use Rattle.parts.specs.Ready.{passed}
-use Rattle.parts.specs.Batch.{addedFirstBy, addedSecondBy, Along, RoomAll, putAllBy}
-use Rattle.parts.proofs.Batches.{stepped-as-add}
-use Rattle.parts.proofs.Added.{rising-front}
-use Rattle.parts.proofs.Taken.{put-all-end}
+use Rattle.parts.specs.Cursor.{steppedAs}
+use Rattle.parts.specs.Encoder.{takenAllBy}
+use Rattle.parts.specs.Batch.{Along, RoomAll, putAllBy}
+use Rattle.parts.proofs.Carried as carried
 use Rattle.kinds.specs.Steps.{nextOf, walked, steppedBy}
 use Rattle.kinds.specs.Coding.{coder, takenAll, addedFirst, addedSecond}
-use Rattle.kinds.proofs.Walks.{walked-add, length-walked}
-use Rattle.kinds.proofs.Driving.{all-append, first-added, second-added, along-added}
+use Rattle.kinds.proofs.Laws.{codes}
+use Rattle.kinds.proofs.Walks.{length-walked}
 use Rattle.rewrite.specs.Walk.{along}
 
--- ---- what two lists of positions add, one after the other
-
-module _ (k : Coder) where
-  first-by : (e : Encoder) (xs ys : List ℕ) → addedFirstBy k e (xs ++ ys) ≡ addedFirstBy k e xs ++ addedFirstBy k (takenAllBy k e xs) ys
-  unfolding addedFirstBy takenAllBy
-  first-by e [] ys = refl
-  first-by e (p ∷ xs) ys =
-      let t : Encoder = takenBy k e p in
-      ap (λ (l : List ℕ). k .first e p ++ l) (first-by t xs ys)
-      ∙ sym (append-assoc (k .first e p) (addedFirstBy k t xs) (addedFirstBy k (takenAllBy k t xs) ys))
-
-  second-by : (e : Encoder) (xs ys : List ℕ) → addedSecondBy k e (xs ++ ys) ≡ addedSecondBy k e xs ++ addedSecondBy k (takenAllBy k e xs) ys
-  unfolding addedSecondBy takenAllBy
-  second-by e [] ys = refl
-  second-by e (p ∷ xs) ys =
-      let t : Encoder = takenBy k e p in
-      ap (λ (l : List ℕ). k .second e p ++ l) (second-by t xs ys)
-      ∙ sym (append-assoc (k .second e p) (addedSecondBy k t xs) (addedSecondBy k (takenAllBy k t xs) ys))
-
-pub length-put-all : (k : Coder) (d : List ℕ) (e : Encoder) (ls : List ℕ) → length (putAllBy k d e ls) ≡ length d
-unfolding putAllBy
-length-put-all k d e ls = length-put _ (e .second) (addedSecondBy k e ls) ∙ length-put d (e .first) (addedFirstBy k e ls)
-
-pub along-front : (e : Encoder) (xs ys : List ℕ) → Along e (xs ++ ys) → Along e xs
-along-front e xs ys a = record { sound = a .sound; rising = rising-front (passed e) 16777216 xs ys (a .rising) }
+-- ---- two lists of positions, one after the other
 
 module _ (s : Setting) (e : Encoder) (xs ys : List ℕ) (n : ℕ) (r : RoomAll (coder s) e (xs ++ ys) n) where
-  abbrev after : Encoder
-  after = takenAll s e xs
+  pub room-rest : RoomAll (coder s) (takenAll s e xs) ys n
+  unfolding takenAll
+  room-rest = carried.room-rest (coder s) e xs ys n r
 
-  first-split : addedFirst s e (xs ++ ys) ≡ addedFirst s e xs ++ addedFirst s after ys
-  unfolding addedFirst takenAll
-  first-split = first-by (coder s) e xs ys
-
-  second-split : addedSecond s e (xs ++ ys) ≡ addedSecond s e xs ++ addedSecond s after ys
-  unfolding addedSecond takenAll
-  second-split = second-by (coder s) e xs ys
-
-  length-first : length (addedFirst s e (xs ++ ys)) ≡ length (addedFirst s e xs) + length (addedFirst s after ys)
-  length-first = ap length first-split ∙ length-append (addedFirst s e xs) (addedFirst s after ys)
-
-  length-second : length (addedSecond s e (xs ++ ys)) ≡ length (addedSecond s e xs) + length (addedSecond s after ys)
-  length-second = ap length second-split ∙ length-append (addedSecond s e xs) (addedSecond s after ys)
-
-  room : (e .first + length (addedFirst s e (xs ++ ys)) ≤ e .second) × (e .second + length (addedSecond s e (xs ++ ys)) ≤ n)
-  unfolding addedFirst addedSecond
-  room = (r .first, r .second)
-
-  pub room-front : RoomAll (coder s) e xs n
-  room-front = make (let h = room in let f = length-first in let g = length-second in (omega arith, omega arith))
-    where
-      make : (e .first + length (addedFirst s e xs) ≤ e .second) × (e .second + length (addedSecond s e xs) ≤ n) → RoomAll (coder s) e xs n
-      make h = record { first = unfold addedFirst in h .0; second = unfold addedSecond in h .1 }
-
-  pub room-rest : RoomAll (coder s) after ys n
-  room-rest =
-      make
-      (let h = room in
-      let f = length-first in
-      let g = length-second in
-      let p = first-added s e xs in
-      let q = second-added s e xs in
-      (omega arith, omega arith))
-    where
-      make : (after .first + length (addedFirst s after ys) ≤ after .second) × (after .second + length (addedSecond s after ys) ≤ n) → RoomAll (coder s) after ys n
-      make h = record { first = unfold addedFirst in h .0; second = unfold addedSecond in h .1 }
-
-  -- the bytes of xs first, then those of ys
-  pub put-all-append : (d : List ℕ) → putAllBy (coder s) d e (xs ++ ys) ≡ putAllBy (coder s) (putAllBy (coder s) d e xs) after ys
-  unfolding putAllBy addedFirst addedSecond put
-  put-all-append d =
-      let v = e .second + length (addedSecond s e xs ++ addedSecond s after ys) in
-      let p = first-split in
-      let q = second-split in
-      let h : e .first + length (addedFirst s e xs ++ addedFirst s after ys) ≤ e .second = rw (← p) (room .0) in
-      rw (p, q)
-      (put3-step d (e .first) (addedFirst s e xs) (addedFirst s after ys) (e .second) (addedSecond s e xs) (addedSecond s after ys) v [] [] h (le-refl v))
-      ∙ ap₂ (λ (f g : ℕ). put (put (put (put d (e .first) (addedFirst s e xs)) (e .second) (addedSecond s e xs)) f (addedFirst s after ys)) g (addedSecond s after ys))
-      (sym (first-added s e xs)) (sym (second-added s e xs))
+  pub put-all-append : (d : List ℕ) → putAllBy (coder s) d e (xs ++ ys) ≡ putAllBy (coder s) (putAllBy (coder s) d e xs) (takenAll s e xs) ys
+  unfolding takenAll
+  put-all-append = carried.put-all-append (coder s) e xs ys n r
 
 -- the same bytes by the setting
 pub put-all-is : (s : Setting) (e : Encoder) (ls : List ℕ) (d : List ℕ)
@@ -117,18 +43,7 @@ pub all-end : (s : Setting) (e : Encoder) → takenAll s e [] ≡ e
 unfolding takenAll takenAllBy
 all-end s e = refl
 
--- ---- k ranks, then the rest
-
-module _ (b : List ℕ) (v : View) (c : Cursor) (k n : ℕ) (h : k ≤ n) where
-  sum : k + (n - k) ≡ n
-  sum = omega arith
-
-  pub walked-split : walked b v c n ≡ walked b v c k ++ walked b v (steppedBy b v c k) (n - k)
-  walked-split = rw sum at (walked-add b v c k (n - k))
-
-  pub stepped-split : steppedBy b v (steppedBy b v c k) (n - k) ≡ steppedBy b v c n
-  unfolding steppedBy
-  stepped-split = sym (rw sum at (stepped-as-add (nextOf b v) c k (n - k)))
+-- ---- batch by batch
 
 -- a batch of k ranks in a buffer, whose first k elements have become out, with the cursor d
 pub record Batch (b : List ℕ) (v : View) (c d : Cursor) (k : ℕ) (buffer out : List ℕ) : Type 0 where
@@ -160,30 +75,29 @@ module _ (s : Setting) (b : List ℕ) (v : View) (c : Cursor) (e : Encoder) (k n
   later = walked b v (steppedBy b v c k) (n - k)
 
   pub turn-whole : along s b v (steppedBy b v c k) (takenAll s e now) (n - k) ≡ along s b v c e n
-  unfolding along
-  turn-whole =
-      let t : takenAll s (takenAll s e now) later ≡ takenAll s e (walked b v c n)
-      = sym (all-append s e now later) ∙ ap (takenAll s e) (sym (walked-split b v c k n h)) in
-      rw (stepped-split b v c k n h, t)
+  unfolding along walked steppedBy takenAll
+  turn-whole = carried.turn-whole (nextOf b v) (coder s) c e k n h
 
   pub turn-now : Along e (walked b v c n) → Along e now
-  turn-now a = along-front e now later (rw (walked-split b v c k n h) at a)
+  unfolding walked
+  turn-now a = carried.turn-now (nextOf b v) (coder s) c e k n h a
 
   pub turn-later : settingAllowed s ≡ true → Along e (walked b v c n) → Along (takenAll s e now) later
-  turn-later p a = let a′ : Along e (now ++ later) = rw (walked-split b v c k n h) at a in along-added s e now later p (a′ .sound) (a′ .rising)
+  unfolding walked steppedBy takenAll
+  turn-later p a = carried.turn-later (nextOf b v) (coder s) c e k n h (codes s p .keeps) a
 
   module _ (m : ℕ) (r : RoomAll (coder s) e (walked b v c n) m) where
-    split-room : RoomAll (coder s) e (now ++ later) m
-    split-room = rw (walked-split b v c k n h) at r
-
     pub turn-room-now : RoomAll (coder s) e now m
-    turn-room-now = room-front s e now later m split-room
+    unfolding walked
+    turn-room-now = carried.turn-room-now (nextOf b v) (coder s) c e k n h m r
 
     pub turn-room-later : RoomAll (coder s) (takenAll s e now) later m
-    turn-room-later = room-rest s e now later m split-room
+    unfolding walked steppedBy takenAll
+    turn-room-later = carried.turn-room-later (nextOf b v) (coder s) c e k n h m r
 
     pub turn-put : (d : List ℕ) → putAllBy (coder s) (putAllBy (coder s) d e now) (takenAll s e now) later ≡ putAllBy (coder s) d e (walked b v c n)
-    turn-put d = sym (put-all-append s e now later m split-room d) ∙ ap (putAllBy (coder s) d e) (sym (walked-split b v c k n h))
+    unfolding walked steppedBy takenAll
+    turn-put = carried.turn-put (nextOf b v) (coder s) c e k n h m r
 
 -- one rank, then the rest
 pub skip-turn : (b : List ℕ) (v : View) (c : Cursor) (n : ℕ) → 0 < n → steppedBy b v (nextOf b v c) (n - 1) ≡ steppedBy b v c n
@@ -198,13 +112,10 @@ skip-end b v c (suc n) h = absurd (omega arith)
 
 -- no rank is left
 module _ (s : Setting) (b : List ℕ) (v : View) (c : Cursor) (e : Encoder) (n : ℕ) (h : n ≤ 0) where
-  none-left : n ≡ 0
-  none-left = omega arith
-
   pub end-whole : along s b v c e n ≡ record { c = c; e = e }
-  unfolding along walked walkedAs steppedBy steppedAs takenAll takenAllBy
-  end-whole = rw none-left
+  unfolding along
+  end-whole = carried.end-whole (nextOf b v) (coder s) c e n h
 
   pub end-put : (d : List ℕ) → putAllBy (coder s) d e (walked b v c n) ≡ d
-  unfolding walked walkedAs
-  end-put d = rw none-left (put-all-end (coder s) d e)
+  unfolding walked
+  end-put = carried.end-put (nextOf b v) (coder s) c e n h

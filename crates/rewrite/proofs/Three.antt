@@ -18,8 +18,10 @@ use Rattle.parts.specs.Holds.{ViewOf, kindOf}
 use Rattle.parts.specs.Encoder.{begun, firstsBy, secondsBy}
 use Rattle.parts.specs.Ready.{Sound}
 use Rattle.parts.specs.Batch.{Along, RoomAll, putAllBy}
+use Rattle.parts.specs.Carried.{carried}
 use Rattle.parts.proofs.Seen.{seen}
 use Rattle.parts.proofs.Sounds.{sound-begun}
+use Rattle.parts.proofs.Carried.{length-put-all, along-front, room-front}
 use Rattle.kinds.specs.Steps.{startOf, walked, steppedBy}
 use Rattle.kinds.specs.Coding.{coder, takenAll, firsts, seconds, addedFirst, addedSecond, Apart}
 use Rattle.kinds.proofs.Walks.{Batched, batched, walk-start}
@@ -27,16 +29,16 @@ use Rattle.kinds.proofs.Driving.{all-append, along-added, sound-added, room-fir
 use Rattle.rewrite.specs.declared.Edit.{Edit}
 use Rattle.rewrite.specs.Edit.{edited, EditOf}
 use Rattle.rewrite.specs.Walk.{along, added}
-use Rattle.rewrite.proofs.Stretch.{length-put-all, along-front, room-front, room-rest, put-all-append, put-all-is}
+use Rattle.rewrite.proofs.Stretch.{room-rest, put-all-append, put-all-is}
 
 -- ---- the stretches are the edited positions
 
 pub along-cursor : (s : Setting) (b : List ℕ) (v : View) (c : Cursor) (e : Encoder) (n : ℕ) → along s b v c e n .c ≡ steppedBy b v c n
-unfolding along
+unfolding along carried steppedBy
 along-cursor s b v c e n = refl
 
 pub along-encoder : (s : Setting) (b : List ℕ) (v : View) (c : Cursor) (e : Encoder) (n : ℕ) → along s b v c e n .e ≡ takenAll s e (walked b v c n)
-unfolding along
+unfolding along carried takenAll walked
 along-encoder s b v c e n = refl
 
 -- where the ranks before the edit end, and where those after it begin; the positions of both
@@ -176,7 +178,7 @@ module _ (s : Setting) (e : Encoder) (xs ms ys : List ℕ) where
     pub three-rooms : Rooms n
     three-rooms =
         record {
-          front = room-front s e xs ms n front-room;
+          front = room-front (coder s) e xs ms n front-room;
           middle = room-rest s e xs ms n front-room;
           rest = rest-room;
           first = end-room last-apart .0;

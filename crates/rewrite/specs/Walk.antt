@@ -6,14 +6,15 @@ use Rattle.format.specs.declared.View.{View}
 use Rattle.format.specs.Tools.{pick}
 use Rattle.parts.specs.declared.Cursor.{Cursor}
 use Rattle.parts.specs.declared.Encoder.{Encoder}
-use Rattle.kinds.specs.Steps.{walked, steppedBy}
-use Rattle.kinds.specs.Coding.{takenAll}
+use Rattle.parts.specs.Carried.{carried}
+use Rattle.kinds.specs.Steps.{nextOf}
+use Rattle.kinds.specs.Coding.{coder}
 use Rattle.rewrite.specs.declared.Edit.{Edit}
-use Rattle.rewrite.specs.declared.walk.Walk.{Walk}
+use Rattle.parts.specs.declared.walk.Walk.{Walk}
 
 -- after n ranks from c into e
 unfoldable pub along : Setting → List ℕ → View → Cursor → Encoder → ℕ → Walk
-along s b v c e n = record { c = steppedBy b v c n; e = takenAll s e (walked b v c n) }
+along s b v c e n = carried (nextOf b v) (coder s) c e n
 
 -- the position that an edit puts, if any
 abbrev pub added : Edit → List ℕ

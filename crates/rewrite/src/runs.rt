@@ -1,11 +1,11 @@
 // Ranks of a file put out run by run, where both the file's kind and the new one store runs.
-use super::walk::Walk;
 use format::Setting;
 use format::View;
 use kinds::coding::put_run;
 use kinds::steps::past_cells;
 use parts::Cursor;
 use parts::Encoder;
+use parts::walk::Walk;
 use parts::walk::stretch;
 ghost use mathlib.Core.Path.{_≡_};
 ghost use mathlib.Core.Bool.{true};

@@ -10,6 +10,7 @@ use kinds::steps::positions;
 use kinds::steps::stores_runs;
 use parts::Cursor;
 use parts::Encoder;
+use parts::walk::Walk;
 use parts::walk::batch_of;
 ghost use mathlib.Core.Path.{_≡_};
 ghost use mathlib.Core.Bool.{true};
@@ -21,12 +22,6 @@ ghost use Rattle.parts.specs.Batch.{Along, RoomAll, putAllBy};
 ghost use Rattle.kinds.specs.Steps.{walked, steppedBy};
 ghost use Rattle.kinds.specs.Coding.{coder, takenAll};
 ghost use Rattle.rewrite.specs.Walk.{along, added};
-
-// The cursor and the encoder between two stretches.
-pub struct Walk {
-    pub c: Cursor,
-    pub e: Encoder,
-}
 
 // The cursor n ranks on.
 pub fn skip(file: &[u8], v: View, mut c: Cursor, mut n: u32) -> Cursor

@@ -9,3 +9,5 @@ pub mod Adds
 pub mod Further
 pub mod Ends
 pub mod Laws
+pub mod Whole
+pub mod Copying

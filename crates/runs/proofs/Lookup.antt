@@ -29,11 +29,11 @@ use Rattle.runs.proofs.Before.{few-ranks}
 
 -- A run with the pair l and y, after g cells, whose first rank is f, among positions ls, the first of which has the rank o: it has a stored cell, and its positions
 -- stand in ls.
-record InRun (g f l y o : ℕ) (ls : List ℕ) : Type 0 where
+pub record InRun (g f l y o : ℕ) (ls : List ℕ) : Type 0 where
   after : g ≤ l
   low : o ≤ f
-  some : f + y ≤ l
-  most : l < o + length ls + y
+  pub some : f + y ≤ l
+  pub most : l < o + length ls + y
   at : (r : ℕ) → f ≤ r → r + y ≤ l → getD ls (r - o) 0 ≡ r + y
 
 getD-range : (a n i : ℕ) → i < n → getD (range a n) i 0 ≡ a + i
@@ -81,7 +81,7 @@ split e v x xs h = let g : e + (suc (x .last) - e) ≡ suc (x .last) = omega ari
 
 module _ (b : List ℕ) (s : ℕ) where
   -- the first of the runs is read
-  told : (i : ℕ) (x : Run) (xs : List Run) → Entries b 4 s (2 * i) (flatRuns (x ∷ xs)) → (lastAt b s i ≡ x .last) × (emptyAt b s i ≡ x .empty)
+  pub told : (i : ℕ) (x : Run) (xs : List Run) → Entries b 4 s (2 * i) (flatRuns (x ∷ xs)) → (lastAt b s i ≡ x .last) × (emptyAt b s i ≡ x .empty)
   unfolding flatRuns
   told i x xs es = let t = first-pair b s i (x .last) (x .empty) (flatRuns xs) es in (ap (λ (p : Pair). p .first) t, ap (λ (p : Pair). p .second) t)
 
@@ -132,7 +132,7 @@ module _ (b : List ℕ) (v : View) (ls : List ℕ) (h : Holds (runsKind (v .widt
   unfolding spans
   back = runs-back 0 (v .cells) ls (h .rising)
 
-  count : length (runs ls) ≡ v .firsts
+  pub count : length (runs ls) ≡ v .firsts
   unfolding runsKind runParts
   count = h .first-count
 
@@ -140,7 +140,7 @@ module _ (b : List ℕ) (v : View) (ls : List ℕ) (h : Holds (runsKind (v .widt
   unfolding cellsBefore ranksBefore
   none = (refl, refl)
 
-  in-run : (j : ℕ) → j < v .firsts
+  pub in-run : (j : ℕ) → j < v .firsts
       → InRun (cellsBefore b (v .start) j) (ranksBefore b (v .start) j) (lastAt b (v .start) j) (emptyAt b (v .start) j) 0 ls
   in-run j k =
       let c = count in
@@ -149,11 +149,11 @@ module _ (b : List ℕ) (v : View) (ls : List ℕ) (h : Holds (runsKind (v .widt
       (run-among b (v .start) (runs ls) 0 0 0 j (in-order 0 (v .cells) ls (h .rising)) (omega arith) (none .0) (none .1) (held b v ls h) (omega arith))
 
   -- the position of a rank in run j
-  at-rank : (j r : ℕ) → j < v .firsts → ranksBefore b (v .start) j ≤ r → r + emptyAt b (v .start) j ≤ lastAt b (v .start) j
+  pub at-rank : (j r : ℕ) → j < v .firsts → ranksBefore b (v .start) j ≤ r → r + emptyAt b (v .start) j ≤ lastAt b (v .start) j
       → getD ls r 0 ≡ r + emptyAt b (v .start) j
   at-rank j r k f e = let z : r - 0 ≡ r = omega arith in rw z at (in-run j k .at r f e)
 
-  ranks : ranksBefore b (v .start) (v .firsts) ≡ length ls
+  pub ranks : ranksBefore b (v .start) (v .firsts) ≡ length ls
   ranks =
       let c = count in
       let z : 0 + length (runs ls) ≡ v .firsts = omega arith in
@@ -237,23 +237,23 @@ module _ (b : List ℕ) (v : View) (ls : List ℕ) (h : Holds (runsKind (v .widt
     last-ranks : LastAtMost (ranksBefore b (v .start)) (suc (v .firsts)) r j
     last-ranks = g .last (inside b v (h .counted) .long)
 
-    begins : ranksBefore b (v .start) j ≤ r
-    begins =
+    pub rank-begins : ranksBefore b (v .start) j ≤ r
+    rank-begins =
         cases (ltb 0 j)
         (λ t. last-ranks .low ranks-rise (ltb-true 0 j t))
         (λ t. let z : j ≡ 0 = let k = ltb-false 0 j t in omega arith in rw z (let n = none .1 in omega arith))
 
-    holds : j < v .firsts → r + emptyAt b (v .start) j ≤ lastAt b (v .start) j
+    pub rank-holds : j < v .firsts → r + emptyAt b (v .start) j ≤ lastAt b (v .start) j
     unfolding ranksBefore
-    holds k = let s : r < ranksBefore b (v .start) (suc j) = last-ranks .high ranks-rise (suc j) (omega arith) (omega arith) in omega arith
+    rank-holds k = let s : r < ranksBefore b (v .start) (suc j) = last-ranks .high ranks-rise (suc j) (omega arith) (omega arith) in omega arith
 
     pub position : r < v .words → r + emptyAt b (v .start) j ≡ getD ls r 0
     position k =
-        let a = begins in
+        let a = rank-begins in
         let m = g .most in
         let n = h .size in
         cases (ltb j (v .firsts))
-        (λ t. let u = ltb-true j (v .firsts) t in sym (at-rank j r u a (holds u)))
+        (λ t. let u = ltb-true j (v .firsts) t in sym (at-rank j r u a (rank-holds u)))
         (λ t.
         let u = ltb-false j (v .firsts) t in
         let e : ranksBefore b (v .start) j ≡ length ls = ap (ranksBefore b (v .start)) (omega arith) ∙ ranks in

@@ -1,3 +1,4 @@
 pub mod Before
 pub mod Steps
 pub mod Coding
+pub mod Copy

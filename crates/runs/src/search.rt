@@ -107,7 +107,7 @@ fn run_at(file: &[u8], start: u32, n: u32, p: u32) -> u32
 }
 
 // The run of rank r: the last with at most r stored cells before it, or n.
-fn run_with(file: &[u8], start: u32, n: u32, r: u32) -> u32
+pub fn run_with(file: &[u8], start: u32, n: u32, r: u32) -> u32
     ensures { λ j. ⌜ LastRun (ranksBefore (now (file .entry)) start) (now (file .entry)) start n r j ⌝ }
 {
     let at = start as usize;

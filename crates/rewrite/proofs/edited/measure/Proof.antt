@@ -6,7 +6,7 @@ use Rattle.parts.specs.Encoder.{begun}
 use Rattle.kinds.specs.Steps.{startOf, walked, steppedBy}
 use Rattle.kinds.specs.Coding.{takenAll}
 use Rattle.layout.proofs.Measuring.{measures, bounded}
-use Rattle.rewrite.specs.declared.walk.Walk.{Walk}
+use Rattle.parts.specs.declared.walk.Walk.{Walk}
 use Rattle.rewrite.specs.Edit.{edited}
 use Rattle.rewrite.proofs.Three.{allowed, ranks-there, cells-most, edit-rising, along-cursor, along-encoder, edit-along, edit-all}
 use borrow.Author.Needs.{needs}

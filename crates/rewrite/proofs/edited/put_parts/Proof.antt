@@ -4,7 +4,7 @@ use native.Mathlib.Omega.{arith}
 use lib.ListN.{length}
 use Rattle.stores.proofs.Laws.{length-put}
 use Rattle.parts.specs.Encoder.{begun}
-use Rattle.rewrite.specs.declared.walk.Walk.{Walk}
+use Rattle.parts.specs.declared.walk.Walk.{Walk}
 use Rattle.rewrite.specs.Walk.{added}
 use Rattle.rewrite.proofs.Three.{allowed, ranks-there, along-cursor, along-encoder, halfway, front, rest, e1, e2, e3, d1, d2, d3, length-d1, length-d2, length-d3, edit-along, edit-rooms, edit-put}
 use borrow.Author.Needs.{needs}

@@ -1,23 +1,30 @@
 use Prim.Native.Nat.{_+_, _-_}
-use mathlib.Core.Path.{_≡_, refl}
+use mathlib.Core.Path.{_≡_}
 use native.Mathlib.Omega.{arith}
 use lib.ListN.{length}
 use Rattle.parts.proofs.Along.{stretch-inside}
-use Rattle.rewrite.proofs.RunTurns.{Written, cells, run-asked, run-room, written-turn, written-end}
+use Rattle.parts.proofs.Carried.{Written, written-begin, cells, run-asked, run-room, written-turn, written-end}
+use Rattle.kinds.specs.Steps.{nextOf, walked, steppedBy}
+use Rattle.kinds.specs.Coding.{coder, takenAll}
+use Rattle.kinds.proofs.Laws.{codes}
+use Rattle.kinds.proofs.Counts.{next-along}
+use Rattle.rewrite.specs.Walk.{along}
 use borrow.Author.Needs.{needs}
 use Rattle.rewrite.proofs.runs.put_runs.Statement.{statement}
 use Rattle.rewrite.proofs.runs.put_runs.Tie as tie
 
 abbrev Inv-loop : tie.InvT-loop
-Inv-loop dst₀ file v s c₀ e₀ n left₀ dst c e left = Written s file v dst₀ c₀ e₀ n dst c e left
+Inv-loop dst₀ file v s c₀ e₀ n left₀ dst c e left = Written (nextOf file v) (coder s) dst₀ c₀ e₀ n dst c e left
 
 abbrev μ-loop : tie.MeasureT-loop
 μ-loop dst₀ file v s c₀ e₀ n left₀ dst c e left = left
 
 loop-holds : tie.Need-loop-holds Inv-loop μ-loop
+unfolding walked
 loop-holds c =
-    let p = c .before .before .pre in
-    record { measured = record { rest = p .3; whole = refl }; room = p .4; same = refl; written = refl }
+    let p = c .before .before in
+    let a = p .args in
+    written-begin (nextOf (a .file .now) (a .v)) (coder (a .s)) (a .dst .now) (a .c) (a .e) (a .n) (p .pre .3) (p .pre .4)
 
 stretch-requires : tie.Need-stretch-requires Inv-loop μ-loop
 stretch-requires c κs = search needs
@@ -29,8 +36,10 @@ put-run-requires c κs =
     let l = c .before .before .before .loop in
     let k = c .before .stretch in
     let q = cells (l .c) (k .result) (l .left) (c .before .before .loop-test .taken) (k .ensures) in
-    let r = run-asked (a .s) (a .file .now) (a .v) (p .pre .2) (l .c) (l .e) (k .result) (l .left) q (l .inv .measured .rest) in
-    let m = run-room (a .s) (a .file .now) (a .v) (p .pre .2) (l .c) (l .e) (k .result) (l .left) q (length (l .dst)) (l .inv .room) in
+    let f = nextOf (a .file .now) (a .v) in
+    let g = next-along (a .file .now) (a .v) (p .pre .2) in
+    let r = run-asked f (coder (a .s)) g (l .c) (l .e) (k .result) (l .left) q (l .inv .rest) in
+    let m = run-room f (coder (a .s)) g (l .c) (l .e) (k .result) (l .left) q (length (l .dst)) (l .inv .room) in
     (p .pre .0, p .pre .1, q .some, r .0, r .1, r .2, m)
 
 sub-past-cells : tie.Need-sub-past-cells Inv-loop μ-loop
@@ -56,6 +65,7 @@ loop-less c =
     omega arith
 
 loop-again : tie.Need-loop-again Inv-loop μ-loop
+unfolding steppedBy takenAll
 loop-again c =
     let p = c .before .before .before .before .before .before .before .before .before .before in
     let a = p .args in
@@ -65,17 +75,20 @@ loop-again c =
     let q = cells (l .c) (k .result) (l .left) (c .before .before .before .before .before .before .loop-test .taken) (k .ensures) in
     let z = q .some in
     let one : k .result - 1 + 1 ≡ k .result = omega arith in
-    written-turn (a .s) (a .file .now) (a .v) (p .pre .2) (l .c) (l .e) (k .result) (l .left) q (p .pre .0) (a .c) (a .e) (a .n) (c .past-cells .result)
-    (o .result) (rw one at (c .past-cells .ensures)) (o .ensures .0) (a .dst .now) (l .dst) _ (o .ensures .1) (l .inv)
+    written-turn (nextOf (a .file .now) (a .v)) (coder (a .s)) (next-along (a .file .now) (a .v) (p .pre .2)) (l .c) (l .e) (k .result) (l .left) q
+    (codes (a .s) (p .pre .0) .keeps) (a .dst .now) (a .c) (a .e) (a .n) (l .dst) _ (c .past-cells .result) (o .result) (rw one at (c .past-cells .ensures)) (o .ensures .0)
+    (o .ensures .1) (l .inv)
 
 same-length : tie.Need-same-length Inv-loop μ-loop
 same-length c = c .before .loop .inv .same
 
 returns : tie.Need-returns Inv-loop μ-loop
+unfolding along walked
 returns c =
     let a = c .before .before .before .before .args in
     let l = c .before .loop in
-    written-end (a .s) (a .file .now) (a .v) (a .c) (a .e) (a .n) (l .c) (l .e) (l .left) (c .loop-test .left) (a .dst .now) (l .dst) (l .inv)
+    let w = written-end (nextOf (a .file .now) (a .v)) (coder (a .s)) (a .dst .now) (a .c) (a .e) (a .n) (l .dst) (l .c) (l .e) (l .left) (c .loop-test .left) (l .inv) in
+    (w .walk, w .bytes)
 
 pub put-runs-spec : {M : Type 1} → statement M
 put-runs-spec =

@@ -7,7 +7,8 @@ use Rattle.parts.specs.Batch.{Along, RoomAll, putAllBy}
 use Rattle.kinds.specs.Steps.{walked}
 use Rattle.kinds.specs.Coding.{coder}
 use Rattle.rewrite.specs.Walk.{along}
-use Rattle.rewrite.proofs.Stretch.{Batch, batch, turn-whole, turn-now, turn-later, turn-room-now, turn-room-later, turn-put, end-whole, end-put, length-put-all}
+use Rattle.parts.proofs.Carried.{length-put-all}
+use Rattle.rewrite.proofs.Stretch.{Batch, batch, turn-whole, turn-now, turn-later, turn-room-now, turn-room-later, turn-put, end-whole, end-put}
 use borrow.Author.Needs.{needs}
 use Rattle.rewrite.proofs.walk.put_batches.Statement.{statement}
 use Rattle.rewrite.proofs.walk.put_batches.Tie as tie

@@ -1,0 +1,445 @@
+-- Whole runs copied as pairs: one run after the other. Assumes nothing.
+use Prim.Native.Nat.{ℕ, zero, suc, _+_, _-_, _*_, _%_, _^_, _≤_, _<_}
+use mathlib.Core.Path.{_≡_, refl, sym, ap, ap₂, subst, _∙_}
+use mathlib.Core.Bool.{true, not}
+use mathlib.Core.List.{List}
+use native.Mathlib.Nat.{add-zero, le-refl}
+use native.Mathlib.Numerals.{add-one}
+use native.Mathlib.Omega.{arith}
+use lib.ListN.{length}
+use lib.Dec.{ltb}
+use borrow.Author.Tests.{ne-eqb, ltb-true, ltb-false}
+use Rattle.format.specs.declared.View.{View}
+use Rattle.format.specs.Tools.{range}
+use Rattle.format.specs.Runs.{runsKind}
+use Rattle.laws.proofs.Tools.{cases}
+use Rattle.wire.specs.declared.Pair.{Pair}
+use Rattle.wire.specs.Wire.{pairAt, fieldPair}
+use Rattle.wire.proofs.Laws.{pair-there}
+use Rattle.stores.specs.Put.{put, pair}
+use Rattle.parts.specs.declared.Cursor.{Cursor}
+use Rattle.parts.specs.declared.Encoder.{Encoder}
+use Rattle.parts.specs.Cursor.{add32, walkedAs, steppedAs}
+use Rattle.parts.specs.declared.walk.Walk.{Walk}
+use Rattle.parts.specs.Encoder.{runEnds, takenBy, takenAllBy}
+use Rattle.parts.specs.Carried.{carried, PutAs, Reached}
+use Rattle.parts.proofs.Along.{walked-along}
+use Rattle.parts.specs.Ready.{moved}
+use Rattle.parts.specs.Batch.{Along, RoomAll, putAllBy, grown}
+use Rattle.parts.specs.Holds.{Holds}
+use Rattle.parts.proofs.Taking.{ends-later, put-first}
+use Rattle.parts.proofs.Grown.{taken-range, put-range}
+use Rattle.parts.proofs.Carried.{Written, written-begin, Cells, written-turn}
+use Rattle.runs.specs.Before.{lastAt, emptyAt, ranksBefore}
+use Rattle.runs.specs.Steps.{next}
+use Rattle.runs.specs.Coding.{runPair, runsCoder}
+use Rattle.runs.specs.Copy.{copied, atRun, atEnd, ranOn, BetweenRuns}
+use Rattle.runs.proofs.Body.{inside}
+use Rattle.runs.proofs.Walk.{next-along}
+use Rattle.runs.proofs.Adds.{first-pair, taken-pair, lengthens, keeps}
+use Rattle.runs.proofs.Whole.{FirstWith, whole-run, words-before, ranks-next, at-rank-before, InRunAt, step-on, to-next, at-first, Stands, stands}
+
+-- ---- one run of n cells, which ends at l, into an encoder that has another open
+
+module _ (e : Encoder) (p n l : ℕ) (some : 1 ≤ e .rank) (apart : e .last + 1 < p) (more : 1 ≤ n) (ends : p + n ≡ suc l) where
+  run-ends : runEnds e p ≡ true
+  run-ends = sym (ends-later e p (λ z. omega arith)) ∙ ap not (ne-eqb p (e .last + 1) (λ z. omega arith))
+
+  moved-on : ranOn e l n 1 ≡ grown (moved e p (e .first + 8) (e .second)) (n - 1)
+  unfolding ranOn grown moved
+  moved-on =
+      let r : e .rank + 1 + (n - 1) ≡ e .rank + n = omega arith in
+      let q : p + (n - 1) ≡ l = omega arith in
+      rw (r, q)
+
+  taken-run : ranOn e l n 1 ≡ takenAllBy runsCoder e (range p n)
+  taken-run =
+      moved-on ∙ ap (λ (x : Encoder). grown x (n - 1)) (taken-pair e p run-ends) ∙ taken-range runsCoder lengthens e p n (n - 1) (omega arith)
+
+  put-run-pair : (d : List ℕ) → put d (e .first) (runPair e) ≡ putAllBy runsCoder d e (range p n)
+  unfolding runsCoder
+  put-run-pair d =
+      put-first runsCoder d e p (runPair e) (first-pair e p run-ends) refl ∙ put-range runsCoder lengthens e p n (n - 1) (omega arith) d
+
+-- ---- pairs put out
+
+module _ (b : List ℕ) (from shift at : ℕ) (d : List ℕ) where
+  pub copied-none : copied b from shift at 0 d ≡ d
+  unfolding copied
+  copied-none = refl
+
+  -- one more, as the code takes it
+  pub copied-on : (i : ℕ) (o o′ : List ℕ) (x : Pair) (y : ℕ) → o ≡ copied b from shift at i d → x ≡ fieldPair (from + 8 * i) b → y ≡ (x .second + shift) % 2 ^ 32
+      → o′ ≡ put o (at + 8 * i) (pair (x .first) y) → o′ ≡ copied b from shift at (i + 1) d
+  unfolding copied add32
+  copied-on i o o′ x y e f g h = h ∙ rw (add-one i, e, g, f)
+
+-- ---- the shift
+
+-- y raised by s, where s is o less r
+pub shifted : (y s r o : ℕ) → (s + r) % 2 ^ 32 ≡ o → s < 2 ^ 32 → r < 2 ^ 32 → y + o < 2 ^ 32 → r ≤ y + o → add32 y s ≡ y + o - r
+unfolding add32
+shifted y s r o e a b c h = omega arith
+
+-- the pair of the open run: l and y are its pair in the file, o the ranks before the first run copied, r those taken then
+open-pair : (e : Encoder) (l y s r o n : ℕ) → e .last ≡ l → n ≡ l + 1 - y → y ≤ l → o ≤ n → e .rank ≡ r + (n - o) → e .rank ≤ l + 1 → l < 16777216
+    → (s + r) % 2 ^ 32 ≡ o → s < 2 ^ 32 → runPair e ≡ pair l (add32 y s)
+unfolding runPair
+open-pair e l y s r o n a b c d f g z k m =
+    let t : e .last + 1 - e .rank ≡ add32 y s = sym (shifted y s r o k m (omega arith) (omega arith) (omega arith) ∙ omega arith) in
+    ap₂ pair a t
+
+-- ---- run after run
+
+module _ (b : List ℕ) (v : View) (ls : List ℕ) (h : Holds (runsKind (v .width) (v .step)) b v ls) (i : ℕ) where
+  abbrev R : ℕ → ℕ
+  R j = ranksBefore b (v .start) j
+
+  -- m runs behind run i have gone
+  abbrev pub afterRuns : Encoder → ℕ → Encoder
+  afterRuns e m = ranOn e (lastAt b (v .start) (i + m)) (R (suc (i + m)) - R (suc i)) m
+
+  pub ranks-from : (m : ℕ) → i + m < v .firsts → R (suc i) ≤ R (suc (i + m))
+  ranks-from zero k = rw (add-zero i) (omega arith)
+  ranks-from (suc m) k =
+      let z : i + suc m ≡ suc (i + m) = omega arith in
+      let t = ranks-from m (omega arith) in
+      let u = ranks-next b v ls h (suc (i + m)) (omega arith) in
+      rw z (omega arith)
+
+  module _ (d₀ : List ℕ) (c₀ : Cursor) (e₀ : Encoder) (n shift : ℕ) (cursor : c₀ ≡ atRun b v c₀ (suc i)) (last : e₀ .last ≡ lastAt b (v .start) i)
+      (some : 1 ≤ e₀ .rank) (by : (shift + e₀ .rank) % 2 ^ 32 ≡ R (suc i)) (small : shift < 2 ^ 32) where
+    abbrev bytes : ℕ → List ℕ
+    bytes m = copied b (v .start + 8 * i) shift (e₀ .first) m d₀
+
+    abbrev Gone : ℕ → Type 0
+    Gone m = Written (next b v) runsCoder d₀ c₀ e₀ n (bytes m) (atRun b v c₀ (suc (i + m))) (afterRuns e₀ m) (n - (R (suc (i + m)) - R (suc i)))
+
+    no-runs : afterRuns e₀ 0 ≡ e₀
+    unfolding ranOn
+    no-runs =
+        let x : e₀ .rank + (R (suc (i + 0)) - R (suc i)) ≡ e₀ .rank = rw (add-zero i) (omega arith) in
+        let y : e₀ .first + 8 * 0 ≡ e₀ .first = omega arith in
+        let t : lastAt b (v .start) (i + 0) ≡ e₀ .last = rw (add-zero i) (sym last) in
+        rw (x, y, t)
+
+    none-gone : Along e₀ (walkedAs (next b v) c₀ n) → RoomAll runsCoder e₀ (walkedAs (next b v) c₀ n) (length d₀) → Gone 0
+    unfolding copied
+    none-gone a r =
+        let w = written-begin (next b v) runsCoder d₀ c₀ e₀ n a r in
+        let q : atRun b v c₀ (suc (i + 0)) ≡ c₀ = ap (λ (k : ℕ). atRun b v c₀ (suc k)) (add-zero i) ∙ sym cursor in
+        let z : n - (R (suc (i + 0)) - R (suc i)) ≡ n = rw (add-zero i) (omega arith) in
+        subst (Written (next b v) runsCoder d₀ c₀ e₀ n d₀ (atRun b v c₀ (suc (i + 0))) (afterRuns e₀ 0)) (sym z)
+        (subst (λ (x : Encoder). Written (next b v) runsCoder d₀ c₀ e₀ n d₀ (atRun b v c₀ (suc (i + 0))) x n) (sym no-runs)
+        (subst (λ (x : Cursor). Written (next b v) runsCoder d₀ c₀ e₀ n d₀ x e₀ n) (sym q) w))
+
+    -- one more
+    module _ (m : ℕ) (k : suc (i + m) < v .firsts) (most : R (suc (suc (i + m))) - R (suc i) ≤ n) (g : Gone m) where
+      abbrev j : ℕ
+      j = suc (i + m)
+
+      abbrev c : Cursor
+      c = atRun b v c₀ j
+
+      abbrev e : Encoder
+      e = afterRuns e₀ m
+
+      here : InRunAt b v c j
+      here = at-first b v ls h c₀ j k
+
+      abbrev count : ℕ
+      count = R (suc j) - R j
+
+      place : c .at ≡ R j + emptyAt b (v .start) j
+      unfolding atRun
+      place = here .at
+
+      ends : c .at + count ≡ suc (lastAt b (v .start) j)
+      ends = let w = whole-run b v ls h j k in let s = w .some in let a = w .after in let p = place in omega arith
+
+      cells : Cells c count (n - (R j - R (suc i)))
+      cells =
+          let t = ranks-from m (omega arith) in
+          let u = ranks-next b v ls h j k in
+          let q = ends in
+          let l = here .last in
+          record { most = omega arith; some = omega arith; in-run = λ z. omega arith }
+
+      rank-now : e .rank ≡ e₀ .rank + (R j - R (suc i))
+      unfolding ranOn
+      rank-now = refl
+
+      last-now : e .last ≡ lastAt b (v .start) (i + m)
+      unfolding ranOn
+      last-now = refl
+
+      open-is : runPair e ≡ pair (lastAt b (v .start) (i + m)) (add32 (emptyAt b (v .start) (i + m)) shift)
+      open-is =
+          let w = whole-run b v ls h (i + m) (omega arith) in
+          let s = w .some in
+          let q = g .rest .sound .empty-most in
+          let r = rank-now in
+          let l = last-now in
+          open-pair e _ _ shift (e₀ .rank) (R (suc i)) (R j) l (w .after) (omega arith) (ranks-from m (omega arith)) r (omega arith) (w .below) by small
+
+      away : e .last + 1 < c .at
+      away =
+          let w = whole-run b v ls h (i + m) (omega arith) in
+          let s = w .some in
+          let a = w .after in
+          let t = w .apart k in
+          let p = place in
+          let l = last-now in
+          omega arith
+
+      some-now : 1 ≤ e .rank
+      some-now = let r = rank-now in omega arith
+
+      more : 1 ≤ count
+      more = let u = ranks-next b v ls h j k in omega arith
+
+      pair-now : fieldPair (v .start + 8 * i + 8 * m) b ≡ pairAt (v .start + 8 * (i + m)) b
+      pair-now =
+          let z : v .start + 8 * i + 8 * m ≡ v .start + 8 * (i + m) = omega arith in
+          let l = inside b v (h .counted) .long in
+          rw z (sym (pair-there (v .start + 8 * (i + m)) b (omega arith)))
+
+      bytes-on : bytes (suc m) ≡ putAllBy runsCoder (bytes m) e (range (c .at) count)
+      unfolding copied ranOn
+      bytes-on = rw (pair-now, ← open-is) (put-run-pair e (c .at) count (lastAt b (v .start) j) some-now away more ends (bytes m))
+
+      one-more : afterRuns e₀ (suc m) ≡ ranOn e (lastAt b (v .start) j) count 1
+      unfolding ranOn
+      one-more =
+          let t = ranks-from m (omega arith) in
+          let u = ranks-next b v ls h j k in
+          let z : i + suc m ≡ suc (i + m) = omega arith in
+          let r : e₀ .rank + (R (suc (suc (i + m))) - R (suc i)) ≡ e₀ .rank + (R j - R (suc i)) + count = omega arith in
+          let f : e₀ .first + 8 * suc m ≡ e₀ .first + 8 * m + 8 = omega arith in
+          rw (z, r, f)
+
+      taken-on : afterRuns e₀ (suc m) ≡ takenAllBy runsCoder e (range (c .at) count)
+      taken-on = one-more ∙ taken-run e (c .at) count (lastAt b (v .start) j) some-now away more ends
+
+      stepped-on : atRun b v c₀ (suc (i + suc m)) ≡ steppedAs (next b v) c count
+      unfolding atRun
+      stepped-on =
+          let z : i + suc m ≡ suc (i + m) = omega arith in
+          let q : lastAt b (v .start) j - c .at + 1 ≡ count = let t = ends in let p = here .high in omega arith in
+          rw z (sym (rw q at (to-next b v ls h c j here)))
+
+      more-gone : Gone (suc m)
+      more-gone =
+          let t = ranks-from m (omega arith) in
+          let u = ranks-next b v ls h j k in
+          let z : i + suc m ≡ suc (i + m) = omega arith in
+          let q : n - (R j - R (suc i)) - count ≡ n - (R (suc (i + suc m)) - R (suc i)) = rw z (omega arith) in
+          rw q at
+          (written-turn (next b v) runsCoder (next-along b v) c e count (n - (R j - R (suc i))) cells keeps d₀ c₀ e₀ n (bytes m) (bytes (suc m))
+          (atRun b v c₀ (suc (i + suc m))) (afterRuns e₀ (suc m)) stepped-on taken-on bytes-on g)
+
+    pub gone : Along e₀ (walkedAs (next b v) c₀ n) → RoomAll runsCoder e₀ (walkedAs (next b v) c₀ n) (length d₀)
+        → (m : ℕ) → i + m < v .firsts → R (suc (i + m)) - R (suc i) ≤ n → Gone m
+    gone a r zero k most = none-gone a r
+    gone a r (suc m) k most =
+        let z : i + suc m ≡ suc (i + m) = omega arith in
+        let u = ranks-next b v ls h (suc (i + m)) (omega arith) in
+        let o : R (suc (suc (i + m))) - R (suc i) ≤ n = rw z at most in
+        more-gone m (omega arith) o (gone a r m (omega arith) (omega arith))
+
+-- ---- the whole runs before run j, where cursor and encoder stand between two runs
+
+-- the numbers that the code makes: o is the run that the encoder has open, n the pairs that go out, l and y the pair of the last run
+pub record Ahead (b : List ℕ) (v : View) (c : Cursor) (j o n : ℕ) : Type 0 where
+  pub two : c .next ≡ o + 2
+  pub sum : o + n + 1 ≡ j
+  pub rank : c .rank ≡ ranksBefore b (v .start) (suc o)
+  pub ranks : c .rank ≤ ranksBefore b (v .start) j
+  pub after : ranksBefore b (v .start) j ≡ lastAt b (v .start) (j - 1) + 1 - emptyAt b (v .start) (j - 1)
+  pub some : emptyAt b (v .start) (j - 1) ≤ lastAt b (v .start) (j - 1)
+  pub below : lastAt b (v .start) (j - 1) < 16777216
+  pub long : v .start + 8 * j ≤ length b
+  pub pair : fieldPair (v .start + 8 * (j - 1)) b ≡ pairAt (v .start + 8 * (j - 1)) b
+
+module _ (b : List ℕ) (v : View) (ls : List ℕ) (h : Holds (runsKind (v .width) (v .step)) b v ls) (c : Cursor) (e : Encoder) (w : BetweenRuns b v c e) (j : ℕ)
+    (from : c .next ≤ j + 1) where
+  next-is : c .next ≡ suc (suc (c .next - 2))
+  unfolding atRun
+  next-is = ap (λ (x : Cursor). x .next) (w .cursor)
+
+  rank-is : c .rank ≡ ranksBefore b (v .start) (suc (c .next - 2))
+  unfolding atRun
+  rank-is = ap (λ (x : Cursor). x .rank) (w .cursor)
+
+  module _ (most : j ≤ v .firsts) where
+    pub ahead : Ahead b v c j (c .next - 2) (j - 1 - (c .next - 2))
+    ahead =
+        let o = c .next - 2 in
+        let n = j - 1 - o in
+        let t = next-is in
+        let s : o + n ≡ j - 1 = omega arith in
+        let q : suc (o + n) ≡ j = omega arith in
+        let z : suc (j - 1) ≡ j = omega arith in
+        let x = whole-run b v ls h (j - 1) (omega arith) in
+        let y = x .some in
+        let l = inside b v (h .counted) .long in
+        let r : ranksBefore b (v .start) (suc o) ≤ ranksBefore b (v .start) j = rw q at (ranks-from b v ls h o n (omega arith)) in
+        record {
+          two = omega arith;
+          sum = omega arith;
+          rank = rank-is;
+          ranks = rw rank-is r;
+          after = rw z at (x .after);
+          some = omega arith;
+          below = x .below;
+          long = omega arith;
+          pair = sym (pair-there (v .start + 8 * (j - 1)) b (omega arith));
+        }
+
+    -- all of them gone
+    pub ran : (d : List ℕ) (shift : ℕ) → (shift + e .rank) % 2 ^ 32 ≡ c .rank → shift < 2 ^ 32
+        → Along e (walkedAs (next b v) c (ranksBefore b (v .start) j - c .rank))
+        → RoomAll runsCoder e (walkedAs (next b v) c (ranksBefore b (v .start) j - c .rank)) (length d)
+        → Written (next b v) runsCoder d c e (ranksBefore b (v .start) j - c .rank)
+        (copied b (v .start + 8 * (c .next - 2)) shift (e .first) (j - 1 - (c .next - 2)) d) (atRun b v c j)
+        (ranOn e (lastAt b (v .start) (j - 1)) (ranksBefore b (v .start) j - c .rank) (j - 1 - (c .next - 2))) 0
+    ran d shift by small a r =
+        let o = c .next - 2 in
+        let n = j - 1 - o in
+        let k = ahead in
+        let t = next-is in
+        let s : o + n ≡ j - 1 = omega arith in
+        let q : suc (j - 1) ≡ j = omega arith in
+        let p : ranksBefore b (v .start) (suc o) ≡ c .rank = sym rank-is in
+        let z : ranksBefore b (v .start) j - c .rank - (ranksBefore b (v .start) j - c .rank) ≡ 0 = omega arith in
+        let g = gone b v ls h o d c e (ranksBefore b (v .start) j - c .rank) shift (w .cursor) (w .last) (w .some) (by ∙ rank-is) small a r n (omega arith) (rw (s, q, p) (le-refl _)) in
+        rw z at (rw (s, q, p) at g)
+
+    pub stepped : (x : Pair) → x ≡ pairAt (v .start + 8 * (j - 1)) b → next b v (atEnd c (x .first) (x .second) j) ≡ atRun b v c j
+    stepped x f =
+        let t = next-is in
+        let q : suc (j - 1) ≡ j = omega arith in
+        rw f (rw q at (step-on b v ls h c (j - 1) (omega arith)))
+
+-- their bytes and ranks have room
+pub ran-room : (b : List ℕ) (v : View) (d : List ℕ) (c : Cursor) (e : Encoder) (m : ℕ) (d′ : List ℕ) (c′ : Cursor) (l k n left : ℕ)
+    → Written (next b v) runsCoder d c e m d′ c′ (ranOn e l k n) left → (e .first + 8 * n ≤ length d) × (e .rank + k ≤ 16777216) × (e .first + 8 * n < 2 ^ 40)
+unfolding ranOn
+ran-room b v d c e m d′ c′ l k n left w =
+    let f = w .room .first in
+    let s = w .room .second in
+    let z = w .same in
+    let q = w .rest .sound .empty-most in
+    let p = w .rest .sound .passed-most in
+    let t = w .rest .sound .first-most in
+    (omega arith, omega arith, omega arith)
+
+-- ---- from the first cell of a run on
+
+module _ (b : List ℕ) (v : View) (ls : List ℕ) (h : Holds (runsKind (v .width) (v .step)) b v ls) (c : Cursor) (e : Encoder) (w : BetweenRuns b v c e) (n j : ℕ)
+    (some : 1 ≤ n) (q : FirstWith b v (c .rank + n) j) where
+  -- run j is not before the cursor's
+  pub not-before : c .next ≤ j + 1
+  not-before =
+      cases (ltb (c .next - 2) j)
+      (λ t. let m = ltb-true (c .next - 2) j t in omega arith)
+      (λ t.
+      let m = ltb-false (c .next - 2) j t in
+      let u = w .run in
+      let z : j + (c .next - 2 - j) ≡ c .next - 2 = omega arith in
+      let r = rw z at (ranks-from b v ls h j (c .next - 2 - j) (omega arith)) in
+      let x = whole-run b v ls h j (omega arith) .after in
+      let y = q .holds (omega arith) in
+      let p = rank-is b v ls h c e w (c .next) (omega arith) in
+      absurd (omega arith))
+
+  -- the part of run j
+  pub last-part : c .rank + n ≤ v .words → (x : Cursor) → x ≡ atRun b v c j → 1 < c .rank + n - x .rank → x .at + (c .rank + n - x .rank) ≤ x .last + 1
+  last-part f x g = rw g (part f)
+    where
+      part : c .rank + n ≤ v .words → 1 < c .rank + n - atRun b v c j .rank → atRun b v c j .at + (c .rank + n - atRun b v c j .rank) ≤ atRun b v c j .last + 1
+      part f m =
+          let o = q .most in
+          let r = at-rank-before b v ls h c j in
+          cases (ltb j (v .firsts))
+          (λ t.
+          let k = ltb-true j (v .firsts) t in
+          let i = at-first b v ls h c j k in
+          let a = i .at in
+          let l = i .last in
+          let y = q .holds k in
+          omega arith)
+          (λ t.
+          let k = ltb-false j (v .firsts) t in
+          let z : v .firsts ≡ j = omega arith in
+          let y : ranksBefore b (v .start) j ≡ v .words = ap (ranksBefore b (v .start)) (sym z) ∙ words-before b v ls h in
+          absurd (omega arith))
+
+-- ---- from any rank on
+
+module _ (b : List ℕ) (v : View) (ls : List ℕ) (h : Holds (runsKind (v .width) (v .step)) b v ls) (c : Cursor) where
+  between-at : (i : ℕ) → i < v .firsts → (x : Cursor) → x ≡ atRun b v c (suc i) → (y : Encoder) → y .last ≡ lastAt b (v .start) i → 1 ≤ y .rank → BetweenRuns b v x y
+  unfolding atRun
+  between-at i k x g y l s =
+      let n : x .next ≡ suc (suc i) = ap (λ (z : Cursor). z .next) g in
+      let z : x .next - 2 ≡ i = omega arith in
+      let u : atRun b v x (suc i) ≡ atRun b v c (suc i) = ap (λ (t : Cursor). atRun b v t (suc i)) g in
+      record { run = rw z k; cursor = rw z (g ∙ sym u); last = rw z l; some = s }
+
+  module _ (n : ℕ) (some : 1 ≤ n) (q : Reached (next b v) (v .words) c n) where
+    pub standing : Stands b v c (q .rank)
+    standing = let m = q .most in subst (λ (x : Cursor). Stands b v x (q .rank)) (sym (q .steps)) (stands b v ls h (q .rank) (omega arith))
+
+    -- the cursor has not passed its run
+    pub in-order : (c .at ≤ c .last) × (c .last < 16777216)
+    in-order =
+        let t = standing .there in
+        let l = t .last in
+        let g = t .high in
+        let z = whole-run b v ls h (standing .run) (t .less) .below in
+        (omega arith, omega arith)
+
+    -- after the rest of the run
+    module _ (e : Encoder) (d d′ : List ℕ) (w : Walk) (p : PutAs (next b v) runsCoder c e (c .last - c .at + 1) d w d′) where
+      cursor-on : w .c ≡ atRun b v c (suc (standing .run))
+      unfolding carried
+      cursor-on =
+          let l = standing .there .last in
+          ap (λ (x : Walk). x .c) (p .walk) ∙ ap (λ (m : ℕ). steppedAs (next b v) c (m - c .at + 1)) l ∙ to-next b v ls h c (standing .run) (standing .there)
+
+      encoder-on : w .e ≡ grown (takenBy runsCoder e (c .at)) (c .last - c .at)
+      unfolding carried
+      encoder-on =
+          let z : c .last - c .at + 1 ≡ suc (c .last - c .at) = omega arith in
+          ap (λ (x : Walk). x .e) (p .walk)
+          ∙ rw z (ap (takenAllBy runsCoder e) (walked-along (next b v) (next-along b v) (c .last - c .at) c (le-refl _)))
+          ∙ sym (taken-range runsCoder lengthens e (c .at) (suc (c .last - c .at)) (c .last - c .at) refl)
+
+      last-on : w .e .last ≡ c .at + (c .last - c .at)
+      unfolding grown takenBy
+      last-on = ap (λ (x : Encoder). x .last) encoder-on
+
+      rank-on : w .e .rank ≡ e .rank + 1 + (c .last - c .at)
+      unfolding grown takenBy
+      rank-on = ap (λ (x : Encoder). x .rank) encoder-on
+
+      pub between-runs : BetweenRuns b v (w .c) (w .e)
+      between-runs =
+          let t = standing .there in
+          let l = t .last in
+          let g = in-order .0 in
+          let a = last-on in
+          let r = rank-on in
+          between-at (standing .run) (t .less) (w .c) cursor-on (w .e) (omega arith) (omega arith)
+
+      pub ranks-fit : c .last - c .at + 1 ≤ n → w .c .rank + (n - (c .last - c .at + 1)) ≤ v .words
+      ranks-fit k =
+          let t = standing .there in
+          let l = t .last in
+          let g = in-order .0 in
+          let a = t .at in
+          let m = q .most in
+          let o = standing .rank in
+          let x = whole-run b v ls h (standing .run) (t .less) .after in
+          let r = ap (λ (z : Cursor). z .rank) cursor-on ∙ at-rank-before b v ls h c (suc (standing .run)) in
+          omega arith

@@ -1,0 +1,12 @@
+use mathlib.Core.Path.{refl}
+use Rattle.runs.specs.Copy.{ranOn}
+use borrow.Author.Needs.{needs}
+use Rattle.runs.proofs.copy.run_on.Statement.{statement}
+use Rattle.runs.proofs.copy.run_on.Tie as tie
+
+returns : tie.Need-returns
+unfolding ranOn
+returns c = refl
+
+pub run-on-spec : {M : Type 1} → statement M
+run-on-spec = tie.close (tie.spec (λ c. search needs) (λ c. search needs) (λ c. search needs) returns)
