@@ -1,5 +1,5 @@
 -- An edit in three stretches: the ranks before it, its own position, the ranks after it; then the end. Assumes nothing.
-use Prim.Native.Nat.{ℕ, _+_, _-_, _≤_}
+use Prim.Native.Nat.{ℕ, suc, _+_, _-_, _≤_}
 use mathlib.Core.Path.{_≡_, refl, sym, ap, ap₂, _∙_}
 use mathlib.Core.Bool.{true}
 use mathlib.Core.List.{List, [], _++_, append-nil}
@@ -18,11 +18,13 @@ use Rattle.parts.specs.Holds.{ViewOf, kindOf}
 use Rattle.parts.specs.Encoder.{begun, firstsBy, secondsBy}
 use Rattle.parts.specs.Ready.{Sound}
 use Rattle.parts.specs.Batch.{Along, RoomAll, putAllBy}
-use Rattle.parts.specs.Carried.{carried}
+use Rattle.parts.specs.Cursor.{before, steppedAs}
+use Rattle.parts.specs.Carried.{carried, Reached}
+use Rattle.parts.proofs.Batches.{stepped-as-add}
 use Rattle.parts.proofs.Seen.{seen}
 use Rattle.parts.proofs.Sounds.{sound-begun}
 use Rattle.parts.proofs.Carried.{length-put-all, along-front, room-front}
-use Rattle.kinds.specs.Steps.{startOf, walked, steppedBy}
+use Rattle.kinds.specs.Steps.{nextOf, startOf, walked, steppedBy}
 use Rattle.kinds.specs.Coding.{coder, takenAll, firsts, seconds, addedFirst, addedSecond, Apart}
 use Rattle.kinds.proofs.Walks.{Batched, batched, walk-start}
 use Rattle.kinds.proofs.Driving.{all-append, along-added, sound-added, room-first-all, room-second-all, apart-added, put-turn-all}
@@ -236,3 +238,20 @@ module _ (b : List ℕ) (v : View) (o : ViewOf b v) (x : Edit) (i : EditOf b x) 
       at-begin : put (put d (begun f g .first) (firsts s (begun f g) (edited x (positionsOf b)))) (begun f g .second) (seconds s (begun f g) (edited x (positionsOf b)))
           ≡ put (put d f (firsts s (begun f g) (edited x (positionsOf b)))) g (seconds s (begun f g) (edited x (positionsOf b)))
       at-begin = unfold begun in refl
+
+-- ---- both stretches begin where the steps from before rank 0 lead
+
+module _ (b : List ℕ) (v : View) (o : ViewOf b v) (x : Edit) (i : EditOf b x) where
+  pub reached-first : Reached (nextOf b v) (v .words) (startOf b v) (x .before)
+  unfolding startOf steppedAs
+  reached-first = let t = ranks-there b v o x i in let p = t .0 in let q = t .1 in record { rank = 0; steps = refl; most = omega arith }
+
+  pub reached-rest : Reached (nextOf b v) (v .words) (onward b v x) (v .words - x .after)
+  unfolding startOf steppedBy steppedAs
+  reached-rest =
+      let t = ranks-there b v o x i in
+      let p = t .0 in
+      let q = t .1 in
+      let z : x .before + (x .after - x .before) ≡ x .after = omega arith in
+      let u : steppedAs (nextOf b v) (nextOf b v before) (x .after) ≡ onward b v x = rw z at (stepped-as-add (nextOf b v) (nextOf b v before) (x .before) (x .after - x .before)) in
+      record { rank = x .after; steps = sym u; most = omega arith }

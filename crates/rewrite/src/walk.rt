@@ -5,6 +5,8 @@ use format::Setting;
 use format::View;
 use kinds::coding::put_all;
 use kinds::coding::take_all;
+use kinds::copying::copies;
+use kinds::copying::copy_ranks;
 use kinds::steps::next;
 use kinds::steps::positions;
 use kinds::steps::stores_runs;
@@ -17,9 +19,10 @@ ghost use mathlib.Core.Bool.{true};
 ghost use Prim.Native.Nat.{_<_};
 ghost use lib.ListN.{length};
 ghost use Rattle.format.specs.Kinds.{settingAllowed};
-ghost use Rattle.parts.specs.Holds.{kindOf};
+ghost use Rattle.parts.specs.Holds.{kindOf, ViewOf};
 ghost use Rattle.parts.specs.Batch.{Along, RoomAll, putAllBy};
-ghost use Rattle.kinds.specs.Steps.{walked, steppedBy};
+ghost use Rattle.parts.specs.Carried.{Reached};
+ghost use Rattle.kinds.specs.Steps.{nextOf, walked, steppedBy};
 ghost use Rattle.kinds.specs.Coding.{coder, takenAll};
 ghost use Rattle.rewrite.specs.Walk.{along, added};
 
@@ -92,9 +95,12 @@ pub fn put_ranks(
     e: Encoder,
     n: u32,
 ) -> Walk
-    requires { ⌜ (kindOf v .allowed ≡ true) × (settingAllowed s ≡ true) × Along e (walked (now file) v c n) × RoomAll (coder s) e (walked (now file) v c n) (length (now dst)) ⌝ }
+    requires { ⌜ (kindOf v .allowed ≡ true) × (settingAllowed s ≡ true) × Along e (walked (now file) v c n) × RoomAll (coder s) e (walked (now file) v c n) (length (now dst)) × ViewOf (now file) v × Reached (nextOf (now file) v) (v .words) c n ⌝ }
     ensures { λ r. ⌜ (r ≡ along s (now (file .entry)) v c e n) × (now (dst .exit) ≡ putAllBy (coder s) (now (dst .entry)) e (walked (now (file .entry)) v c n)) ⌝ }
 {
+    if copies(v.kind, s.kind) {
+        return copy_ranks(dst, file, v, s, c, e, n);
+    }
     if stores_runs(s.kind) {
         if stores_runs(v.kind) {
             return put_runs(dst, file, v, s, c, e, n);

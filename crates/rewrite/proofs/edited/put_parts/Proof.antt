@@ -6,7 +6,7 @@ use Rattle.stores.proofs.Laws.{length-put}
 use Rattle.parts.specs.Encoder.{begun}
 use Rattle.parts.specs.declared.walk.Walk.{Walk}
 use Rattle.rewrite.specs.Walk.{added}
-use Rattle.rewrite.proofs.Three.{allowed, ranks-there, along-cursor, along-encoder, halfway, front, rest, e1, e2, e3, d1, d2, d3, length-d1, length-d2, length-d3, edit-along, edit-rooms, edit-put}
+use Rattle.rewrite.proofs.Three.{allowed, ranks-there, along-cursor, along-encoder, halfway, front, rest, e1, e2, e3, d1, d2, d3, length-d1, length-d2, length-d3, edit-along, edit-rooms, edit-put, reached-first, reached-rest}
 use borrow.Author.Needs.{needs}
 use Rattle.rewrite.proofs.edited.put_parts.Statement.{statement}
 use Rattle.rewrite.proofs.edited.put_parts.Tie as tie
@@ -48,7 +48,7 @@ put-ranks-requires c κs =
     let p = c .before .before .before .before .before .pre in
     let t = edit-along (a .file .now) (a .v) (p .0) (a .x) (p .1) (a .s) (a .start) (a .second) (p .2) (p .4) (p .5) in
     let m = edit-rooms (a .file .now) (a .v) (p .0) (a .x) (p .1) (a .s) (a .start) (a .second) (length (a .dst .now)) (p .3) in
-    rw (c .before .begin .ensures, c .before .before .start .ensures) (allowed (a .file .now) (a .v) (p .0), p .2, t .front, m .front)
+    rw (c .before .begin .ensures, c .before .before .start .ensures) (allowed (a .file .now) (a .v) (p .0), p .2, t .front, m .front, p .0, reached-first (a .file .now) (a .v) (p .0) (a .x) (p .1))
 
 put-added-requires : tie.Need-put-added-requires
 put-added-requires c κs =
@@ -78,7 +78,7 @@ put-ranks-requires-2 c κs =
     let t = edit-along (a .file .now) (a .v) (p .0) (a .x) (p .1) (a .s) (a .start) (a .second) (p .2) (p .4) (p .5) in
     let m = edit-rooms (a .file .now) (a .v) (p .0) (a .x) (p .1) (a .s) (a .start) (a .second) (length (a .dst .now)) (p .3) in
     let n = ap length (middle-bytes (c .before .before .before .before .before .before .before)) ∙ length-d2 (a .s) (begun (a .start) (a .second)) (front (a .file .now) (a .v) (a .x)) (added (a .x)) (rest (a .file .now) (a .v) (a .x)) (a .dst .now) in
-    rw (middle-encoder (c .before .before .before .before .before .before .before), c .before .before .before .skip .ensures, front-cursor (c .before .before .before .before .before .before .before .before .before .before .before), n) (allowed (a .file .now) (a .v) (p .0), p .2, t .rest, m .rest)
+    rw (middle-encoder (c .before .before .before .before .before .before .before), c .before .before .before .skip .ensures, front-cursor (c .before .before .before .before .before .before .before .before .before .before .before), n) (allowed (a .file .now) (a .v) (p .0), p .2, t .rest, m .rest, p .0, reached-rest (a .file .now) (a .v) (p .0) (a .x) (p .1))
 
 finish-requires : tie.Need-finish-requires
 finish-requires c κs =
