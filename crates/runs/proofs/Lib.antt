@@ -11,3 +11,4 @@ pub mod Ends
 pub mod Laws
 pub mod Whole
 pub mod Copying
+pub mod FromRun

@@ -36,6 +36,12 @@ pub record InRun (g f l y o : ℕ) (ls : List ℕ) : Type 0 where
   pub most : l < o + length ls + y
   at : (r : ℕ) → f ≤ r → r + y ≤ l → getD ls (r - o) 0 ≡ r + y
 
+-- the first run with rank r or a later one
+pub record FirstWith (b : List ℕ) (v : View) (r j : ℕ) : Type 0 where
+  pub most : j ≤ v .firsts
+  pub begins : ranksBefore b (v .start) j ≤ r
+  pub holds : j < v .firsts → r + emptyAt b (v .start) j ≤ lastAt b (v .start) j
+
 getD-range : (a n i : ℕ) → i < n → getD (range a n) i 0 ≡ a + i
 unfolding range
 getD-range a zero i h = absurd (omega arith)
@@ -237,23 +243,25 @@ module _ (b : List ℕ) (v : View) (ls : List ℕ) (h : Holds (runsKind (v .widt
     last-ranks : LastAtMost (ranksBefore b (v .start)) (suc (v .firsts)) r j
     last-ranks = g .last (inside b v (h .counted) .long)
 
-    pub rank-begins : ranksBefore b (v .start) j ≤ r
-    rank-begins =
-        cases (ltb 0 j)
-        (λ t. last-ranks .low ranks-rise (ltb-true 0 j t))
-        (λ t. let z : j ≡ 0 = let k = ltb-false 0 j t in omega arith in rw z (let n = none .1 in omega arith))
-
-    pub rank-holds : j < v .firsts → r + emptyAt b (v .start) j ≤ lastAt b (v .start) j
+    pub first-with : FirstWith b v r j
     unfolding ranksBefore
-    rank-holds k = let s : r < ranksBefore b (v .start) (suc j) = last-ranks .high ranks-rise (suc j) (omega arith) (omega arith) in omega arith
+    first-with =
+        record {
+          most = g .most;
+          begins =
+              cases (ltb 0 j)
+              (λ t. last-ranks .low ranks-rise (ltb-true 0 j t))
+              (λ t. let z : j ≡ 0 = let k = ltb-false 0 j t in omega arith in rw z (omega arith));
+          holds = λ k. let s : r < ranksBefore b (v .start) (suc j) = last-ranks .high ranks-rise (suc j) (omega arith) (omega arith) in omega arith;
+        }
 
     pub position : r < v .words → r + emptyAt b (v .start) j ≡ getD ls r 0
     position k =
-        let a = rank-begins in
+        let a = first-with .begins in
         let m = g .most in
         let n = h .size in
         cases (ltb j (v .firsts))
-        (λ t. let u = ltb-true j (v .firsts) t in sym (at-rank j r u a (rank-holds u)))
+        (λ t. let u = ltb-true j (v .firsts) t in sym (at-rank j r u a (first-with .holds u)))
         (λ t.
         let u = ltb-false j (v .firsts) t in
         let e : ranksBefore b (v .start) j ≡ length ls = ap (ranksBefore b (v .start)) (omega arith) ∙ ranks in

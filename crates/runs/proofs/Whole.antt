@@ -20,11 +20,11 @@ use Rattle.parts.proofs.Steps.{add32-small}
 use Rattle.parts.proofs.Entries.{Entries, rest-pairs}
 use Rattle.parts.proofs.Batches.{stepped-as-add}
 use Rattle.parts.proofs.Along.{past-along}
-use Rattle.runs.specs.Before.{lastAt, emptyAt, ranksBefore, LastRun}
+use Rattle.runs.specs.Before.{lastAt, emptyAt, ranksBefore}
 use Rattle.runs.specs.Steps.{entered, next}
 use Rattle.runs.specs.Copy.{atRun, atEnd}
 use Rattle.runs.proofs.Body.{held}
-use Rattle.runs.proofs.Lookup.{told, count, in-run, at-rank, ranks, rank-begins, rank-holds}
+use Rattle.runs.proofs.Lookup.{told, count, in-run, at-rank, ranks}
 use Rattle.runs.proofs.Walk.{next-along}
 
 -- run i + k + 1 of the file has more empty cells before it than the run before
@@ -47,12 +47,6 @@ pub record WholeRun (b : List ℕ) (v : View) (i : ℕ) : Type 0 where
   pub below : lastAt b (v .start) i < 16777216
   pub after : ranksBefore b (v .start) (suc i) ≡ lastAt b (v .start) i + 1 - emptyAt b (v .start) i
   pub apart : suc i < v .firsts → emptyAt b (v .start) i < emptyAt b (v .start) (suc i)
-
--- the first run with rank r or a later one
-pub record FirstWith (b : List ℕ) (v : View) (r j : ℕ) : Type 0 where
-  pub most : j ≤ v .firsts
-  pub begins : ranksBefore b (v .start) j ≤ r
-  pub holds : j < v .firsts → r + emptyAt b (v .start) j ≤ lastAt b (v .start) j
 
 module _ (b : List ℕ) (v : View) (ls : List ℕ) (h : Holds (runsKind (v .width) (v .step)) b v ls) where
   pub whole-run : (i : ℕ) → i < v .firsts → WholeRun b v i
@@ -93,9 +87,6 @@ module _ (b : List ℕ) (v : View) (ls : List ℕ) (h : Holds (runsKind (v .widt
       let s = w .some in
       let a = w .after in
       omega arith
-
-  pub first-with : (r j : ℕ) → LastRun (ranksBefore b (v .start)) b (v .start) (v .firsts) r j → FirstWith b v r j
-  first-with r j g = record { most = g .most; begins = rank-begins b v ls h r j g; holds = rank-holds b v ls h r j g }
 
 -- ---- the cursor in a run
 

@@ -9,8 +9,9 @@ use Rattle.runs.specs.Before.{ranksBefore}
 use Rattle.runs.specs.Steps.{next}
 use Rattle.runs.specs.Coding.{runsCoder}
 use Rattle.runs.proofs.Adds.{keeps}
-use Rattle.runs.proofs.Whole.{FirstWith, first-with, at-rank-before}
-use Rattle.runs.proofs.Copying.{not-before, last-part, ahead}
+use Rattle.runs.proofs.Lookup.{FirstWith, first-with}
+use Rattle.runs.proofs.Whole.{at-rank-before}
+use Rattle.runs.proofs.FromRun.{not-before, last-part, ahead}
 use borrow.Author.Needs.{needs}
 use Rattle.runs.proofs.copy.put_from_run.Statement.{statement}
 use Rattle.runs.proofs.copy.put_from_run.Tie as tie

@@ -6,7 +6,7 @@ use Rattle.parts.proofs.Carried.{Written, written-begin, written-then, written-
 use Rattle.runs.specs.Steps.{next}
 use Rattle.runs.specs.Coding.{runsCoder}
 use Rattle.runs.proofs.Adds.{keeps}
-use Rattle.runs.proofs.Copying.{in-order, between-runs, ranks-fit}
+use Rattle.runs.proofs.FromRun.{in-order, between-runs, ranks-fit}
 use borrow.Author.Needs.{needs}
 use Rattle.runs.proofs.copy.put_runs.Statement.{statement}
 use Rattle.runs.proofs.copy.put_runs.Tie as tie

@@ -8,7 +8,7 @@ use Rattle.runs.specs.Before.{lastAt, emptyAt, ranksBefore}
 use Rattle.runs.specs.Steps.{next}
 use Rattle.runs.specs.Coding.{runsCoder}
 use Rattle.runs.specs.Copy.{copied, atRun, ranOn}
-use Rattle.runs.proofs.Copying.{Ahead, ahead, ran, stepped, ran-room}
+use Rattle.runs.proofs.FromRun.{Ahead, ahead, ran, stepped, ran-room}
 use borrow.Author.Needs.{needs}
 use Rattle.runs.proofs.copy.put_whole.Statement.{statement}
 use Rattle.runs.proofs.copy.put_whole.Tie as tie
