@@ -9,7 +9,9 @@ use format::Rank;
 use format::signals::BEYOND;
 use header::view::read_view;
 use header::view::whole_header;
+use kinds::search::placed_by_rank;
 use search::cell_in;
+use search::placed_in;
 use search::position_in;
 use search::rank_in;
 ghost use Rattle.exports.specs.Code.{Coded};
@@ -45,5 +47,9 @@ pub extern "C" fn ra_opened_position(file: &[u8], number: u32) -> u64
     if !whole_header(file) {
         return code_and_value(BEYOND, 0);
     }
-    position_code(position_in(file, read_view(file), Rank(number)))
+    let v = read_view(file);
+    if placed_by_rank(v.kind) {
+        return position_code(placed_in(file, v, Rank(number)));
+    }
+    position_code(position_in(file, v, Rank(number)))
 }

@@ -6,24 +6,8 @@ use Rattle.search.proofs.position_in.Tie as tie
 returns : tie.Need-returns
 returns c = position-past _ _ _ (c .if1 .taken)
 
-placed : tie.Need-placed-position-requires
-placed c κs = (c .before .placed-by-rank .ensures (c .if2 .taken), c .before .before .if1 .left)
-
 returns-2 : tie.Need-returns-2
-returns-2 c = rw (c .position-answer .ensures) (position-found _ _ _ _ (c .before .before .before .before .if1 .left) (c .before .placed-position .ensures))
-
-returns-3 : tie.Need-returns-3
-returns-3 c = rw (c .position-answer2 .ensures) (position-found _ _ _ _ (c .before .before .before .before .if1 .left) (c .before .position-of .ensures))
+returns-2 c = rw (c .position-answer .ensures) (position-found _ _ _ _ (c .before .before .if1 .left) (c .before .position-of .ensures))
 
 pub position-in-spec : {M : Type 1} → statement M
-position-in-spec =
-    tie.close
-    (tie.spec
-    returns
-    (λ c κs. search needs)
-    placed
-    (λ c κs. search needs)
-    returns-2
-    (λ c κs. search needs)
-    (λ c κs. search needs)
-    returns-3)
+position-in-spec = tie.close (tie.spec returns (λ c κs. search needs) (λ c κs. search needs) returns-2)

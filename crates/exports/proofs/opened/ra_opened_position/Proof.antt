@@ -22,16 +22,31 @@ returns c =
 whole : (c : tie.Else1) → WholeHeader (c .before .before .before .args .file .now)
 whole c = c .before .whole-header .ensures .there (not-false _ (c .if1 .left))
 
+placed : tie.Need-placed-in-requires
+placed c κs = c .before .placed-by-rank .ensures (c .if2 .taken)
+
 returns-2 : tie.Need-returns-2
 returns-2 c =
-    let g = c .before .before .before .before .before .before .args in
+    let g = c .before .before .before .before .before .before .before .before .args in
+    record {
+      answer = positionSays (c .before .placed-in .result);
+      right =
+          position-unchecked (g .file .now) _ (c .before .before .before .before .read-view .ensures) (whole (c .before .before .before .before .before)) (g .number)
+          (positionSays (c .before .placed-in .result))
+          (c .before .placed-in .ensures);
+      code = c .position-code .ensures;
+    }
+
+returns-3 : tie.Need-returns-3
+returns-3 c =
+    let g = c .before .before .before .before .before .before .before .before .args in
     record {
       answer = positionSays (c .before .position-in .result);
       right =
-          position-unchecked (g .file .now) _ (c .before .before .read-view .ensures) (whole (c .before .before .before)) (g .number)
+          position-unchecked (g .file .now) _ (c .before .before .before .before .read-view .ensures) (whole (c .before .before .before .before .before)) (g .number)
           (positionSays (c .before .position-in .result))
           (c .before .position-in .ensures);
-      code = c .position-code .ensures;
+      code = c .position-code2 .ensures;
     }
 
 pub ra-opened-position-spec : {M : Type 1} → statement M
@@ -43,5 +58,9 @@ ra-opened-position-spec =
     returns
     (λ c κs. whole c)
     (λ c κs. search needs)
+    placed
     (λ c κs. search needs)
-    returns-2)
+    returns-2
+    (λ c κs. search needs)
+    (λ c κs. search needs)
+    returns-3)
