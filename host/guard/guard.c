@@ -124,17 +124,17 @@ struct line {
 };
 
 static const struct line lines[] = {
-    {"check, kind 1", check_1, 3},
-    {"check, kind 2", check_2, 3},
-    {"check, kind 3 w2 l16", check_3, 3},
-    {"check, kind 4 w1", check_4w1, 3},
-    {"check, kind 4 w2", check_4w2, 3},
-    {"opened position, kind 4 w1", position_4w1, 3},
-    {"opened position, kind 4 w2", position_4w2, 3},
-    {"change, kind 2 to 3 w2 l16", change_2_3, 3},
-    {"change, kind 2 to 4 w2", change_2_4, 3},
-    {"change, kind 4 w2 to 2", change_4_2, 3},
-    {"make, kind 1, nothing stored", make_empty, 3},
+    {"check, kind 1", check_1, 2},
+    {"check, kind 2", check_2, 2.5},
+    {"check, kind 3 w2 l16", check_3, 2.5},
+    {"check, kind 4 w1", check_4w1, 1.7},
+    {"check, kind 4 w2", check_4w2, 1.7},
+    {"opened position, kind 4 w1", position_4w1, 2.5},
+    {"opened position, kind 4 w2", position_4w2, 2.5},
+    {"change, kind 2 to 3 w2 l16", change_2_3, 3.5},
+    {"change, kind 2 to 4 w2", change_2_4, 2.6},
+    {"change, kind 4 w2 to 2", change_4_2, 1.8},
+    {"make, kind 1, nothing stored", make_empty, 4},
 };
 
 /* The engine's best time over the best of the same in C, the two taking turns. */
