@@ -1,6 +1,6 @@
-/* Holds the engine's time for calls that rest on wide loops against the same loops in C (loops.c), both in this run. A ratio is compared with a bound that is far above what
- * was measured and far below what a loop gives that goes one element at a time; times are never compared. A line above its bound is measured again, and
- * fails if it is above it each time. The last line is 'N passed, M failed'. */
+/* Holds the engine's time for calls that rest on wide loops against the same loops in C (loops.c), both in this run. A ratio is compared with a bound; times are never
+ * compared. A bound is a third or more above what was measured, also beside two busy programs, and below what the line gives when its loops go one element at a time, which
+ * -fno-tree-vectorize shows on the loops in C. A line above its bound is measured again, and fails if it is above it each time. The last line is 'N passed, M failed'. */
 #define _POSIX_C_SOURCE 199309L
 #include "loops.h"
 #include "radar_archive.h"
@@ -127,13 +127,13 @@ static const struct line lines[] = {
     {"check, kind 1", check_1, 2},
     {"check, kind 2", check_2, 2.5},
     {"check, kind 3 w2 l16", check_3, 2.5},
-    {"check, kind 4 w1", check_4w1, 1.7},
-    {"check, kind 4 w2", check_4w2, 1.7},
+    {"check, kind 4 w1", check_4w1, 2},
+    {"check, kind 4 w2", check_4w2, 2},
     {"opened position, kind 4 w1", position_4w1, 2.5},
     {"opened position, kind 4 w2", position_4w2, 2.5},
     {"change, kind 2 to 3 w2 l16", change_2_3, 3.5},
-    {"change, kind 2 to 4 w2", change_2_4, 2.6},
-    {"change, kind 4 w2 to 2", change_4_2, 1.8},
+    {"change, kind 2 to 4 w2", change_2_4, 3.1},
+    {"change, kind 4 w2 to 2", change_4_2, 2.3},
     {"make, kind 1, nothing stored", make_empty, 4},
 };
 

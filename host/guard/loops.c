@@ -4,6 +4,7 @@
 #include <string.h>
 
 enum { HEADER = 52, STEP = 16 };
+static const uint32_t JUMP = 0xffffffff;   /* past every position */
 
 static uint32_t u32(const uint8_t *at)
 {
@@ -77,53 +78,29 @@ int check_offsets(const uint8_t *file)
     return falls == (n - 1) / STEP && right && words_right(file);
 }
 
-int check_jumps_1(const uint8_t *file)
+/* The difference of a rank. The width is 1 or 2, and each caller's own, so that a loop is compiled for it. */
+static inline uint32_t difference(const uint8_t *differences, size_t rank, size_t width)
 {
-    size_t n = count(file);
-    uint32_t zeros = 0;
-    uint64_t sum = u32(file + HEADER);
-    const uint8_t *at = second(file);
-    for (size_t i = 1; i < n; i++)
-        zeros |= at[i] == 0;
-    for (size_t i = 1; i < n; i++)
-        sum += at[i];
-    return !zeros && sum < 1u << 24 && words_right(file);
+    return width == 1 ? differences[rank] : u16(differences + 2 * rank);
 }
 
-int check_jumps_2(const uint8_t *file)
-{
-    size_t n = count(file);
-    uint32_t zeros = 0;
-    uint64_t sum = u32(file + HEADER);
-    const uint8_t *at = second(file);
-    for (size_t i = 1; i < n; i++)
-        zeros |= u16(at + 2 * i) == 0;
-    for (size_t i = 1; i < n; i++)
-        sum += u16(at + 2 * i);
-    return !zeros && sum < 1u << 24 && words_right(file);
-}
-
-uint32_t jump_position_1(const uint8_t *file, uint32_t rank)
+/* The position of a rank, by a walk from rank 0, where no other jump is on the way; else JUMP. */
+static inline uint32_t walked(const uint8_t *file, size_t rank, size_t width)
 {
     uint32_t zeros = 0, sum = u32(file + HEADER);
-    const uint8_t *at = second(file);
+    const uint8_t *differences = second(file);
     for (size_t i = 1; i <= rank; i++)
-        zeros |= at[i] == 0;
+        zeros |= difference(differences, i, width) == 0;
     for (size_t i = 1; i <= rank; i++)
-        sum += at[i];
-    return zeros ? 0 : sum;
+        sum += difference(differences, i, width);
+    return zeros ? JUMP : sum;
 }
 
-uint32_t jump_position_2(const uint8_t *file, uint32_t rank)
-{
-    uint32_t zeros = 0, sum = u32(file + HEADER);
-    const uint8_t *at = second(file);
-    for (size_t i = 1; i <= rank; i++)
-        zeros |= u16(at + 2 * i) == 0;
-    for (size_t i = 1; i <= rank; i++)
-        sum += u16(at + 2 * i);
-    return zeros ? 0 : sum;
-}
+uint32_t jump_position_1(const uint8_t *file, uint32_t rank) { return walked(file, rank, 1); }
+uint32_t jump_position_2(const uint8_t *file, uint32_t rank) { return walked(file, rank, 2); }
+
+int check_jumps_1(const uint8_t *file) { return walked(file, count(file) - 1, 1) < 1u << 24 && words_right(file); }
+int check_jumps_2(const uint8_t *file) { return walked(file, count(file) - 1, 2) < 1u << 24 && words_right(file); }
 
 /* The header's first bytes and the words; the parts are put between by the caller. */
 static size_t put_words(const uint8_t *file, uint8_t *dst, size_t place)
