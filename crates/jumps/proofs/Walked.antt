@@ -1,6 +1,6 @@
--- The steps of a search, one by one and by the sum of a group. Assumes nothing.
-use Prim.Native.Nat.{ℕ, zero, suc, _+_, _*_, _^_, _≤_, _<_}
-use mathlib.Core.Path.{_≡_, refl, _∙_}
+-- The steps of a search, one by one and all at once. Assumes nothing.
+use Prim.Native.Nat.{ℕ, zero, suc, _+_, _-_, _*_, _^_, _≤_, _<_}
+use mathlib.Core.Path.{_≡_, refl, sym, _∙_}
 use mathlib.Core.Bool.{true, not}
 use mathlib.Core.List.{List}
 use native.Mathlib.Nat.{add-zero, zero-add, add-suc, add-assoc}
@@ -8,13 +8,15 @@ use native.Mathlib.Numerals.{add-one}
 use native.Mathlib.Omega.{arith}
 use lib.ListN.{length}
 use lib.Dec.{eqb}
-use borrow.Author.Tests.{ne-eqb, not-true}
+use borrow.Author.Tests.{ne-eqb, eqb-true, eqb-false}
 use Rattle.format.specs.Bytes.{field}
 use Rattle.wire.specs.Wire.{whole}
-use Rattle.laws.proofs.Tools.{both-true}
+use Rattle.laws.proofs.Tools.{cases}
+use Rattle.parts.proofs.Taking.{if-zero, if-more}
 use Rattle.jumps.specs.declared.search.Reached.{Reached}
-use Rattle.jumps.specs.Walk.{stepBy, stepped, walked, plain, total, Room}
+use Rattle.jumps.specs.Walk.{stepBy, stepped, walked, zeros, total, behind, atOnce, Room}
 use Rattle.jumps.proofs.Turns.{entry-inside}
+use Rattle.jumps.proofs.Groups.{behind-all}
 
 -- ranks whose differences all lie in the file
 pub room : {w second n r : ℕ} (b : List ℕ) → 1 ≤ w → w ≤ 2 → second + w * n ≤ length b → n < 2 ^ 32 → r < n → Room w second b r
@@ -49,19 +51,33 @@ module _ (w start second : ℕ) (b : List ℕ) where
     unfolding walked
     walked-next k s e f = rw (f, e, add-one k)
 
-    -- the differences of a group without a jump, one after the other, are their sum
-    plain-walked : (n : ℕ) (s : Reached) → plain w second b r n ≡ true
-        → _≡_ {A = Reached} (record { position = s .position + total w second b r n; taken = s .taken }) (walked w start second b r n s)
-    unfolding walked plain total stepped stepBy
-    plain-walked zero s h = rw (add-zero (s .position))
-    plain-walked (suc n) s h =
+    -- rank by rank is all at once
+    at-once : (n : ℕ) (s : Reached) → walked w start second b r n s ≡ atOnce w start second b r n s
+    unfolding walked stepped stepBy zeros behind atOnce
+    at-once zero s = rw (add-zero (s .position), add-zero (s .taken))
+    at-once (suc n) s =
         let d = field w (second + w * (r + suc n)) b in
-        let z = both-true (not (eqb d 0)) (plain w second b r n) h in
-        rw (← plain-walked n s (z .1), ← add-assoc, not-true (eqb d 0) (z .0))
+        let z = zeros w second b r n in
+        cases (eqb d 0)
+        (λ e.
+        let f : s .taken + (z + 1) - 1 ≡ s .taken + z = omega arith in
+        rw (at-once n s, e, if-zero {X = ℕ} d 1 0 (eqb-true d 0 e), ne-eqb (z + 1) 0 (λ x. omega arith), f, add-zero, add-assoc))
+        (λ e. rw (at-once n s, e, if-more {X = ℕ} d 1 0 (eqb-false d 0 e), add-zero z, add-assoc))
 
-    pub group-sum : (n : ℕ) (s : Reached) → plain w second b r n ≡ true → {x : ℕ} → x ≡ total w second b r n
-        → _≡_ {A = Reached} (record { position = s .position + x; taken = s .taken }) (walked w start second b r n s)
-    group-sum n s h e = rw e (plain-walked n s h)
+    module _ (n : ℕ) (s : Reached) {z : ℕ} (e : z ≡ zeros w second b r n) where
+      -- without a jump
+      pub by-sum : z ≡ 0 → {x : ℕ} → x ≡ total w second b r n
+          → _≡_ {A = Reached} (record { position = s .position + x; taken = s .taken }) (walked w start second b r n s)
+      unfolding atOnce
+      by-sum h f =
+          let o : zeros w second b r n ≡ 0 = sym e ∙ h in
+          rw (at-once n s, o, f, behind-all w second b r n o, add-zero (s .taken))
+
+      -- from the last jump on
+      pub by-last-jump : (z ≡ 0 → ⊥) → {j x : ℕ} → j ≡ whole 4 (start + 4 * (s .taken + z - 1)) b → x ≡ behind w second b r n
+          → _≡_ {A = Reached} (record { position = j + x; taken = s .taken + z }) (walked w start second b r n s)
+      unfolding atOnce
+      by-last-jump h f g = rw (at-once n s, f, g, ← e, ne-eqb z 0 h)
 
   -- a walk from where another stopped
   walked-on : (r m : ℕ) (s : Reached) → walked w start second b r m (walked w start second b 0 r s) ≡ walked w start second b 0 (r + m) s

@@ -1,5 +1,5 @@
 -- A search as it goes from rank to rank, over any bytes. Assumes nothing.
-use Prim.Native.Nat.{ℕ, zero, suc, _+_, _*_, _^_, _≤_, _<_}
+use Prim.Native.Nat.{ℕ, zero, suc, _+_, _-_, _*_, _^_, _≤_, _<_}
 use mathlib.Core.Path.{_≡_}
 use mathlib.Core.Bool.{Bool, true, not}
 use mathlib.Core.List.{List}
@@ -40,6 +40,20 @@ zeros w second b r (suc n) = zeros w second b r n + ifZero (field w (second + w 
 unfoldable pub total : ℕ → ℕ → List ℕ → ℕ → ℕ → ℕ
 total w second b r zero = 0
 total w second b r (suc n) = total w second b r n + field w (second + w * (r + suc n)) b
+
+-- the sum of those behind the last 0; of all where none is 0
+unfoldable pub behind : ℕ → ℕ → List ℕ → ℕ → ℕ → ℕ
+behind w second b r zero = 0
+behind w second b r (suc n) = let d = field w (second + w * (r + suc n)) b in pick (eqb d 0) 0 (behind w second b r n + d)
+
+-- all n ranks at once: on from the last jump among them, or from s where none is
+unfoldable pub atOnce : ℕ → ℕ → ℕ → List ℕ → ℕ → ℕ → Reached → Reached
+atOnce w start second b r n s =
+    let z = zeros w second b r n in
+    record {
+      position = pick (eqb z 0) (s .position) (whole 4 (start + 4 * (s .taken + z - 1)) b) + behind w second b r n;
+      taken = s .taken + z;
+    }
 
 -- after n ranks: no sum passes 64 bits
 pub record Within (n : ℕ) (s : Reached) : Type 0 where

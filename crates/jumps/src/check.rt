@@ -1,8 +1,8 @@
 // The parts, checked in one pass.
 use super::differences::difference;
 use super::differences::next_group;
-use super::differences::no_jump;
 use super::differences::sum;
+use super::differences::zeros;
 use format::View;
 use wire::get_u32;
 ghost use mathlib.Core.Path.{_≡_};
@@ -93,7 +93,7 @@ fn pass_group(
 {
     if 0 < i {
         if end - i == 128 {
-            if no_jump(file, second, width, i - 1) {
+            if zeros(file, second, width, i - 1) == 0 {
                 let least = s.least + sum(file, second, width, i - 1) as usize;
                 return Passed {
                     least,

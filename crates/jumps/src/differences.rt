@@ -6,7 +6,7 @@ ghost use Prim.Native.Nat.{_+_, _*_, _≤_, _<_};
 ghost use lib.ListN.{length};
 ghost use Rattle.format.specs.Bytes.{field};
 ghost use Rattle.parts.specs.Encoder.{ifZero};
-ghost use Rattle.jumps.specs.Walk.{zeros, plain, total, Room};
+ghost use Rattle.jumps.specs.Walk.{zeros, total, behind, Room};
 
 // The difference of rank i, of width 1 or 2.
 pub fn difference(file: &[u8], second: usize, i: usize, width: u32) -> u32
@@ -54,15 +54,15 @@ fn zeros_u16(file: &[u8], second: usize, r: usize) -> u16
     count
 }
 
-// Whether no jump is among the 128 differences after rank r.
-pub fn no_jump(file: &[u8], second: usize, width: u32, r: usize) -> bool
+// How many of the 128 differences after rank r are 0: the jumps among them.
+pub fn zeros(file: &[u8], second: usize, width: u32, r: usize) -> usize
     requires { ⌜ Room width second (now file) (r + 128) ⌝ }
-    ensures { λ g. ⌜ g ≡ plain width second (now (file .entry)) r 128 ⌝ }
+    ensures { λ n. ⌜ (n ≡ zeros width second (now (file .entry)) r 128) × (n ≤ 128) ⌝ }
 {
     if width == 1 {
-        return zeros_u8(file, second, r, 128) == 0;
+        return zeros_u8(file, second, r, 128) as usize;
     }
-    zeros_u16(file, second, r) == 0
+    zeros_u16(file, second, r) as usize
 }
 
 // The sum of the 128 differences after rank r.
@@ -75,6 +75,24 @@ pub fn sum(file: &[u8], second: usize, width: u32, r: usize) -> u32
     while k < 128 {
         k += 1;
         x += difference(file, second, r + k, width);
+    }
+    x
+}
+
+// The sum of those behind the last 0, from the last rank backwards; of all where none is 0.
+pub fn sum_behind(file: &[u8], second: usize, width: u32, r: usize) -> u32
+    requires { ⌜ Room width second (now file) (r + 128) ⌝ }
+    ensures { λ x. ⌜ (x ≡ behind width second (now (file .entry)) r 128) × (x ≤ 65536 * 128) ⌝ }
+{
+    let mut x: u32 = 0;
+    let mut k: usize = 128;
+    while 0 < k {
+        let d = difference(file, second, r + k, width);
+        if d == 0 {
+            return x;
+        }
+        x += d;
+        k -= 1;
     }
     x
 }

@@ -1,15 +1,16 @@
 // The searches: one pass from rank 0 on, over any bytes and any view. Ranks are taken in groups.
 use super::differences::difference;
 use super::differences::next_group;
-use super::differences::no_jump;
 use super::differences::sum;
+use super::differences::sum_behind;
+use super::differences::zeros;
 use format::Position;
 use format::Rank;
 use format::View;
 use parts::Found;
 use wire::load_u32;
 ghost use mathlib.Core.Path.{_≡_};
-ghost use Prim.Native.Nat.{_+_, _*_, _≤_, _<_};
+ghost use Prim.Native.Nat.{ℕ, _+_, _*_, _^_, _≤_, _<_};
 ghost use Rattle.format.specs.Jumps.{jumpsKind};
 ghost use Rattle.wire.specs.Wire.{whole};
 ghost use Rattle.parts.specs.Found.{FoundIn, PositionIn};
@@ -51,7 +52,34 @@ fn advance(file: &[u8], start: u32, second: usize, width: u32, r: usize, s: Reac
     }
 }
 
-// From rank r to the n-th rank after it. A group of 128 without a jump is taken by its sum.
+// Over the 128 ranks after rank r at once: by the sum of their differences, or from the last jump among them by the sum behind it.
+pub fn take_group(
+    file: &[u8],
+    start: u32,
+    second: usize,
+    width: u32,
+    r: usize,
+    s: Reached,
+) -> Reached
+    requires { ⌜ Room width second (now file) (r + 128) × Within (2 ^ 32) s ⌝ }
+    ensures { λ t. ⌜ (t ≡ walked width start second (now (file .entry)) r 128 s) × ((m : ℕ) → Within m s → Within (m + 128) t) ⌝ }
+{
+    let z = zeros(file, second, width, r);
+    if z == 0 {
+        return Reached {
+            position: s.position + sum(file, second, width, r) as usize,
+            taken: s.taken,
+        };
+    }
+    let taken = s.taken + z;
+    let jump = load_u32(file, start as usize + 4 * (taken - 1)) as usize;
+    Reached {
+        position: jump + sum_behind(file, second, width, r) as usize,
+        taken,
+    }
+}
+
+// From rank r to the n-th rank after it.
 fn walk_group(
     file: &[u8],
     start: u32,
@@ -65,12 +93,7 @@ fn walk_group(
     ensures { λ t. ⌜ (t ≡ walked width start second (now (file .entry)) r n s) × Within (r + n + 1) t ⌝ }
 {
     if n == 128 {
-        if no_jump(file, second, width, r) {
-            return Reached {
-                position: s.position + sum(file, second, width, r) as usize,
-                taken: s.taken,
-            };
-        }
+        return take_group(file, start, second, width, r, s);
     }
     let mut t = s;
     let mut k: usize = 0;

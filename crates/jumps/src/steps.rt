@@ -1,7 +1,7 @@
 // A walk along the stored positions.
 use super::differences::difference;
-use super::differences::no_jump;
 use super::differences::sum;
+use super::differences::zeros;
 use super::differences::zeros_u8;
 use format::Position;
 use format::View;
@@ -193,7 +193,7 @@ fn leap(file: &[u8], v: View, mut c: Cursor, p: u32) -> Cursor
         return c;
     }
     let second = v.second as usize;
-    if !no_jump(file, second, v.width, rank) {
+    if zeros(file, second, v.width, rank) != 0 {
         return c;
     }
     let at = c.at as usize + sum(file, second, v.width, rank) as usize;

@@ -2,8 +2,9 @@
 use Prim.Native.Nat.{_+_, _-_}
 use mathlib.Core.Path.{sym, _∙_}
 use native.Mathlib.Omega.{arith}
+use borrow.Author.Tests.{eq-eqb}
 use Rattle.jumps.specs.Walk.{Room}
-use Rattle.jumps.proofs.Groups.{group-room, group-goes}
+use Rattle.jumps.proofs.Groups.{none-counted, group-room, group-goes}
 use borrow.Author.Needs.{needs}
 use Rattle.jumps.proofs.check.pass_group.Statement.{statement}
 use Rattle.jumps.proofs.check.pass_group.Tie as tie
@@ -12,8 +13,8 @@ use Rattle.jumps.proofs.check.pass_group.Tie as tie
 room : (c : tie.Then2) → let a = c .before .before .before .args in Room (a .width) (a .second) (a .file .now) (a .i - 1 + 128)
 room c = group-room _ _ _ _ _ _ (c .before .before .before .pre .0) (c .before .if1 .taken) (c .if2 .taken)
 
-no-jump-requires : tie.Need-no-jump-requires
-no-jump-requires c κs = room c
+zeros-requires : tie.Need-zeros-requires
+zeros-requires c κs = room c
 
 sum-requires : tie.Need-sum-requires
 sum-requires c κs = room (c .before .before)
@@ -32,7 +33,7 @@ returns c =
     let t = c .before .before .before .before in
     let x = c .before .sum .ensures in
     group-goes _ _ _ _ _ _ (t .before .before .before .pre .0) (t .before .if1 .taken) (t .if2 .taken)
-    (sym (c .before .before .before .no-jump .ensures) ∙ c .before .before .if3 .taken) (x .0) (x .1)
+    (sym (none-counted _ _ _ _ 128 (c .before .before .before .zeros .ensures .0)) ∙ eq-eqb _ 0 (c .before .before .if3 .taken)) (x .0) (x .1)
 
 pub pass-group-spec : {M : Type 1} → statement M
 pass-group-spec =
@@ -40,7 +41,7 @@ pass-group-spec =
     (tie.spec
     (λ c. c .before .before .pre .0 .onward)
     (λ c. search needs)
-    no-jump-requires
+    zeros-requires
     (λ c. search needs)
     sum-requires
     (λ c. search needs)

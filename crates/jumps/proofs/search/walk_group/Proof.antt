@@ -1,9 +1,9 @@
--- A walk of n ranks, by the sum of a group or rank by rank. Assumes nothing.
+-- A walk of n ranks, a group at once or rank by rank. Assumes nothing.
 use Prim.Native.Nat.{_+_, _-_, _≤_}
-use mathlib.Core.Path.{_≡_, sym, _∙_}
+use mathlib.Core.Path.{_≡_}
 use native.Mathlib.Omega.{arith}
 use Rattle.jumps.specs.Walk.{walked, Room, Within}
-use Rattle.jumps.proofs.Walked.{walked-start, walked-next, group-sum}
+use Rattle.jumps.proofs.Walked.{walked-start, walked-next}
 use Rattle.jumps.proofs.Groups.{earlier}
 use borrow.Author.Needs.{needs}
 use Rattle.jumps.proofs.search.walk_group.Statement.{statement}
@@ -21,34 +21,23 @@ room : (c : tie.In-loop Inv-loop μ-loop)
     → let a = c .before .before .before .before .args in Room (a .width) (a .second) (a .file .now) (a .r + (c .before .loop .k + 1))
 room c = earlier _ _ _ (c .before .before .before .before .pre .0) (omega arith)
 
-no-jump-requires : tie.Need-no-jump-requires Inv-loop μ-loop
-no-jump-requires c κs = rw (c .if1 .taken) at (c .before .before .pre .0)
-
-sum-requires : tie.Need-sum-requires Inv-loop μ-loop
-sum-requires c κs = rw (c .before .before .if1 .taken) at (c .before .before .before .before .pre .0)
-
-add-t14 : tie.Need-add-t14 Inv-loop μ-loop
-add-t14 c =
-    let w = c .before .before .before .before .before .before .pre in
-    let z = w .0 .rank in
-    let p = w .1 .position in
-    let g = c .before .sum .ensures .1 in
-    omega arith
+take-group-requires : tie.Need-take-group-requires Inv-loop μ-loop
+take-group-requires c κs =
+    let z = c .before .before .pre in
+    let n = z .0 .rank in
+    let p = z .1 .position in
+    let q = z .1 .taken in
+    (rw (c .if1 .taken) at (z .0), record { position = omega arith; taken = omega arith })
 
 returns : tie.Need-returns Inv-loop μ-loop
 returns c =
-    let b = c .before .before .before .before .before .before in
-    let a = b .args in
-    let w = b .pre .1 in
+    let a = c .before .before .before in
+    let e = c .before .if1 .taken in
+    let t = c .take-group .ensures in
+    let w = t .1 (a .args .r + 1) (a .pre .1) in
     let p = w .position in
     let q = w .taken in
-    let e = c .before .before .before .before .if1 .taken in
-    let x = c .before .sum .ensures in
-    let x1 = x .1 in
-    let g = sym (c .before .before .before .no-jump .ensures) ∙ c .before .before .if2 .taken in (
-      rw e (group-sum (a .width) (a .start) (a .second) (a .file .now) (a .r) 128 (a .s) g (x .0)),
-      record { position = omega arith; taken = omega arith },
-    )
+    (rw e (t .0), record { position = omega arith; taken = omega arith })
 
 loop-holds : tie.Need-loop-holds Inv-loop μ-loop
 loop-holds c =
@@ -92,10 +81,7 @@ walk-group-spec =
     (tie.spec
     Inv-loop
     μ-loop
-    no-jump-requires
-    sum-requires
-    (λ c. search needs)
-    add-t14
+    take-group-requires
     returns
     loop-holds
     (λ c. search needs)

@@ -2,8 +2,9 @@
 use Prim.Native.Nat.{_+_}
 use mathlib.Core.Path.{sym, _∙_}
 use native.Mathlib.Omega.{arith}
-use borrow.Author.Tests.{not-false}
+use borrow.Author.Tests.{not-false, eq-eqb}
 use Rattle.jumps.specs.Walk.{Room}
+use Rattle.jumps.proofs.Groups.{none-counted}
 use Rattle.jumps.proofs.Way.{stay, leap-over}
 use borrow.Author.Needs.{needs}
 use Rattle.jumps.proofs.steps.leap.Statement.{statement}
@@ -20,7 +21,7 @@ returns-5 c =
     let h = g .before .before .if1 .left in
     let l = c .before .if4 .left in
     leap-over (a .file .now) (a .v) (a .c) (a .p) 128 (room g)
-    (sym (c .before .before .before .before .before .no-jump .ensures) ∙ not-false _ (c .before .before .before .before .if3 .left)) (omega arith) (c .before .before .sum .ensures .0) l (omega arith)
+    (sym (none-counted _ _ _ _ 128 (c .before .before .before .before .before .zeros .ensures .0)) ∙ eq-eqb _ 0 (c .before .before .before .before .if3 .left)) (omega arith) (c .before .before .sum .ensures .0) l (omega arith)
 
 pub leap-spec : {M : Type 1} → statement M
 leap-spec =
