@@ -1,5 +1,5 @@
 -- The cursor's step. Assumes nothing.
-use Prim.Native.Nat.{ℕ, _+_, _-_, _*_, _≤_}
+use Prim.Native.Nat.{ℕ, _+_, _-_, _*_, _≤_, _<_}
 use mathlib.Core.Path.{_≡_}
 use mathlib.Core.List.{List}
 use lib.Dec.{eqb}
@@ -40,7 +40,12 @@ pub record Filled (f : Cursor → Cursor) (c : Cursor) (from m : ℕ) (before : 
   pub cursor : r ≡ steppedAs f c m
   pub positions : after ≡ put before from (walkedAs f c m)
 
+-- up to rank n the positions along the steps f from c never fall
+pub record Climbs (f : Cursor → Cursor) (n : ℕ) (c : Cursor) : Type 0 where
+  pub rise : (k m : ℕ) → c .rank + (k + m) < n → steppedAs f c k .at ≤ steppedAs f c (k + m) .at
+
 -- on the way from c to the first position from p on, or to rank n, by the step f: what is left from r on leads to the same
 pub record OnWay (f : Cursor → Cursor) (n p : ℕ) (c r : Cursor) : Type 0 where
   pub rank : c .rank ≤ r .rank
   pub same : sought f n p (n - r .rank) r ≡ sought f n p (n - c .rank) c
+  pub climbs : Climbs f n c → Climbs f n r

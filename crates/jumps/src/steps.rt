@@ -1,8 +1,8 @@
 // A walk along the stored positions.
 use super::differences::difference;
-use super::differences::sum;
-use super::differences::zeros;
 use super::differences::zeros_u8;
+use super::search::Reached;
+use super::search::take_group;
 use format::Position;
 use format::View;
 use parts::Cursor;
@@ -16,7 +16,7 @@ ghost use lib.ListN.{length};
 ghost use Rattle.parts.specs.Cursor.{Batch};
 ghost use Rattle.parts.specs.Walks.{sought};
 ghost use Rattle.jumps.specs.Walk.{Room};
-ghost use Rattle.jumps.specs.Steps.{jumpBy, next, nextAt, Filled, OnWay};
+ghost use Rattle.jumps.specs.Steps.{jumpBy, next, nextAt, Filled, Climbs, OnWay};
 
 // By a difference: 0 is the next jump; the jumps begin at `start`.
 fn jump_by(file: &[u8], start: u32, difference: u32, mut c: Cursor) -> Cursor
@@ -181,8 +181,9 @@ pub fn positions(file: &[u8], v: View, mut c: Cursor, out: &mut [u32]) -> Cursor
     along_u16(file, v.start, v.second as usize, c, out)
 }
 
-// Over the 128 ranks after the cursor's where no jump is among them and all stay below p; else over none.
+// Over the 128 ranks after the cursor's at once where all are below p, as the last of them tells; else over none.
 fn leap(file: &[u8], v: View, mut c: Cursor, p: u32) -> Cursor
+    requires { ⌜ Climbs (next (now file) v) (v .words) c ⌝ }
     ensures { λ r. ⌜ OnWay (next (now (file .entry)) v) (v .words) p c r ⌝ }
 {
     let rank = c.rank as usize;
@@ -192,16 +193,22 @@ fn leap(file: &[u8], v: View, mut c: Cursor, p: u32) -> Cursor
     if !all_there(file, v.second, v.width, c.rank, 128) {
         return c;
     }
-    let second = v.second as usize;
-    if zeros(file, second, v.width, rank) != 0 {
+    let s = Reached {
+        position: c.at as usize,
+        taken: c.next as usize,
+    };
+    let t = take_group(file, v.start, v.second as usize, v.width, rank, s);
+    let at = t.position;
+    let taken = t.taken;
+    if p as usize <= at {
         return c;
     }
-    let at = c.at as usize + sum(file, second, v.width, rank) as usize;
-    if p as usize <= at {
+    if 4294967295 < taken {
         return c;
     }
     c.rank += 128;
     c.at = at as u32;
+    c.next = taken as u32;
     c
 }
 
@@ -227,7 +234,7 @@ fn step_on(file: &[u8], v: View, c: Cursor, p: u32) -> Cursor
 
 // Over a group of ranks, at once or one by one.
 fn pass_over(file: &[u8], v: View, c: Cursor, p: u32) -> Cursor
-    requires { ⌜ (c .rank < v .words) × (c .at < p) ⌝ }
+    requires { ⌜ (c .rank < v .words) × (c .at < p) × Climbs (next (now file) v) (v .words) c ⌝ }
     ensures { λ r. ⌜ OnWay (next (now (file .entry)) v) (v .words) p c r × (c .rank < r .rank) ⌝ }
 {
     let t = leap(file, v, c, p);
@@ -239,6 +246,7 @@ fn pass_over(file: &[u8], v: View, c: Cursor, p: u32) -> Cursor
 
 // On to the first position from p on, or past the last rank.
 pub fn seek(file: &[u8], v: View, mut c: Cursor, p: Position) -> Cursor
+    requires { ⌜ Climbs (next (now file) v) (v .words) c ⌝ }
     ensures { λ r. ⌜ r ≡ sought (next (now (file .entry)) v) (v .words) (p .0) (v .words - c .rank) c ⌝ }
 {
     let wanted = p.0;

@@ -22,6 +22,7 @@ use Rattle.parts.specs.Encoder.{Coder, endedBy, takenAllBy}
 use Rattle.parts.specs.Batch.{RoomAll, putAllBy}
 use Rattle.parts.specs.Codes.{Standing}
 use Rattle.parts.specs.Carried.{PutAs}
+use Rattle.jumps.specs.Steps.{Climbs}
 use Rattle.kinds.specs.Steps.{nextBy, nextOf, walked, steppedBy, soughtBy}
 use Rattle.kinds.specs.Coding.{coderOf, coder, takenAll, derived}
 
@@ -54,6 +55,10 @@ module _ (v : View) (k : ℕ) (e : v .kind ≡ k) where
     pub view-batch : (c : Cursor) (m : ℕ) (r : Cursor) (out : List ℕ) → Batch (nextBy k b v) c m r out → (r ≡ steppedBy b v c m) × (out ≡ walked b v c m)
     unfolding nextOf walked steppedBy
     view-batch c m r out h = let t = subst (λ (n : ℕ). Batch (nextBy n b v) c m r out) (sym e) h in (t .cursor, t .positions)
+
+    pub view-climbs : (n : ℕ) (c : Cursor) → Climbs (nextOf b v) n c → Climbs (nextBy k b v) n c
+    unfolding nextOf
+    view-climbs n c h = subst (λ (j : ℕ). Climbs (nextBy j b v) n c) e h
 
     pub view-sought : (p m : ℕ) (c r : Cursor) → r ≡ sought (nextBy k b v) (v .words) p m c → r ≡ soughtBy b v p m c
     unfolding soughtBy nextOf

@@ -1,4 +1,4 @@
--- A walk along an accepted file: rank by rank, and batch by batch. Assumes nothing.
+-- A walk along an accepted file: rank by rank, and batch by batch; its positions never fall. Assumes nothing.
 use Prim.Native.Nat.{ℕ, suc, _+_, _-_, _≤_, _<_}
 use mathlib.Core.Path.{_≡_, sym, ap, _∙_}
 use mathlib.Core.List.{List, _∷_, _++_}
@@ -9,12 +9,14 @@ use lib.ListN.{length, take, drop, getD}
 use lib.Seq.{length-take-le, length-front, take-append-seam, drop-append-seam, drop-drop, drop-cons}
 use Rattle.format.specs.declared.View.{View}
 use Rattle.format.specs.Accepted.{positionsOf}
+use Rattle.laws.proofs.Positions.{rising-le}
 use Rattle.parts.specs.declared.Cursor.{Cursor}
 use Rattle.parts.specs.Holds.{ViewOf}
-use Rattle.parts.specs.Cursor.{walkedAs}
+use Rattle.parts.specs.Cursor.{walkedAs, steppedAs}
 use Rattle.parts.proofs.Batches.{walked-as-add, length-walked-as}
 use Rattle.parts.proofs.Places.{rising-below}
 use Rattle.parts.proofs.Seen.{seen}
+use Rattle.jumps.specs.Steps.{Climbs}
 use Rattle.kinds.specs.Steps.{nextOf, startOf, walked, steppedBy}
 use Rattle.kinds.proofs.Laws.{walks}
 
@@ -95,4 +97,23 @@ taken b v c d r n buffer out small fits e s w =
       size = length-front buffer out n (l ∙ sym k);
       count = ap length q ∙ l;
       rest = rw (rw k at s) (t .rest);
+    }
+
+-- ---- positions that never fall
+
+stepped-at : (b : List ℕ) (v : View) → ViewOf b v → (c : Cursor) → Ahead b v c (c .rank) → (k : ℕ) → c .rank + k < v .words
+    → steppedAs (nextOf b v) c k .at ≡ getD (positionsOf b) (c .rank + k) 0
+unfolding steppedBy
+stepped-at b v o c a k h = walk-next b v o (steppedBy b v c k) (c .rank + k) h (batched b v c (c .rank) k (omega arith) a .rest) .position
+
+pub climbs : (b : List ℕ) (v : View) → ViewOf b v → (c : Cursor) → Ahead b v c (c .rank) → Climbs (nextOf b v) (v .words) c
+climbs b v o c a =
+    let s = seen b v o .holds in
+    let z = s .size in
+    record {
+      rise = λ k m h.
+          let f = stepped-at b v o c a k (omega arith) in
+          let g = stepped-at b v o c a (k + m) h in
+          let l = rising-le 0 (v .cells) (positionsOf b) (c .rank + k) (c .rank + (k + m)) (s .rising) (omega arith) (omega arith) in
+          omega arith;
     }

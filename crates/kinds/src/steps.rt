@@ -8,6 +8,7 @@ ghost use mathlib.Core.Bool.{true};
 ghost use Prim.Native.Nat.{_+_, _-_, _≤_};
 ghost use lib.ListN.{length};
 ghost use Rattle.parts.specs.Holds.{kindOf};
+ghost use Rattle.jumps.specs.Steps.{Climbs};
 ghost use Rattle.kinds.specs.Steps.{nextOf, startOf, walked, steppedBy, byWalk, soughtBy, storesRuns, runsOf};
 
 // The cursor at the next rank.
@@ -57,9 +58,9 @@ pub fn by_walk(kind: u32) -> bool
     kind == 4
 }
 
-// In such a kind: on to the first position from p on, or past the last rank.
+// In such a kind, where the positions ahead never fall: on to the first position from p on, or past the last rank.
 pub fn seek(file: &[u8], v: View, c: Cursor, p: Position) -> Cursor
-    requires { ⌜ byWalk (v .kind) ≡ true ⌝ }
+    requires { ⌜ (byWalk (v .kind) ≡ true) × Climbs (nextOf (now file) v) (v .words) c ⌝ }
     ensures { λ r. ⌜ r ≡ soughtBy (now (file .entry)) v (p .0) (v .words - c .rank) c ⌝ }
 {
     jumps::steps::seek(file, v, c, p)

@@ -7,6 +7,15 @@ use borrow.Author.Needs.{needs}
 use Rattle.box_rows.proofs.seek.seek.Statement.{statement}
 use Rattle.box_rows.proofs.seek.seek.Tie as tie
 
+-- the kind is sought by a walk
+by-walk : (c : tie.Then3) → byWalk (c .before .before .before .before .before .before .before .before .args .v .kind) ≡ true
+by-walk c = sym (c .before .by-walk .ensures) ∙ c .if3 .taken
+
+seek-requires : tie.Need-seek-requires
+seek-requires c κs =
+    let s = c .before .before .before .before .before .before .before .before in
+    (by-walk c, climbs (s .args .file .now) (s .args .v) (s .pre .0) (s .args .c) (s .pre .1 .ahead (by-walk c)))
+
 returns-3 : tie.Need-returns-3
 returns-3 c =
     let s = c .before .before .before .before .before .before .before .before .before .before in
@@ -34,7 +43,7 @@ seek-spec =
     (λ c. search needs)
     (λ c. search needs)
     (λ c κs. search needs)
-    (λ c κs. sym (c .before .by-walk .ensures) ∙ c .if3 .taken)
+    seek-requires
     returns-3
     gallop-requires
     (λ c κs. search needs)
