@@ -1,19 +1,22 @@
 -- Where the cursor stands below p, the ranks after it are sought. Assumes nothing.
 use Prim.Native.Nat.{_-_}
-use mathlib.Core.Path.{refl, sym, _∙_}
+use mathlib.Core.Path.{_≡_, refl, sym, _∙_}
+use mathlib.Core.Bool.{true}
 use native.Mathlib.Omega.{arith}
+use Rattle.kinds.specs.Steps.{byWalk}
+use Rattle.kinds.proofs.Walks.{climbs}
 use Rattle.box_rows.proofs.Seeking.{reached-between, reached-walk}
 use borrow.Author.Needs.{needs}
 use Rattle.box_rows.proofs.seek.seek.Statement.{statement}
 use Rattle.box_rows.proofs.seek.seek.Tie as tie
 
 -- the kind is sought by a walk
-by-walk : (c : tie.Then3) → byWalk (c .before .before .before .before .before .before .before .before .args .v .kind) ≡ true
+by-walk : (c : tie.Then3) → byWalk (c .before .before .before .before .before .before .before .before .before .args .v .kind) ≡ true
 by-walk c = sym (c .before .by-walk .ensures) ∙ c .if3 .taken
 
 seek-requires : tie.Need-seek-requires
 seek-requires c κs =
-    let s = c .before .before .before .before .before .before .before .before in
+    let s = c .before .before .before .before .before .before .before .before .before in
     (by-walk c, climbs (s .args .file .now) (s .args .v) (s .pre .0) (s .args .c) (s .pre .1 .ahead (by-walk c)))
 
 returns-3 : tie.Need-returns-3
@@ -21,7 +24,7 @@ returns-3 c =
     let s = c .before .before .before .before .before .before .before .before .before .before in
     let a = s .args in
     rw (c .seek .ensures)
-    (reached-walk (a .file .now) (a .v) (s .pre .0) (sym (c .before .before .by-walk .ensures) ∙ c .before .if3 .taken) (a .v .words - a .c .rank) (a .c) (a .p .0) (s .pre .1)
+    (reached-walk (a .file .now) (a .v) (s .pre .0) (by-walk (c .before)) (a .v .words - a .c .rank) (a .c) (a .p .0) (s .pre .1)
     (omega arith))
 
 gallop-requires : tie.Need-gallop-requires
