@@ -33,22 +33,24 @@ fn all_there(file: &[u8], v: View, c: Cursor, n: usize) -> bool
     v.start as usize + 4 * end + 4 <= file.len()
 }
 
-// The positions of the ranks from the cursor on where the next entries are all there.
+// The positions of the ranks from the cursor on where the next entries are all there: its own, and the entries as they stand.
 fn along(file: &[u8], v: View, mut c: Cursor, out: &mut [u32]) -> Cursor
     requires { ⌜ There (now file) v c (length (now out)) ⌝ }
     ensures { λ r. ⌜ Batch (next (now (file .entry)) v) c (length (now (out .entry))) r (now (out .exit)) ⌝ }
 {
-    let mut at = c.at;
-    let mut place = v.start as usize + 4 * c.rank as usize + 4;
-    let mut i: usize = 0;
-    while i < out.len() {
-        out[i] = at;
-        at = get_u32(file, place);
-        place += 4;
+    let n = out.len();
+    if n == 0 {
+        return c;
+    }
+    let place = v.start as usize + 4 * c.rank as usize;
+    out[0] = c.at;
+    let mut i: usize = 1;
+    while i < n {
+        out[i] = get_u32(file, place + 4 * i);
         i += 1;
     }
-    c.rank += i as u32;
-    c.at = at;
+    c.rank += n as u32;
+    c.at = get_u32(file, place + 4 * n);
     c
 }
 
