@@ -1,16 +1,20 @@
-// The first stored cell at or after a position, from where a cursor stands: by a walk, or by a search over the ranks.
+// The first stored cell at or after a position, from where a cursor stands: by a walk, by a search for the position, or by one over the ranks.
 use format::Position;
 use format::Rank;
 use format::View;
+use kinds::search::find;
 use kinds::steps;
 use kinds::steps::by_walk;
+use kinds::steps::stores_runs;
 use parts::Cursor;
 use search::stored_position;
 ghost use mathlib.Core.Path.{_≡_};
+ghost use mathlib.Core.Bool.{false};
 ghost use Prim.Native.Nat.{_+_, _<_};
 ghost use lib.ListN.{getD};
 ghost use Rattle.format.specs.Accepted.{positionsOf};
 ghost use Rattle.parts.specs.Holds.{ViewOf};
+ghost use Rattle.kinds.specs.Steps.{byWalk};
 ghost use Rattle.box_rows.specs.Ready.{Ready, Reached, Around};
 
 // A rank that stands below a position, and a later one, or N, that does not; `at` is where the later one stands.
@@ -65,9 +69,26 @@ fn narrowed(file: &[u8], v: View, mut g: Gap, p: Position) -> Gap
     g
 }
 
-// The first rank at or after p; N where there is none.
+// By the kind's search for a position: the rank after those below p.
+fn searched(file: &[u8], v: View, mut c: Cursor, p: Position) -> Cursor
+    requires { ⌜ ViewOf (now file) v × (byWalk (v .kind) ≡ false) × (p .0 < v .cells) ⌝ }
+    ensures { λ r. ⌜ Reached (now (file .entry)) v r (p .0) ⌝ }
+{
+    let found = find(file, v, p);
+    c.rank = found.below;
+    c.at = p.0;
+    if found.here {
+        return c;
+    }
+    if found.below < v.words {
+        c.at = stored_position(file, v, Rank(found.below)).0;
+    }
+    c
+}
+
+// The first rank at or after p; N where there is none. Where runs are stored, each position of a rank is a search, and one search for p does for many.
 pub fn seek(file: &[u8], v: View, mut c: Cursor, p: Position) -> Cursor
-    requires { ⌜ ViewOf (now file) v × Ready (now file) v c (p .0) ⌝ }
+    requires { ⌜ ViewOf (now file) v × (p .0 < v .cells) × Ready (now file) v c (p .0) ⌝ }
     ensures { λ r. ⌜ Reached (now (file .entry)) v r (p .0) ⌝ }
 {
     if v.words <= c.rank {
@@ -78,6 +99,9 @@ pub fn seek(file: &[u8], v: View, mut c: Cursor, p: Position) -> Cursor
     }
     if by_walk(v.kind) {
         return steps::seek(file, v, c, p);
+    }
+    if stores_runs(v.kind) {
+        return searched(file, v, c, p);
     }
     let g = narrowed(file, v, gallop(file, v, c.rank, p), p);
     c.rank = g.high;

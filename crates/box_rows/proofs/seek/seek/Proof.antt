@@ -1,7 +1,7 @@
 -- Where the cursor stands below p, the ranks after it are sought. Assumes nothing.
 use Prim.Native.Nat.{_-_}
 use mathlib.Core.Path.{_≡_, refl, sym, _∙_}
-use mathlib.Core.Bool.{true}
+use mathlib.Core.Bool.{true, false}
 use native.Mathlib.Omega.{arith}
 use Rattle.kinds.specs.Steps.{byWalk}
 use Rattle.kinds.proofs.Walks.{climbs}
@@ -17,27 +17,38 @@ by-walk c = sym (c .before .by-walk .ensures) ∙ c .if3 .taken
 seek-requires : tie.Need-seek-requires
 seek-requires c κs =
     let s = c .before .before .before .before .before .before .before .before .before in
-    (by-walk c, climbs (s .args .file .now) (s .args .v) (s .pre .0) (s .args .c) (s .pre .1 .ahead (by-walk c)))
+    (by-walk c, climbs (s .args .file .now) (s .args .v) (s .pre .0) (s .args .c) (s .pre .2 .ahead (by-walk c)))
 
 returns-3 : tie.Need-returns-3
 returns-3 c =
     let s = c .before .before .before .before .before .before .before .before .before .before in
     let a = s .args in
     rw (c .seek .ensures)
-    (reached-walk (a .file .now) (a .v) (s .pre .0) (by-walk (c .before)) (a .v .words - a .c .rank) (a .c) (a .p .0) (s .pre .1)
+    (reached-walk (a .file .now) (a .v) (s .pre .0) (by-walk (c .before)) (a .v .words - a .c .rank) (a .c) (a .p .0) (s .pre .2)
     (omega arith))
+
+-- it is not
+not-by-walk : (c : tie.Else3) → byWalk (c .before .before .before .before .before .before .before .before .before .args .v .kind) ≡ false
+not-by-walk c = sym (c .before .by-walk .ensures) ∙ c .if3 .left
+
+searched-requires : tie.Need-searched-requires
+searched-requires c κs =
+    let s = c .before .before .before .before .before .before .before .before .before .before .before in
+    (s .pre .0, not-by-walk (c .before .before), s .pre .1)
 
 gallop-requires : tie.Need-gallop-requires
 gallop-requires c κs =
-    let s = c .before .before .before .before .before .before .before .before .before in
-    let more = c .before .before .before .before .before .if1 .left in
-    (s .pre .0, more, rw (← s .pre .1 .at more) (c .before .before .if2 .left))
+    let e = c .before .before in
+    let s = e .before .before .before .before .before .before .before .before .before in
+    let more = e .before .before .before .before .before .if1 .left in
+    (s .pre .0, more, rw (← s .pre .2 .at more) (e .before .before .if2 .left))
 
-returns-4 : tie.Need-returns-4
-returns-4 c =
-    let s = c .before .before .before .before .before .before .before .before .before .before .before in
+returns-5 : tie.Need-returns-5
+returns-5 c =
+    let e = c .before .before .before .before in
+    let s = e .before .before .before .before .before .before .before .before .before in
     let r = c .narrowed in
-    reached-between (s .args .file .now) (s .args .v) (s .pre .0) _ (r .result) _ (sym (c .before .before .before .by-walk .ensures) ∙ c .before .before .if3 .left) (r .ensures .0) (r .ensures .1) refl refl
+    reached-between (s .args .file .now) (s .args .v) (s .pre .0) _ (r .result) _ (not-by-walk e) (r .ensures .0) (r .ensures .1) refl refl
 
 pub seek-spec : {M : Type 1} → statement M
 seek-spec =
@@ -48,6 +59,9 @@ seek-spec =
     (λ c κs. search needs)
     seek-requires
     returns-3
+    (λ c κs. search needs)
+    searched-requires
+    (λ c. c .searched .ensures)
     gallop-requires
     (λ c κs. search needs)
-    returns-4)
+    returns-5)
