@@ -20,7 +20,8 @@ use Rattle.parts.specs.Encoder.{ifZero, leftAfter, takenBy, takenAllBy, firstsB
 use Rattle.parts.specs.Batch.{addedFirstBy, addedSecondBy}
 use Rattle.parts.proofs.Taking.{if-more}
 use Rattle.parts.proofs.Added.{firsts-by, seconds-by}
-use Rattle.base_offset.specs.Coding.{offsetAt, based, coder, due, opened, offsetsOver}
+use Rattle.offsets.specs.Over.{offsetsOver}
+use Rattle.base_offset.specs.Coding.{offsetAt, based, coder, due, opened}
 use Rattle.base_offset.proofs.Encoded.{firsts-from, seconds-from}
 
 -- ---- the encoder

@@ -1,9 +1,7 @@
 -- What an allowed setting says of width and step. Assumes nothing.
-use Prim.Native.Nat.{ℕ, _-_, _*_, _^_, _≤_, _<_}
+use Prim.Native.Nat.{ℕ, _≤_}
 use mathlib.Core.Path.{_≡_, sym}
 use mathlib.Core.Bool.{true, false}
-use native.Mathlib.Nat.{mul-le-mul}
-use native.Mathlib.Omega.{arith}
 use borrow.Author.Tests.{le-leb}
 use Rattle.format.specs.Tools.{within}
 use Rattle.format.specs.BaseOffset.{basedKind}
@@ -31,7 +29,3 @@ module _ (w l : ℕ) where
 
   pub not-allowed : (Allowed w l → ⊥) → false ≡ basedKind w l .allowed
   not-allowed n = cases (basedKind w l .allowed) (λ t. absurd (n (allows t))) (λ t. sym t)
-
--- entries of at most 2 bytes, as many as a 32-bit count says
-pub entries-fit : (w n : ℕ) → w ≤ 2 → n < 2 ^ 32 → w * n ≤ 2 * (2 ^ 32 - 1)
-entries-fit w n h k = let m : n ≤ 2 ^ 32 - 1 = omega arith in mul-le-mul h m

@@ -1,6 +1,6 @@
 -- The encoder: a base where none is left to serve p, and p less the base. Assumes nothing.
 use Prim.Native.Nat.{ℕ, _+_, _-_, _/_, _^_, _≤_}
-use mathlib.Core.List.{List, [], _∷_}
+use mathlib.Core.List.{List, []}
 use lib.ListN.{length}
 use lib.Dec.{leb}
 use Rattle.format.specs.Tools.{both}
@@ -60,8 +60,3 @@ pub record OneBase (l : ℕ) (e : Encoder) (ls : List ℕ) : Type 0 where
   pub along : Along e ls
   pub some : 1 ≤ length ls
   pub served : length ls ≤ due l (e .left)
-
--- the offsets of positions from one base
-unfoldable pub offsetsOver : ℕ → List ℕ → List ℕ
-offsetsOver base [] = []
-offsetsOver base (p ∷ ls) = (p - base) ∷ offsetsOver base ls

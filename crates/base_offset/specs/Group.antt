@@ -8,20 +8,11 @@ use Rattle.format.specs.declared.View.{View}
 use Rattle.format.specs.Tools.{both, first, others}
 use Rattle.format.specs.Bytes.{field, numbersOf}
 use Rattle.wire.specs.Wire.{entrySize}
-use Rattle.parts.specs.Falls.{fallen}
-
--- how many numbers are not above the one before them, which is p for the first
-unfoldable pub fallsAfter : ℕ → List ℕ → ℕ
-fallsAfter p [] = 0
-fallsAfter p (x ∷ xs) = fallen (ltb p x) + fallsAfter x xs
 
 -- the last of the numbers; p where there is none
 unfoldable pub lastAfter : ℕ → List ℕ → ℕ
 lastAfter p [] = p
 lastAfter p (x ∷ xs) = lastAfter x xs
-
-unfoldable pub falls : List ℕ → ℕ
-falls os = fallsAfter (first os) (others os)
 
 -- a group by its first and its last offset alone: they are 0 and below the next base
 unfoldable pub groupEnds : ℕ → ℕ → List ℕ → Bool

@@ -1,14 +1,14 @@
 -- The cursor's step, as the code takes it. Assumes nothing.
-use Prim.Native.Nat.{ℕ, _+_, _-_, _*_, _^_, _≤_, _<_}
+use Prim.Native.Nat.{ℕ, _+_, _-_, _*_, _≤_, _<_}
 use mathlib.Core.Bool.{Bool}
-use mathlib.Core.List.{List, [], _∷_}
-use lib.ListN.{length}
+use mathlib.Core.List.{List}
 use lib.Dec.{ltb}
 use Rattle.format.specs.declared.View.{View}
 use Rattle.format.specs.Tools.{pick}
-use Rattle.wire.specs.Wire.{whole, entrySize}
+use Rattle.wire.specs.Wire.{whole}
 use Rattle.parts.specs.declared.Cursor.{Cursor}
 use Rattle.parts.specs.Cursor.{add32, movedTo, entryOf}
+use Rattle.offsets.specs.Sums.{There}
 
 -- the base of the next rank: the same, or the next one
 unfoldable pub baseOf : List ℕ → View → Cursor → Cursor
@@ -34,12 +34,6 @@ next b v c = offsetFrom b v (baseOf b v c)
 
 -- ---- many ranks at a time
 
--- the offsets of n ranks from a rank on, of 1 or 2 bytes, are all in the file
-pub record There (b : List ℕ) (width second rank n : ℕ) : Type 0 where
-  pub size : 1 ≤ entrySize width
-  pub ranks : rank + n < 2 ^ 32
-  pub long : second + entrySize width * (rank + n) ≤ length b
-
 -- how many ranks from the cursor's on have its base, with its own; where offsets are missing only its own counts
 unfoldable pub aheadOf : Bool → ℕ → ℕ → ℕ
 aheadOf there step used = pick there (1 + (step - used)) 1
@@ -49,8 +43,3 @@ pub record SameBase (b : List ℕ) (v : View) (c : Cursor) (n : ℕ) : Type 0 wh
   pub some : 1 ≤ n
   pub few : n ≤ 1 + (v .step - c .used)
   pub there : 1 < n → There b (v .width) (v .second) (c .rank) n
-
--- each of the numbers with the base added
-unfoldable pub sums : ℕ → List ℕ → List ℕ
-sums base [] = []
-sums base (x ∷ xs) = add32 base x ∷ sums base xs

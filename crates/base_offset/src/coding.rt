@@ -1,25 +1,22 @@
 // Stored positions into the two parts, group by group: to measure, and to write.
+use offsets::put::put_offsets;
 use parts::Encoder;
 use parts::Sizes;
 use parts::encode::limit;
-use stores::put_u8;
-use stores::put_u16;
 use stores::put_u32;
 use wire::numbers::lesser;
 ghost use mathlib.Core.Path.{_≡_};
 ghost use mathlib.Core.Bool.{true};
-ghost use Prim.Native.Nat.{_+_, _-_, _*_, _≤_, _^_, min};
+ghost use Prim.Native.Nat.{_+_, _-_, _≤_, _^_, min};
 ghost use lib.ListN.{length};
 ghost use lib.Dec.{leb};
 ghost use Rattle.format.specs.Tools.{both};
-ghost use Rattle.format.specs.Bytes.{bytesOf};
 ghost use Rattle.format.specs.BaseOffset.{basedKind};
-ghost use Rattle.laws.proofs.Stored.{Rising};
 ghost use Rattle.stores.specs.Put.{put};
 ghost use Rattle.parts.specs.Encoder.{takenAllBy, endedBy};
 ghost use Rattle.parts.specs.Ready.{Sound, Next};
 ghost use Rattle.parts.specs.Batch.{Along, RoomAll, putAllBy};
-ghost use Rattle.base_offset.specs.Coding.{coder, due, opened, OneBase, offsetsOver};
+ghost use Rattle.base_offset.specs.Coding.{coder, due, opened, OneBase};
 
 // How many of n positions go to one base: those that it still serves, or all of a new one's.
 fn served(step: u32, left: u32, n: usize) -> usize
@@ -71,42 +68,6 @@ fn take_group(width: u32, step: u32, mut e: Encoder, ps: &[u32]) -> Encoder
         first: e.first,
         second: e.second + width as usize * n,
         fits: still_fits(width, e.fits, last - e.base),
-    }
-}
-
-// The offsets of positions from a base, a byte each.
-fn put_offsets_u8(dst: &mut [u8], at: usize, base: u32, ps: &[u32])
-    requires { ⌜ Rising base 16777216 (now ps) × (at + 1 * length (now ps) ≤ length (now dst)) ⌝ }
-    ensures { λ _. ⌜ now (dst .exit) ≡ put (now (dst .entry)) at (bytesOf 1 (offsetsOver base (now (ps .entry)))) ⌝ }
-{
-    let mut i: usize = 0;
-    while i < ps.len() {
-        put_u8(dst, at + i, ps[i] - base);
-        i += 1;
-    }
-}
-
-// The same, two bytes each.
-fn put_offsets_u16(dst: &mut [u8], at: usize, base: u32, ps: &[u32])
-    requires { ⌜ Rising base 16777216 (now ps) × (at + 2 * length (now ps) ≤ length (now dst)) ⌝ }
-    ensures { λ _. ⌜ now (dst .exit) ≡ put (now (dst .entry)) at (bytesOf 2 (offsetsOver base (now (ps .entry)))) ⌝ }
-{
-    let mut i: usize = 0;
-    while i < ps.len() {
-        put_u16(dst, at + 2 * i, ps[i] - base);
-        i += 1;
-    }
-}
-
-// The same by the width.
-fn put_offsets(dst: &mut [u8], at: usize, width: u32, base: u32, ps: &[u32])
-    requires { ⌜ Rising base 16777216 (now ps) × (at + width * length (now ps) ≤ length (now dst)) × (1 ≤ width) × (width ≤ 2) ⌝ }
-    ensures { λ _. ⌜ now (dst .exit) ≡ put (now (dst .entry)) at (bytesOf width (offsetsOver base (now (ps .entry)))) ⌝ }
-{
-    if width == 1 {
-        put_offsets_u8(dst, at, base, ps);
-    } else {
-        put_offsets_u16(dst, at, base, ps);
     }
 }
 

@@ -2,58 +2,18 @@
 use format::Position;
 use format::Rank;
 use format::View;
+use offsets::last::last_u8;
+use offsets::last::last_u16;
 use parts::Found;
-use parts::search::counted;
 use parts::search::last_at_most;
 use parts::walk::entry_of;
-use wire::get_u8;
-use wire::get_u16;
 use wire::load_u32;
 use wire::numbers::lesser;
-ghost use Prim.Native.Nat.{_+_, _*_, _≤_, _<_};
+ghost use Prim.Native.Nat.{_+_, _<_};
 ghost use Rattle.format.specs.BaseOffset.{basedKind};
-ghost use Rattle.wire.specs.Wire.{whole};
 ghost use Rattle.parts.specs.Cursor.{entryOf};
 ghost use Rattle.parts.specs.Found.{FoundIn, PositionIn};
 ghost use Rattle.parts.specs.Last.{LastAtMost};
-
-// The index of the last of n >= 1 entries of one byte, from that of a rank on, that is at most x, where they rise; 0 where none is.
-fn last_u8(file: &[u8], second: u32, rank: u32, n: u32, x: u32) -> u32
-    requires { ⌜ 1 ≤ n ⌝ }
-    ensures { λ r. ⌜ LastAtMost (λ i. whole 1 (second + (rank + i)) (now (file .entry))) n x r ⌝ }
-{
-    let at = second as usize + rank as usize;
-    if file.len() < at + n as usize {
-        return 0;
-    }
-    let more = n as usize - 1;
-    let mut count: u32 = 0;
-    let mut i: usize = 0;
-    while i < more {
-        i += 1;
-        count += counted(get_u8(file, at + i), x) as u32;
-    }
-    count
-}
-
-// The index of the last of n >= 1 entries of two bytes, from that of a rank on, that is at most x, where they rise; 0 where none is.
-fn last_u16(file: &[u8], second: u32, rank: u32, n: u32, x: u32) -> u32
-    requires { ⌜ 1 ≤ n ⌝ }
-    ensures { λ r. ⌜ LastAtMost (λ i. whole 2 (second + 2 * (rank + i)) (now (file .entry))) n x r ⌝ }
-{
-    let at = second as usize + 2 * rank as usize;
-    if file.len() < at + 2 * n as usize {
-        return 0;
-    }
-    let more = n as usize - 1;
-    let mut count: u32 = 0;
-    let mut i: usize = 0;
-    while i < more {
-        i += 1;
-        count += counted(get_u16(file, at + 2 * i), x) as u32;
-    }
-    count
-}
 
 // The index of the last of the n offsets from a rank on that is at most x, where they rise; 0 where none is.
 fn last_offset(file: &[u8], v: View, rank: u32, n: u32, x: u32) -> u32

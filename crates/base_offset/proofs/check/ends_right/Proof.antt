@@ -3,7 +3,7 @@ use mathlib.Core.Path.{sym, _∙_}
 use native.Mathlib.Omega.{arith}
 use lib.ListN.{length}
 use Rattle.wire.specs.Wire.{entrySize}
-use Rattle.base_offset.proofs.Rule.{entries-fit}
+use Rattle.offsets.proofs.Widths.{entries-fit}
 use Rattle.base_offset.proofs.OneGroup.{room, ends-past, ends-first, ends-last}
 use borrow.Author.Needs.{needs}
 use Rattle.base_offset.proofs.check.ends_right.Statement.{statement}

@@ -1,7 +1,7 @@
 use mathlib.Core.Path.{sym, _∙_}
 use native.Mathlib.Omega.{arith}
 use borrow.Author.Tests.{not-true, not-false}
-use Rattle.base_offset.proofs.Rule.{entries-fit}
+use Rattle.offsets.proofs.Widths.{entries-fit}
 use Rattle.base_offset.proofs.Known.{Known, known}
 use Rattle.base_offset.proofs.Turn.{Turn, firsts-some, turn-start, some-left, turn-end, whole-group, group-there, turn-bad, turn-next}
 use borrow.Author.Needs.{needs}

@@ -10,7 +10,7 @@ use Rattle.stores.proofs.Laws.{put-nil, length-put}
 use Rattle.parts.specs.declared.Encoder.{Encoder}
 use Rattle.parts.specs.Encoder.{ifZero}
 use Rattle.parts.proofs.Taking.{if-zero, if-more}
-use Rattle.base_offset.specs.Coding.{offsetsOver}
+use Rattle.offsets.specs.Over.{offsetsOver}
 use Rattle.base_offset.proofs.Grouped.{rising-base, base-group, put-group, room-first, room-second, length-put-all}
 use borrow.Author.Needs.{needs}
 use Rattle.base_offset.proofs.coding.put_group.Statement.{statement}

@@ -1,6 +1,5 @@
 use Prim.Native.Nat.{_+_, _-_}
 use mathlib.Core.Path.{sym}
-use native.Mathlib.Omega.{arith}
 use Rattle.parts.proofs.Steps.{entry-1, entry-2, entry-other}
 use Rattle.parts.proofs.Last.{last-none, last-zero, last-as}
 use borrow.Author.Needs.{needs}

@@ -8,8 +8,9 @@ use borrow.Author.Tests.{ltb-true, ltb-false}
 use Rattle.format.specs.Bytes.{numbersOf}
 use Rattle.laws.proofs.Tools.{cases}
 use Rattle.wire.specs.Wire.{entrySize}
-use Rattle.base_offset.specs.Steps.{sums}
-use Rattle.base_offset.proofs.Batched.{length-sums, along-batch}
+use Rattle.offsets.specs.Sums.{sums}
+use Rattle.offsets.proofs.Summing.{length-sums}
+use Rattle.base_offset.proofs.Batched.{along-batch}
 use borrow.Author.Needs.{needs}
 use Rattle.base_offset.proofs.steps.along.Statement.{statement}
 use Rattle.base_offset.proofs.steps.along.Tie as tie
@@ -26,8 +27,8 @@ filled c =
     (λ w. let z = w .0 .left in (ap length (w .1), λ h. absurd (omega arith)))
     (c .if1 .came)
 
-offsets-requires : tie.Need-offsets-requires
-offsets-requires c κs = let h = c .before .if1 .taken in c .before .before .before .before .pre .there (omega arith)
+sums-requires : tie.Need-sums-requires
+sums-requires c κs = let h = c .before .if1 .taken in c .before .before .before .before .pre .there (omega arith)
 
 write-first : tie.Need-slice-write-out
 write-first c =
@@ -59,7 +60,7 @@ along-spec =
     tie.close
     (tie.spec
     (λ c. search needs)
-    offsets-requires
+    sums-requires
     write-first
     (λ c. search needs)
     add-rank

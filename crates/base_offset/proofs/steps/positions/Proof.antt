@@ -4,7 +4,8 @@ use mathlib.Core.Bool.{true}
 use native.Mathlib.Omega.{arith}
 use lib.ListN.{length}
 use Rattle.parts.proofs.Batches.{Partly, batch-start, batch-end, length-walked-as}
-use Rattle.base_offset.specs.Steps.{next, There, aheadOf}
+use Rattle.offsets.specs.Sums.{There}
+use Rattle.base_offset.specs.Steps.{next, aheadOf}
 use Rattle.base_offset.proofs.Cuts.{Cut, cut, part, length-part}
 use Rattle.base_offset.proofs.Batched.{ahead-some, same-base, there-rest, length-whole, part-turn}
 use borrow.Author.Needs.{needs}
