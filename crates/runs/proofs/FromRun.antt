@@ -24,12 +24,13 @@ use Rattle.parts.specs.Carried.{carried, PutAs, Reached}
 use Rattle.parts.proofs.Along.{walked-along}
 use Rattle.parts.specs.Batch.{Along, RoomAll, grown}
 use Rattle.parts.specs.Holds.{Holds}
+use Rattle.parts.specs.Copied.{copied}
 use Rattle.parts.proofs.Grown.{taken-range}
 use Rattle.parts.proofs.Carried.{Written}
 use Rattle.runs.specs.Before.{lastAt, emptyAt, ranksBefore}
 use Rattle.runs.specs.Steps.{next}
 use Rattle.runs.specs.Coding.{runsCoder}
-use Rattle.runs.specs.Copy.{copied, atRun, atEnd, ranOn, BetweenRuns}
+use Rattle.runs.specs.Copy.{atRun, atEnd, ranOn, BetweenRuns}
 use Rattle.runs.proofs.Body.{inside}
 use Rattle.runs.proofs.Walk.{next-along}
 use Rattle.runs.proofs.Adds.{lengthens}
@@ -91,7 +92,7 @@ module _ (b : List ℕ) (v : View) (ls : List ℕ) (h : Holds (runsKind (v .widt
         → Along e (walkedAs (next b v) c (ranksBefore b (v .start) j - c .rank))
         → RoomAll runsCoder e (walkedAs (next b v) c (ranksBefore b (v .start) j - c .rank)) (length d)
         → Written (next b v) runsCoder d c e (ranksBefore b (v .start) j - c .rank)
-        (copied b (v .start + 8 * (c .next - 2)) shift (e .first) (j - 1 - (c .next - 2)) d) (atRun b v c j)
+        (copied b (v .start + 8 * (c .next - 2)) 0 shift (e .first) (j - 1 - (c .next - 2)) d) (atRun b v c j)
         (ranOn e (lastAt b (v .start) (j - 1)) (ranksBefore b (v .start) j - c .rank) (j - 1 - (c .next - 2))) 0
     ran d shift by small a r =
         let o = c .next - 2 in
