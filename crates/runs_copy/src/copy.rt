@@ -1,13 +1,13 @@
 // Ranks of a file of kind 1 put out in kind 1. The pair of a whole run keeps L; V changes by one shift for all: the ranks that one file has before the run and the other has not.
-use super::coding::put_run;
-use super::search::run_with;
-use super::steps::next;
-use super::steps::past;
 use format::View;
 use parts::Cursor;
 use parts::Encoder;
 use parts::pairs::copy_pairs;
 use parts::walk::Walk;
+use runs::coding::put_run;
+use runs::search::run_with;
+use runs::steps::next;
+use runs::steps::past;
 use std::num::wrapping_sub_u32;
 use wire::Pair;
 use wire::get_pair;
@@ -20,10 +20,10 @@ ghost use Rattle.parts.specs.Cursor.{walkedAs};
 ghost use Rattle.parts.specs.Holds.{Holds, said};
 ghost use Rattle.parts.specs.Batch.{Along, RoomAll};
 ghost use Rattle.parts.specs.Carried.{PutAs, Reached};
 ghost use Rattle.runs.specs.Before.{ranksBefore};
 ghost use Rattle.runs.specs.Steps.{next};
 ghost use Rattle.runs.specs.Coding.{runsCoder};
-ghost use Rattle.runs.specs.Copy.{atRun, atEnd, ranOn, BetweenRuns};
+ghost use Rattle.runs_copy.specs.Copy.{atRun, atEnd, ranOn, BetweenRuns};
 
 // The next n ranks, all in the cursor's run.
 fn put_part(

@@ -1,7 +1,6 @@
 -- Whole runs copied as pairs: from where a cursor and an encoder stand. Assumes nothing.
 use Prim.Native.Nat.{ℕ, suc, _+_, _-_, _*_, _%_, _^_, _≤_, _<_}
 use mathlib.Core.Path.{_≡_, refl, sym, ap, subst, _∙_}
-use mathlib.Core.Bool.{not}
 use mathlib.Core.List.{List}
 use native.Mathlib.Nat.{le-refl}
 use native.Mathlib.Omega.{arith}
@@ -27,16 +26,16 @@ use Rattle.parts.specs.Holds.{Holds}
 use Rattle.parts.specs.Copied.{copied}
 use Rattle.parts.proofs.Grown.{taken-range}
 use Rattle.parts.proofs.Carried.{Written}
 use Rattle.runs.specs.Before.{lastAt, emptyAt, ranksBefore}
 use Rattle.runs.specs.Steps.{next}
 use Rattle.runs.specs.Coding.{runsCoder}
-use Rattle.runs.specs.Copy.{atRun, atEnd, ranOn, BetweenRuns}
+use Rattle.runs_copy.specs.Copy.{atRun, atEnd, ranOn, BetweenRuns}
 use Rattle.runs.proofs.Body.{inside}
 use Rattle.runs.proofs.Walk.{next-along}
 use Rattle.runs.proofs.Adds.{lengthens}
 use Rattle.runs.proofs.Lookup.{FirstWith}
-use Rattle.runs.proofs.Whole.{whole-run, words-before, at-rank-before, step-on, to-next, at-first, Stands, stands}
-use Rattle.runs.proofs.Copying.{ranks-from, gone}
+use Rattle.runs_copy.proofs.Whole.{whole-run, words-before, at-rank-before, step-on, to-next, at-first, Stands, stands}
+use Rattle.runs_copy.proofs.Copying.{ranks-from, gone}
 
 -- ---- the whole runs before run j, where cursor and encoder stand between two runs
 
