@@ -40,5 +40,5 @@ pub fn copy_ranks(
         × Along e (walkedAs (nextOf (now file) v) c n) × RoomAll (coder s) e (walkedAs (nextOf (now file) v) c n) (length (now dst)) ⌝ }
     ensures { λ r. ⌜ PutAs (nextOf (now (file .entry)) v) (coder s) c e n (now (dst .entry)) r (now (dst .exit)) ⌝ }
 {
-    runs::copy::put_runs(dst, file, v, s.width, s.step, c, e, n)
+    runs_copy::copy::put_runs(dst, file, v, s.width, s.step, c, e, n)
 }

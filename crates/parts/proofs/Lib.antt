@@ -16,6 +16,7 @@ pub mod Grown
 pub mod Carried
 -- The parts, and the facts of an accepted file.
 pub mod Falls
+pub mod Copied
 pub mod Ends
 pub mod Last
 pub mod Places

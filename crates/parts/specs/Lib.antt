@@ -10,4 +10,5 @@ pub mod Codes
 pub mod Carried
 pub mod Last
 pub mod Falls
+pub mod Copied
 pub mod Far

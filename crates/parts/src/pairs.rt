@@ -1,11 +1,14 @@
-// The pairs of runs, as kinds 1 and 5 check them: the sums up to a run's end, all cells and the empty ones among them.
+// The pairs of runs, as kinds 1 and 5 check and copy them: the sums up to a run's end, all cells and the empty ones among them.
+use std::num::wrapping_add_u32;
 use std::num::wrapping_sub_u32;
+use stores::put_pair;
 use wire::Pair;
 use wire::get_pair;
 ghost use mathlib.Core.Path.{_≡_};
 ghost use Prim.Native.Nat.{_+_, _*_, _≤_};
 ghost use lib.ListN.{length};
 ghost use Rattle.parts.specs.Falls.{fallen, follows, pairFalls};
+ghost use Rattle.parts.specs.Copied.{copied};
 
 // 1 where y does not follow on x: it has not more cells, more empty cells and more stored cells.
 pub fn fall(x: Pair, y: Pair) -> u32
@@ -34,4 +37,30 @@ pub fn pair_falls(file: &[u8], at: usize, n: u32) -> u32
         left -= 1;
     }
     count
+}
+
+// n pairs from a place of the file on, each number raised by its shift, at `at`.
+pub fn copy_pairs(
+    dst: &mut [u8],
+    at: usize,
+    file: &[u8],
+    from: usize,
+    n: usize,
+    first: u32,
+    second: u32,
+)
+    requires { ⌜ (from + 8 * n ≤ length (now file)) × (at + 8 * n ≤ length (now dst)) ⌝ }
+    ensures { λ _. ⌜ now (dst .exit) ≡ copied (now (file .entry)) from first second at n (now (dst .entry)) ⌝ }
+{
+    let mut i: usize = 0;
+    while i < n {
+        let run = get_pair(file, from + 8 * i);
+        put_pair(
+            dst,
+            at + 8 * i,
+            wrapping_add_u32(run.first, first),
+            wrapping_add_u32(run.second, second),
+        );
+        i += 1;
+    }
 }

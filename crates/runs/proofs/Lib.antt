@@ -9,6 +9,3 @@ pub mod Adds
 pub mod Further
 pub mod Ends
 pub mod Laws
-pub mod Whole
-pub mod Copying
-pub mod FromRun

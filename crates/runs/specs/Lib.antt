@@ -1,4 +1,3 @@
 pub mod Before
 pub mod Steps
 pub mod Coding
-pub mod Copy

@@ -1,8 +1,8 @@
 use mathlib.Core.Path.{refl}
-use Rattle.runs.specs.Copy.{ranOn}
+use Rattle.runs_copy.specs.Copy.{ranOn}
 use borrow.Author.Needs.{needs}
-use Rattle.runs.proofs.copy.run_on.Statement.{statement}
-use Rattle.runs.proofs.copy.run_on.Tie as tie
+use Rattle.runs_copy.proofs.copy.run_on.Statement.{statement}
+use Rattle.runs_copy.proofs.copy.run_on.Tie as tie
 
 returns : tie.Need-returns
 unfolding ranOn

@@ -1,15 +1,14 @@
 // Ranks of a file of kind 1 put out in kind 1. The pair of a whole run keeps L; V changes by one shift for all: the ranks that one file has before the run and the other has not.
-use super::coding::put_run;
-use super::search::run_with;
-use super::steps::next;
-use super::steps::past;
 use format::View;
 use parts::Cursor;
 use parts::Encoder;
+use parts::pairs::copy_pairs;
 use parts::walk::Walk;
-use std::num::wrapping_add_u32;
+use runs::coding::put_run;
+use runs::search::run_with;
+use runs::steps::next;
+use runs::steps::past;
 use std::num::wrapping_sub_u32;
-use stores::put_pair;
 use wire::Pair;
 use wire::get_pair;
 ghost use mathlib.Core.Path.{_≡_};
@@ -21,28 +20,10 @@ ghost use Rattle.parts.specs.Cursor.{walkedAs};
 ghost use Rattle.parts.specs.Holds.{Holds, said};
 ghost use Rattle.parts.specs.Batch.{Along, RoomAll};
 ghost use Rattle.parts.specs.Carried.{PutAs, Reached};
 ghost use Rattle.runs.specs.Before.{ranksBefore};
 ghost use Rattle.runs.specs.Steps.{next};
 ghost use Rattle.runs.specs.Coding.{runsCoder};
-ghost use Rattle.runs.specs.Copy.{copied, atRun, atEnd, ranOn, BetweenRuns};
-
-// n pairs from a place of the file on, each V raised by the shift, at `at`.
-fn copy_pairs(dst: &mut [u8], at: usize, file: &[u8], from: usize, n: usize, shift: u32)
-    requires { ⌜ (from + 8 * n ≤ length (now file)) × (at + 8 * n ≤ length (now dst)) ⌝ }
-    ensures { λ _. ⌜ now (dst .exit) ≡ copied (now (file .entry)) from shift at n (now (dst .entry)) ⌝ }
-{
-    let mut i: usize = 0;
-    while i < n {
-        let run = get_pair(file, from + 8 * i);
-        put_pair(
-            dst,
-            at + 8 * i,
-            run.first,
-            wrapping_add_u32(run.second, shift),
-        );
-        i += 1;
-    }
-}
+ghost use Rattle.runs_copy.specs.Copy.{atRun, atEnd, ranOn, BetweenRuns};
 
 // The next n ranks, all in the cursor's run.
 fn put_part(
@@ -102,7 +83,7 @@ fn put_whole(dst: &mut [u8], file: &[u8], v: View, c: Cursor, e: Encoder, j: u32
     let open = c.next - 2;
     let n = (j - 1 - open) as usize;
     let shift = wrapping_sub_u32(c.rank, e.rank);
-    copy_pairs(dst, e.first, file, start + 8 * open as usize, n, shift);
+    copy_pairs(dst, e.first, file, start + 8 * open as usize, n, 0, shift);
     let last = get_pair(file, start + 8 * (j - 1) as usize);
     let ranks = last.first + 1 - last.second - c.rank;
     let c = enter_run(file, v, c, last, j);

@@ -3,15 +3,16 @@ use mathlib.Core.Path.{_≡_, ap, _∙_}
 use native.Mathlib.Omega.{arith}
 use lib.ListN.{length}
 use Rattle.wire.specs.declared.Pair.{Pair}
+use Rattle.parts.specs.Copied.{copied}
 use Rattle.parts.proofs.Carried.{Written, written-end}
 use Rattle.runs.specs.Before.{lastAt, emptyAt, ranksBefore}
 use Rattle.runs.specs.Steps.{next}
 use Rattle.runs.specs.Coding.{runsCoder}
-use Rattle.runs.specs.Copy.{copied, atRun, ranOn}
-use Rattle.runs.proofs.FromRun.{Ahead, ahead, ran, stepped, ran-room}
+use Rattle.runs_copy.specs.Copy.{atRun, ranOn}
+use Rattle.runs_copy.proofs.FromRun.{Ahead, ahead, ran, stepped, ran-room}
 use borrow.Author.Needs.{needs}
-use Rattle.runs.proofs.copy.put_whole.Statement.{statement}
-use Rattle.runs.proofs.copy.put_whole.Tie as tie
+use Rattle.runs_copy.proofs.copy.put_whole.Statement.{statement}
+use Rattle.runs_copy.proofs.copy.put_whole.Tie as tie
 
 numbers : (c : tie.Start) → let a = c .args in Ahead (a .file .now) (a .v) (a .c) (a .j) (a .c .next - 2) (a .j - 1 - (a .c .next - 2))
 numbers c = let a = c .args in ahead (a .file .now) (a .v) _ (c .pre .0) (a .c) (a .e) (c .pre .1) (a .j) (c .pre .2) (c .pre .3)
@@ -20,7 +21,7 @@ numbers c = let a = c .args in ahead (a .file .now) (a .v) _ (c .pre .0) (a .c) 
 all-gone : (c : tie.After-wrapping-sub-u32)
     → let a = c .before .before .before .before .before .args in
     Written (next (a .file .now) (a .v)) runsCoder (a .dst .now) (a .c) (a .e) (ranksBefore (a .file .now) (a .v .start) (a .j) - a .c .rank)
-    (copied (a .file .now) (a .v .start + 8 * (a .c .next - 2)) (c .wrapping-sub-u32 .result) (a .e .first) (a .j - 1 - (a .c .next - 2)) (a .dst .now))
+    (copied (a .file .now) (a .v .start + 8 * (a .c .next - 2)) 0 (c .wrapping-sub-u32 .result) (a .e .first) (a .j - 1 - (a .c .next - 2)) (a .dst .now))
     (atRun (a .file .now) (a .v) (a .c) (a .j))
     (ranOn (a .e) (lastAt (a .file .now) (a .v .start) (a .j - 1)) (ranksBefore (a .file .now) (a .v .start) (a .j) - a .c .rank) (a .j - 1 - (a .c .next - 2))) 0
 all-gone c =

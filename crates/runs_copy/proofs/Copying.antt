@@ -4,14 +4,12 @@ use mathlib.Core.Path.{_≡_, refl, sym, ap, ap₂, subst, _∙_}
 use mathlib.Core.Bool.{true, not}
 use mathlib.Core.List.{List}
 use native.Mathlib.Nat.{add-zero}
-use native.Mathlib.Numerals.{add-one}
 use native.Mathlib.Omega.{arith}
 use lib.ListN.{length}
 use borrow.Author.Tests.{ne-eqb}
 use Rattle.format.specs.declared.View.{View}
 use Rattle.format.specs.Tools.{range}
 use Rattle.format.specs.Runs.{runsKind}
-use Rattle.wire.specs.declared.Pair.{Pair}
 use Rattle.wire.specs.Wire.{pairAt, fieldPair}
 use Rattle.wire.proofs.Laws.{pair-there}
 use Rattle.stores.specs.Put.{put, pair}
@@ -22,17 +20,20 @@ use Rattle.parts.specs.Encoder.{runEnds, takenAllBy}
 use Rattle.parts.specs.Ready.{moved}
 use Rattle.parts.specs.Batch.{Along, RoomAll, putAllBy, grown}
 use Rattle.parts.specs.Holds.{Holds}
+use Rattle.parts.specs.Copied.{copied}
+use Rattle.parts.proofs.Steps.{add32-small}
+use Rattle.parts.proofs.Copied.{shifted}
 use Rattle.parts.proofs.Taking.{ends-later, put-first}
 use Rattle.parts.proofs.Grown.{taken-range, put-range}
 use Rattle.parts.proofs.Carried.{Written, written-begin, Cells, written-turn}
 use Rattle.runs.specs.Before.{lastAt, emptyAt, ranksBefore}
 use Rattle.runs.specs.Steps.{next}
 use Rattle.runs.specs.Coding.{runPair, runsCoder}
-use Rattle.runs.specs.Copy.{copied, atRun, ranOn}
+use Rattle.runs_copy.specs.Copy.{atRun, ranOn}
 use Rattle.runs.proofs.Body.{inside}
 use Rattle.runs.proofs.Walk.{next-along}
 use Rattle.runs.proofs.Adds.{first-pair, taken-pair, lengthens, keeps}
-use Rattle.runs.proofs.Whole.{whole-run, ranks-next, InRunAt, to-next, at-first}
+use Rattle.runs_copy.proofs.Whole.{whole-run, ranks-next, InRunAt, to-next, at-first}
 
 -- ---- one run of n cells, which ends at l, into an encoder that has another open
 
@@ -56,35 +57,15 @@ module _ (e : Encoder) (p n l : ℕ) (some : 1 ≤ e .rank) (apart : e .last + 1
   put-run-pair d =
       put-first runsCoder d e p (runPair e) (first-pair e p run-ends) refl ∙ put-range runsCoder lengthens e p n (n - 1) (omega arith) d
 
--- ---- pairs put out
-
-module _ (b : List ℕ) (from shift at : ℕ) (d : List ℕ) where
-  pub copied-none : copied b from shift at 0 d ≡ d
-  unfolding copied
-  copied-none = refl
-
-  -- one more, as the code takes it
-  pub copied-on : (i : ℕ) (o o′ : List ℕ) (x : Pair) (y : ℕ) → o ≡ copied b from shift at i d → x ≡ fieldPair (from + 8 * i) b → y ≡ (x .second + shift) % 2 ^ 32
-      → o′ ≡ put o (at + 8 * i) (pair (x .first) y) → o′ ≡ copied b from shift at (i + 1) d
-  unfolding copied add32
-  copied-on i o o′ x y e f g h = h ∙ rw (add-one i, e, g, f)
-
--- ---- the shift
-
--- y raised by s, where s is o less r
-pub shifted : (y s r o : ℕ) → (s + r) % 2 ^ 32 ≡ o → s < 2 ^ 32 → r < 2 ^ 32 → y + o < 2 ^ 32 → r ≤ y + o → add32 y s ≡ y + o - r
-unfolding add32
-shifted y s r o e a b c h = omega arith
+-- ---- run after run
 
 -- the pair of the open run: l and y are its pair in the file, o the ranks before the first run copied, r those taken then
 open-pair : (e : Encoder) (l y s r o n : ℕ) → e .last ≡ l → n ≡ l + 1 - y → y ≤ l → o ≤ n → e .rank ≡ r + (n - o) → e .rank ≤ l + 1 → l < 16777216
-    → (s + r) % 2 ^ 32 ≡ o → s < 2 ^ 32 → runPair e ≡ pair l (add32 y s)
+    → (s + r) % 2 ^ 32 ≡ o → s < 2 ^ 32 → runPair e ≡ pair (add32 l 0) (add32 y s)
 unfolding runPair
 open-pair e l y s r o n a b c d f g z k m =
     let t : e .last + 1 - e .rank ≡ add32 y s = sym (shifted y s r o k m (omega arith) (omega arith) (omega arith) ∙ omega arith) in
-    ap₂ pair a t
-
--- ---- run after run
+    ap₂ pair (a ∙ sym (add32-small l 0 (omega arith) ∙ add-zero l)) t
 
 module _ (b : List ℕ) (v : View) (ls : List ℕ) (h : Holds (runsKind (v .width) (v .step)) b v ls) (i : ℕ) where
   abbrev R : ℕ → ℕ
@@ -105,7 +86,7 @@ module _ (b : List ℕ) (v : View) (ls : List ℕ) (h : Holds (runsKind (v .widt
   module _ (d₀ : List ℕ) (c₀ : Cursor) (e₀ : Encoder) (n shift : ℕ) (cursor : c₀ ≡ atRun b v c₀ (suc i)) (last : e₀ .last ≡ lastAt b (v .start) i)
       (some : 1 ≤ e₀ .rank) (by : (shift + e₀ .rank) % 2 ^ 32 ≡ R (suc i)) (small : shift < 2 ^ 32) where
     abbrev bytes : ℕ → List ℕ
-    bytes m = copied b (v .start + 8 * i) shift (e₀ .first) m d₀
+    bytes m = copied b (v .start + 8 * i) 0 shift (e₀ .first) m d₀
 
     abbrev Gone : ℕ → Type 0
     Gone m = Written (next b v) runsCoder d₀ c₀ e₀ n (bytes m) (atRun b v c₀ (suc (i + m))) (afterRuns e₀ m) (n - (R (suc (i + m)) - R (suc i)))
@@ -168,7 +149,7 @@ module _ (b : List ℕ) (v : View) (ls : List ℕ) (h : Holds (runsKind (v .widt
       unfolding ranOn
       last-now = refl
 
-      open-is : runPair e ≡ pair (lastAt b (v .start) (i + m)) (add32 (emptyAt b (v .start) (i + m)) shift)
+      open-is : runPair e ≡ pair (add32 (lastAt b (v .start) (i + m)) 0) (add32 (emptyAt b (v .start) (i + m)) shift)
       open-is =
           let w = whole-run b v ls h (i + m) (omega arith) in
           let s = w .some in

@@ -3,13 +3,13 @@ use native.Mathlib.Nat.{le-refl}
 use native.Mathlib.Omega.{arith}
 use lib.ListN.{length}
 use Rattle.parts.proofs.Carried.{Written, written-begin, written-then, written-end, turn-now, turn-room-now}
 use Rattle.runs.specs.Steps.{next}
 use Rattle.runs.specs.Coding.{runsCoder}
 use Rattle.runs.proofs.Adds.{keeps}
-use Rattle.runs.proofs.FromRun.{in-order, between-runs, ranks-fit}
+use Rattle.runs_copy.proofs.FromRun.{in-order, between-runs, ranks-fit}
 use borrow.Author.Needs.{needs}
-use Rattle.runs.proofs.copy.put_runs.Statement.{statement}
-use Rattle.runs.proofs.copy.put_runs.Tie as tie
+use Rattle.runs_copy.proofs.copy.put_runs.Statement.{statement}
+use Rattle.runs_copy.proofs.copy.put_runs.Tie as tie
 
 returns : tie.Need-returns
 returns c =

@@ -1,7 +1,7 @@
-use Rattle.runs.specs.Copy.{atEnd}
+use Rattle.runs_copy.specs.Copy.{atEnd}
 use borrow.Author.Needs.{needs}
-use Rattle.runs.proofs.copy.enter_run.Statement.{statement}
-use Rattle.runs.proofs.copy.enter_run.Tie as tie
+use Rattle.runs_copy.proofs.copy.enter_run.Statement.{statement}
+use Rattle.runs_copy.proofs.copy.enter_run.Tie as tie
 
 returns : tie.Need-returns
 unfolding atEnd

@@ -1,21 +1,12 @@
--- Whole runs of kind 1 copied as pairs: what is put out, and where cursor and encoder stand between two runs. Assumes nothing.
-use Prim.Native.Nat.{ℕ, zero, suc, _+_, _-_, _*_, _≤_, _<_}
+-- Whole runs of kind 1 copied as pairs: where cursor and encoder stand between two runs. Assumes nothing.
+use Prim.Native.Nat.{ℕ, suc, _+_, _-_, _*_, _≤_, _<_}
 use mathlib.Core.Path.{_≡_}
 use mathlib.Core.List.{List}
 use Rattle.format.specs.declared.View.{View}
-use Rattle.wire.specs.Wire.{fieldPair}
-use Rattle.stores.specs.Put.{put, pair}
 use Rattle.parts.specs.declared.Cursor.{Cursor}
 use Rattle.parts.specs.declared.Encoder.{Encoder}
 use Rattle.parts.specs.Cursor.{add32}
 use Rattle.runs.specs.Before.{lastAt, emptyAt, ranksBefore}
-
--- n pairs of b from a place on, each with its V raised by the shift, put into d from `at` on
-unfoldable pub copied : List ℕ → ℕ → ℕ → ℕ → ℕ → List ℕ → List ℕ
-copied b from shift at zero d = d
-copied b from shift at (suc n) d =
-    put (copied b from shift at n d) (at + 8 * n)
-    (pair (fieldPair (from + 8 * n) b .first) (add32 (fieldPair (from + 8 * n) b .second) shift))
 
 -- the cursor c at the first cell of run i
 unfoldable pub atRun : List ℕ → View → Cursor → ℕ → Cursor

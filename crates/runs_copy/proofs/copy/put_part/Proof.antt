@@ -5,13 +5,13 @@ use native.Mathlib.Omega.{arith}
 use lib.ListN.{length}
 use Rattle.parts.proofs.Along.{stretch-inside}
 use Rattle.parts.proofs.Carried.{written-begin, written-turn, written-end, Cells, run-asked, run-room}
 use Rattle.runs.specs.Steps.{next}
 use Rattle.runs.specs.Coding.{runsCoder}
 use Rattle.runs.proofs.Walk.{next-along}
 use Rattle.runs.proofs.Adds.{keeps}
 use borrow.Author.Needs.{needs}
-use Rattle.runs.proofs.copy.put_part.Statement.{statement}
-use Rattle.runs.proofs.copy.put_part.Tie as tie
+use Rattle.runs_copy.proofs.copy.put_part.Statement.{statement}
+use Rattle.runs_copy.proofs.copy.put_part.Tie as tie
 
 -- all n ranks are in the cursor's run
 whole : (c : tie.Else1) → let a = c .before .before .before .args in Cells (a .c) (a .n) (a .n)

@@ -20,12 +20,12 @@ use Rattle.parts.proofs.Steps.{add32-small}
 use Rattle.parts.proofs.Entries.{Entries, rest-pairs}
 use Rattle.parts.proofs.Batches.{stepped-as-add}
 use Rattle.parts.proofs.Along.{past-along}
 use Rattle.runs.specs.Before.{lastAt, emptyAt, ranksBefore}
 use Rattle.runs.specs.Steps.{entered, next}
-use Rattle.runs.specs.Copy.{atRun, atEnd}
+use Rattle.runs_copy.specs.Copy.{atRun, atEnd}
 use Rattle.runs.proofs.Body.{held}
 use Rattle.runs.proofs.Lookup.{told, count, in-run, at-rank, ranks}
 use Rattle.runs.proofs.Walk.{next-along}
 
 -- run i + k + 1 of the file has more empty cells before it than the run before
 more-among : (b : List ℕ) (s : ℕ) (rs : List Run) (i e v k : ℕ) → InOrder' e v rs → Entries b 4 s (2 * i) (flatRuns rs) → suc k < length rs

@@ -1,7 +1,6 @@
 -- Whole runs copied as pairs: from where a cursor and an encoder stand. Assumes nothing.
 use Prim.Native.Nat.{ℕ, suc, _+_, _-_, _*_, _%_, _^_, _≤_, _<_}
 use mathlib.Core.Path.{_≡_, refl, sym, ap, subst, _∙_}
-use mathlib.Core.Bool.{not}
 use mathlib.Core.List.{List}
 use native.Mathlib.Nat.{le-refl}
 use native.Mathlib.Omega.{arith}
@@ -24,18 +23,19 @@ use Rattle.parts.specs.Carried.{carried, PutAs, Reached}
 use Rattle.parts.proofs.Along.{walked-along}
 use Rattle.parts.specs.Batch.{Along, RoomAll, grown}
 use Rattle.parts.specs.Holds.{Holds}
+use Rattle.parts.specs.Copied.{copied}
 use Rattle.parts.proofs.Grown.{taken-range}
 use Rattle.parts.proofs.Carried.{Written}
 use Rattle.runs.specs.Before.{lastAt, emptyAt, ranksBefore}
 use Rattle.runs.specs.Steps.{next}
 use Rattle.runs.specs.Coding.{runsCoder}
-use Rattle.runs.specs.Copy.{copied, atRun, atEnd, ranOn, BetweenRuns}
+use Rattle.runs_copy.specs.Copy.{atRun, atEnd, ranOn, BetweenRuns}
 use Rattle.runs.proofs.Body.{inside}
 use Rattle.runs.proofs.Walk.{next-along}
 use Rattle.runs.proofs.Adds.{lengthens}
 use Rattle.runs.proofs.Lookup.{FirstWith}
-use Rattle.runs.proofs.Whole.{whole-run, words-before, at-rank-before, step-on, to-next, at-first, Stands, stands}
-use Rattle.runs.proofs.Copying.{ranks-from, gone}
+use Rattle.runs_copy.proofs.Whole.{whole-run, words-before, at-rank-before, step-on, to-next, at-first, Stands, stands}
+use Rattle.runs_copy.proofs.Copying.{ranks-from, gone}
 
 -- ---- the whole runs before run j, where cursor and encoder stand between two runs
 
@@ -91,7 +91,7 @@ module _ (b : List ℕ) (v : View) (ls : List ℕ) (h : Holds (runsKind (v .widt
         → Along e (walkedAs (next b v) c (ranksBefore b (v .start) j - c .rank))
         → RoomAll runsCoder e (walkedAs (next b v) c (ranksBefore b (v .start) j - c .rank)) (length d)
         → Written (next b v) runsCoder d c e (ranksBefore b (v .start) j - c .rank)
-        (copied b (v .start + 8 * (c .next - 2)) shift (e .first) (j - 1 - (c .next - 2)) d) (atRun b v c j)
+        (copied b (v .start + 8 * (c .next - 2)) 0 shift (e .first) (j - 1 - (c .next - 2)) d) (atRun b v c j)
         (ranOn e (lastAt b (v .start) (j - 1)) (ranksBefore b (v .start) j - c .rank) (j - 1 - (c .next - 2))) 0
     ran d shift by small a r =
         let o = c .next - 2 in

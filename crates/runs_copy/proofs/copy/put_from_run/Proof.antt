@@ -1,20 +1,20 @@
 use Prim.Native.Nat.{_+_, _-_, _≤_}
-use mathlib.Core.Path.{_≡_, sym, ap, _∙_}
+use mathlib.Core.Path.{_≡_, ap, _∙_}
 use native.Mathlib.Nat.{le-refl}
 use native.Mathlib.Omega.{arith}
 use lib.ListN.{length}
 use Rattle.parts.specs.declared.Cursor.{Cursor}
 use Rattle.parts.proofs.Carried.{Written, written-begin, written-then, written-end, turn-now, turn-room-now}
 use Rattle.runs.specs.Before.{ranksBefore}
 use Rattle.runs.specs.Steps.{next}
 use Rattle.runs.specs.Coding.{runsCoder}
 use Rattle.runs.proofs.Adds.{keeps}
 use Rattle.runs.proofs.Lookup.{FirstWith, first-with}
-use Rattle.runs.proofs.Whole.{at-rank-before}
-use Rattle.runs.proofs.FromRun.{not-before, last-part, ahead}
+use Rattle.runs_copy.proofs.Whole.{at-rank-before}
+use Rattle.runs_copy.proofs.FromRun.{not-before, last-part, ahead}
 use borrow.Author.Needs.{needs}
-use Rattle.runs.proofs.copy.put_from_run.Statement.{statement}
-use Rattle.runs.proofs.copy.put_from_run.Tie as tie
+use Rattle.runs_copy.proofs.copy.put_from_run.Statement.{statement}
+use Rattle.runs_copy.proofs.copy.put_from_run.Tie as tie
 
 found : (c : tie.After-run-with) → let a = c .before .before .before .before .args in FirstWith (a .file .now) (a .v) (a .c .rank + a .n) (c .run-with .result)
 found c = let p = c .before .before .before .before in let a = p .args in first-with (a .file .now) (a .v) _ (p .pre .1) (a .c .rank + a .n) (c .run-with .result) (c .run-with .ensures)

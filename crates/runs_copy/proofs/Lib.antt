@@ -1,0 +1,4 @@
+-- The laws of whole runs.
+pub mod Whole
+pub mod Copying
+pub mod FromRun
