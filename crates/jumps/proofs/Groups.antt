@@ -1,4 +1,4 @@
--- The differences after a rank: how many are 0, their sum, and a pass over them where none is. Assumes nothing.
+-- The differences after a rank: how many are 0, their sum, the sum behind the last 0, and a pass over them where none is. Assumes nothing.
 use Prim.Native.Nat.{ℕ, zero, suc, _+_, _-_, _*_, _≤_, _<_}
 use mathlib.Core.Path.{_≡_, refl, _∙_}
 use mathlib.Core.Bool.{true, false, not}

@@ -87,7 +87,7 @@ module _ (w start second : ℕ) (b : List ℕ) (c : Cursor) where
       rw (← j, e, r, add32-small (s .taken) 1 m) (record { shape = rw q; at = λ i. refl }))
       (λ e. rw (← j, e, r) (record { shape = rw q; at = λ i. rw (f (omega arith)) (add32-small (s .position) d i) }))
 
-  -- where a search goes, as long as 32 bits hold the jumps that it takes
+  -- what a search from c on has reached after n ranks
   abbrev at-rank : ℕ → Reached
   at-rank n = walked w start second b (c .rank) n (reached c)
 
@@ -104,6 +104,7 @@ module _ (w start second : ℕ) (b : List ℕ) (c : Cursor) where
   unfolding walked steppedAs
   follows-start = record { shape = rw (add-zero (c .rank)); at = λ i. refl }
 
+  -- the cursor goes with it, as long as 32 bits hold the number of jumps
   follows : (n : ℕ) → Room w second b (c .rank + n) → at-rank n .taken < 2 ^ 32 → Follows c n (at-rank n) (steppedAs (nextAt w start second b) c n)
   follows zero z h = follows-start
   follows (suc n) z h =

@@ -1,4 +1,3 @@
-use mathlib.Core.Path.{_≡_}
 use borrow.Author.Tests.{eqb-true}
 use Rattle.kinds.proofs.At.{view-climbs, view-sought}
 use Rattle.kinds.proofs.steps.seek.Statement.{statement}
