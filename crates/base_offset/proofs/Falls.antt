@@ -1,21 +1,20 @@
 -- The groups rise where each has its ends right and the offsets fall from group to group alone. Assumes nothing.
-use Prim.Native.Nat.{ℕ, zero, suc, _+_, _-_, _*_, _≤_, _<_}
+use Prim.Native.Nat.{ℕ, zero, suc, _+_, _-_, _≤_, _<_}
 use mathlib.Core.Path.{_≡_, refl, sym, ap, _∙_}
 use mathlib.Core.Bool.{Bool, true, false}
 use mathlib.Core.List.{List, [], _∷_}
-use native.Mathlib.Nat.{mul-zero, mul-suc, add-zero, zero-add}
+use native.Mathlib.Nat.{zero-add}
 use native.Mathlib.Omega.{arith}
 use lib.ListN.{length, take, drop, length-drop}
 use lib.Dec.{eqb, ltb}
 use borrow.Author.Tests.{eqb-true, eqb-false, eq-eqb, ne-eqb, le-ltb}
 use Rattle.format.specs.Tools.{both, first, upTo}
-use Rattle.format.specs.Bytes.{field, numbersOf}
 use Rattle.laws.proofs.Tools.{cases, both-true, both-false}
 use Rattle.laws.proofs.Bounds.{upTo-suc, upTo-zero}
-use Rattle.laws.proofs.Numbers.{numbers-turn, numbers-end}
 use Rattle.parts.specs.Falls.{fallen}
 use Rattle.offsets.specs.Falls.{fallsAfter, falls}
-use Rattle.base_offset.specs.Group.{lastAfter, groupEnds, endsRight}
+use Rattle.offsets.specs.Ends.{lastAfter, groupEnds}
+use Rattle.base_offset.specs.Group.{endsRight}
 use Rattle.base_offset.proofs.Climb.{climbs}
 use Rattle.base_offset.proofs.Groups.{groupRight, groupsRight}
 
@@ -147,12 +146,3 @@ groups-ends l bound base (next ∷ bs) os h e =
     some-taken zero os h k = absurd (omega arith)
     some-taken (suc l) [] h k = absurd (omega arith)
     some-taken (suc l) (o ∷ os) h k = omega arith
-
--- the last of n + 1 entries
-pub last-entry : (w n at : ℕ) (b : List ℕ) → lastAfter (field w at b) (numbersOf w n (drop (at + w) b)) ≡ field w (at + w * n) b
-unfolding lastAfter
-last-entry w zero at b = let e : at + w * 0 ≡ at = rw (mul-zero w, add-zero at) in rw (e, numbers-end w 0 (drop (at + w) b) (omega arith))
-last-entry w (suc n) at b =
-    let e : at + w * suc n ≡ at + w + w * n = rw mul-suc (omega arith) in
-    let z : suc n - 1 ≡ n = omega arith in
-    rw (e, numbers-turn w (suc n) (at + w) b (omega arith), z) (last-entry w n (at + w) b)

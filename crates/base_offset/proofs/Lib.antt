@@ -6,7 +6,6 @@ pub mod RankByRank
 pub mod Groups
 pub mod Falls
 pub mod Pieces
-pub mod OneGroup
 pub mod PartsRight
 pub mod Turn
 -- Turns of a loop.

@@ -16,7 +16,8 @@ use Rattle.wire.specs.Wire.{entrySize}
 use Rattle.parts.specs.Holds.{Counted, partsRight}
 use Rattle.laws.proofs.Numbers.{numbers-turn, numbers-end}
 use Rattle.offsets.specs.Falls.{falls}
-use Rattle.base_offset.specs.Group.{groupEnds, endsRight, endsOf}
+use Rattle.offsets.specs.Ends.{groupEnds}
+use Rattle.base_offset.specs.Group.{endsRight, endsOf}
 use Rattle.base_offset.proofs.RankByRank.{ranksRight}
 use Rattle.base_offset.proofs.Groups.{groups-ranks}
 use Rattle.base_offset.proofs.Falls.{count-next, count-some, count-left, groups-ends}

@@ -3,20 +3,11 @@ use Prim.Native.Nat.{ℕ, _+_, _-_}
 use mathlib.Core.Bool.{Bool}
 use mathlib.Core.List.{List, [], _∷_}
 use lib.ListN.{take, drop}
-use lib.Dec.{eqb, ltb}
 use Rattle.format.specs.declared.View.{View}
-use Rattle.format.specs.Tools.{both, first, others}
+use Rattle.format.specs.Tools.{both}
 use Rattle.format.specs.Bytes.{field, numbersOf}
 use Rattle.wire.specs.Wire.{entrySize}
-
--- the last of the numbers; p where there is none
-unfoldable pub lastAfter : ℕ → List ℕ → ℕ
-lastAfter p [] = p
-lastAfter p (x ∷ xs) = lastAfter x xs
-
--- a group by its first and its last offset alone: they are 0 and below the next base
-unfoldable pub groupEnds : ℕ → ℕ → List ℕ → Bool
-groupEnds base next os = both (eqb (first os) 0) (ltb (lastAfter (first os) (others os)) (next - base))
+use Rattle.offsets.specs.Ends.{groupEnds}
 
 -- the group of `base`, then those of the bases bs, by their ends
 unfoldable pub endsRight : ℕ → ℕ → ℕ → List ℕ → List ℕ → Bool

@@ -1,32 +1,14 @@
 // The check of the two parts, group by group: a base of 4 bytes, and the offsets of the ranks that it serves.
 use format::View;
+use offsets::ends::ends_right;
 use offsets::falls::count_falls;
 use wire::entry_size;
-use wire::get_entry;
 use wire::get_u32;
 ghost use mathlib.Core.Path.{_≡_};
-ghost use Prim.Native.Nat.{_+_, _*_, _≤_, _<_};
-ghost use lib.ListN.{length, drop};
-ghost use Rattle.format.specs.Bytes.{numbersOf};
+ghost use Prim.Native.Nat.{_<_};
 ghost use Rattle.format.specs.BaseOffset.{basedKind};
-ghost use Rattle.wire.specs.Wire.{entrySize};
 ghost use Rattle.parts.specs.Holds.{Counted, partsRight};
-ghost use Rattle.base_offset.specs.Group.{groupEnds, endsOf};
-
-// A group of n >= 1 ranks by its ends: its first offset is 0, and its last position is below the next base.
-fn ends_right(file: &[u8], at: usize, width: u32, n: u32, base: u32, next: u32) -> bool
-    requires { ⌜ (1 ≤ n) × (at + entrySize width * n ≤ length (now file)) ⌝ }
-    ensures { λ r. ⌜ r ≡ groupEnds base next (numbersOf (entrySize width) n (drop at (now (file .entry)))) ⌝ }
-{
-    if next <= base {
-        return false;
-    }
-    if get_entry(file, at, width) != 0 {
-        return false;
-    }
-    let last = at + entry_size(width) * ((n - 1) as usize);
-    get_entry(file, last, width) < next - base
-}
+ghost use Rattle.base_offset.specs.Group.{endsOf};
 
 // The groups of a view with words, each by its ends. The last group's positions are below cells.
 fn groups_right(file: &[u8], v: View) -> bool

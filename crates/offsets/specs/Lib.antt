@@ -1,3 +1,4 @@
 pub mod Falls
+pub mod Ends
 pub mod Sums
 pub mod Over

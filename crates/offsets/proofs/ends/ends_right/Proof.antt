@@ -3,11 +3,11 @@ use mathlib.Core.Path.{sym, _∙_}
 use native.Mathlib.Omega.{arith}
 use lib.ListN.{length}
 use Rattle.wire.specs.Wire.{entrySize}
 use Rattle.offsets.proofs.Widths.{entries-fit}
-use Rattle.base_offset.proofs.OneGroup.{room, ends-past, ends-first, ends-last}
+use Rattle.offsets.proofs.OneGroup.{room, ends-past, ends-first, ends-last}
 use borrow.Author.Needs.{needs}
-use Rattle.base_offset.proofs.check.ends_right.Statement.{statement}
-use Rattle.base_offset.proofs.check.ends_right.Tie as tie
+use Rattle.offsets.proofs.ends.ends_right.Statement.{statement}
+use Rattle.offsets.proofs.ends.ends_right.Tie as tie
 
 returns : tie.Need-returns
 returns c =
