@@ -1,5 +1,5 @@
 -- What the place that a search finds says: where a position stands among the stored ones, and the position of a rank. Assumes nothing.
-use Prim.Native.Nat.{ℕ, zero, suc, _+_, _-_, _≤_, _<_}
+use Prim.Native.Nat.{ℕ, zero, suc, _+_, _-_, _*_, _/_, _%_, _^_, _≤_, _<_}
 use mathlib.Core.Path.{_≡_, refl, sym}
 use mathlib.Core.Bool.{true, false}
 use mathlib.Core.List.{List, [], _∷_, _++_}
@@ -7,19 +7,17 @@ use native.Mathlib.Nat.{add-zero}
 use native.Mathlib.Omega.{arith}
 use lib.ListN.{length, length-append}
 use lib.Arith.{lt-of-le-ne}
-use lib.Dec.{ltb, eqb}
-use borrow.Author.Tests.{eqb-true, eqb-false, ne-eqb, ltb-true, ltb-false, lt-ltb, le-ltb, lt-leb}
-use Rattle.format.specs.Tools.{range}
+use lib.Dec.{leb, ltb, eqb}
+use borrow.Author.Tests.{eqb-true, eqb-false, eq-eqb, ne-eqb, ltb-true, ltb-false, lt-ltb, le-ltb, leb-true, leb-false}
+use Rattle.format.specs.Tools.{pick, both, range}
 use Rattle.format.specs.Answers.{given}
 use Rattle.format.specs.Runs.{Span, positionsFrom}
 use Rattle.format.specs.PagedRuns.{plus, none, allCells, storedCells, Place, lost, at, positionAtPlace}
-use Rattle.laws.proofs.Tools.{cases, length-range}
+use Rattle.laws.proofs.Tools.{cases, both-true, length-range}
 use Rattle.laws.proofs.Search.{seekFrom, Proper}
 use Rattle.parts.specs.declared.Found.{Found}
 use Rattle.parts.specs.Found.{countBelow, among}
-use Rattle.paged_runs.specs.declared.search.Reached.{Reached}
-use Rattle.paged_runs.specs.declared.search.Reached.the-variants.{Run, Nowhere}
-use Rattle.paged_runs.specs.Descent.{foundAt, placeBy, positionBy}
+use Rattle.paged_runs.specs.Descent.{nowhere, answered}
 
 -- ---- a position among others, r of which are counted already
 
@@ -74,24 +72,39 @@ clear-from p from (x ∷ xs) h =
 
 -- ---- the place of a position
 
+-- by what a search answers: of the cells below p those that are not empty, or all n words where no run is reached
+abbrev pub placeBy : ℕ → ℕ → ℕ → Found
+placeBy e p n =
+    pick (eqb e nowhere) (record { below = n; here = false }) (record { below = p - e / 2; here = both (eqb (e % 2) 1) (ltb (p - e / 2) n) })
+
+place-empty : (m p n : ℕ) → placeBy (2 * m) p n ≡ record { below = p - m; here = false }
+place-empty m p n =
+    let h : 2 * m / 2 ≡ m = omega arith in
+    rw (ne-eqb (2 * m) nowhere (λ z. omega arith), h, ne-eqb (2 * m % 2) 1 (λ z. omega arith))
+
+place-stored : (m p n : ℕ) → m < 2 ^ 32 → p - m < n → placeBy (2 * m + 1) p n ≡ record { below = p - m; here = true }
+place-stored m p n l k =
+    let h : (2 * m + 1) / 2 ≡ m = omega arith in
+    rw (ne-eqb (2 * m + 1) nowhere (λ z. omega arith), h, eq-eqb ((2 * m + 1) % 2) 1 (omega arith), lt-ltb (p - m) n k)
+
 -- Arithmetic of one run past c cells, e of them empty; q is what is left of p.
 module _ (c e q p : ℕ) (g : e ≤ c) (h : c + q ≡ p) where
-  gap-rank : p - q - e ≡ c - e
+  gap-rank : p - (e + q) ≡ c - e
   gap-rank = omega arith
 
-  stored-rank : (x : ℕ) → x ≤ q → p - x - e ≡ c - e + (p - (c + x))
+  stored-rank : (x : ℕ) → x ≤ q → p - (e + x) ≡ c - e + (p - (c + x))
   stored-rank x k = omega arith
 
   ranks-past : (x y : ℕ) → y ≤ x → c - e + (x - y) ≡ c + x - (e + y)
   ranks-past x y k = omega arith
 
 -- along pairs, a before them, with n stored cells in all
-pub place-along : (p n i q : ℕ) (a : Span) (xs : List Span) → Proper xs → a .empty ≤ a .cells → a .cells + q ≡ p
+pub place-along : (p n i q : ℕ) (a : Span) (xs : List Span) → p < 2 ^ 32 → Proper xs → a .empty ≤ a .cells → a .cells + q ≡ p
     → n ≡ a .cells - a .empty + length (positionsFrom (a .cells) xs)
-    → CountedFrom p (a .cells - a .empty) (positionsFrom (a .cells) xs) (placeBy (foundAt (seekFrom allCells i q a xs)) p n)
+    → CountedFrom p (a .cells - a .empty) (positionsFrom (a .cells) xs) (placeBy (answered false (seekFrom allCells i q a xs)) p n)
 unfolding positionsFrom seekFrom
-place-along p n i q a [] o g h m = unfold countBelow among in (record { below = m; here = refl })
-place-along p n i q a (x ∷ xs) o g h m =
+place-along p n i q a [] s o g h m = unfold countBelow among in (record { below = m; here = refl })
+place-along p n i q a (x ∷ xs) f o g h m =
     let o0 = o .0 in
     let later = positionsFrom (a .cells + x .cells) xs in
     let l = length-append (range (a .cells + x .empty) (x .cells - x .empty)) later in
@@ -104,35 +117,34 @@ place-along p n i q a (x ∷ xs) o g h m =
     let r = ranks-past (a .cells) (a .empty) q p g h (x .cells) (x .empty) o0 in
     rw e
     (past p (a .cells - a .empty) (a .cells + x .empty) (x .cells - x .empty) later _ (omega arith)
-    (rw r (place-along p n (suc i) (q - x .cells) (plus a x) xs (o .1) (omega arith) (omega arith) (omega arith)))))
+    (rw r (place-along p n (suc i) (q - x .cells) (plus a x) xs f (o .1) (omega arith) (omega arith) (omega arith)))))
   where
     here : n ≡ a .cells - a .empty + (x .cells - x .empty + length (positionsFrom (a .cells + x .cells) xs)) → q < x .cells
         → CountedFrom p (a .cells - a .empty) (range (a .cells + x .empty) (x .cells - x .empty) ++ positionsFrom (a .cells + x .cells) xs)
-        (placeBy (Run (a .empty) (x .empty) q) p n)
+        (placeBy (answered false (at i q a x)) p n)
     here k t =
         let c = clear-from p (a .cells + x .cells) xs (omega arith) in
-        cases (ltb q (x .empty))
+        cases (leb (x .empty) q)
         (λ u.
-        let w = ltb-true q (x .empty) u in
-        let d = clear-range p (a .cells + x .empty) (x .cells - x .empty) (positionsFrom (a .cells + x .cells) xs) (omega arith) c in
-        let d0 = d .0 in
-        let z = gap-rank (a .cells) (a .empty) q p g h in
-        rw u (record { below = omega arith; here = sym (d .1) }))
-        (λ u.
-        let w = ltb-false q (x .empty) u in
+        let w = leb-true (x .empty) q u in
         let d = inside p (a .cells - a .empty) (a .cells + x .empty) (x .cells - x .empty) (positionsFrom (a .cells + x .cells) xs)
         (omega arith) (omega arith) c in
         let d0 = d .below in
         let z = stored-rank (a .cells) (a .empty) q p g h (x .empty) w in
-        rw (u, lt-ltb (p - x .empty - a .empty) n (omega arith)) (record { below = omega arith; here = d .here }))
+        rw (u, place-stored (a .empty + x .empty) p n (omega arith) (omega arith)) (record { below = omega arith; here = d .here }))
+        (λ u.
+        let w = leb-false (x .empty) q u in
+        let d = clear-range p (a .cells + x .empty) (x .cells - x .empty) (positionsFrom (a .cells + x .cells) xs) (omega arith) c in
+        let d0 = d .0 in
+        let z = gap-rank (a .cells) (a .empty) q p g h in
+        rw (u, place-empty (a .empty + q) p n) (record { below = omega arith; here = sym (d .1) }))
 
 -- any stored cell has a rank below n
-pub place-free : (p n : ℕ) (f : Reached) → placeBy f p n .here ≡ true → placeBy f p n .below < n
-place-free p n Nowhere h = let z : _≡_ {A = ℕ} 0 1 = cc in absurd (omega arith)
-place-free p n (Run before own rest) h =
-    cases (ltb rest own)
-    (λ e. let k = rw e at h in let z : _≡_ {A = ℕ} 0 1 = cc in absurd (omega arith))
-    (λ e. rw e (ltb-true (p - own - before) n (rw e at h)))
+pub place-free : (e p n : ℕ) → placeBy e p n .here ≡ true → placeBy e p n .below < n
+place-free e p n h =
+    cases (eqb e nowhere)
+    (λ t. let k = rw t at h in let z : _≡_ {A = ℕ} 0 1 = cc in absurd (omega arith))
+    (λ t. rw t (ltb-true (p - e / 2) n (both-true (eqb (e % 2) 1) (ltb (p - e / 2) n) (rw t at h) .1)))
 
 -- ---- the position of a rank
 
@@ -156,10 +168,15 @@ stored-from i r q a (x ∷ xs) o g h =
 pub stored-at : (r : ℕ) (xs : List Span) → Proper xs → StoredAt r (seekFrom storedCells 0 r none xs)
 stored-at r xs o = stored-from 0 r r none xs o (omega arith) (omega arith)
 
-pub position-at : (r n k : ℕ) (q : Place) → StoredAt r q → positionAtPlace q ≡ given k → k < n → positionBy (foundAt q) r n ≡ k
-position-at r n k lost h e l = let z : _≡_ {A = ℕ} 0 1 = cc in absurd (omega arith)
-position-at r n k (at i q a x) h e l =
+-- by what a search answers: the rank and the empty cells up to it, or 0 where no run is reached
+abbrev pub positionBy : ℕ → ℕ → ℕ
+positionBy e r = pick (eqb e nowhere) 0 (r + e / 2)
+
+pub position-at : (r k : ℕ) (q : Place) → StoredAt r q → positionAtPlace q ≡ given k → k < 2 ^ 32 → positionBy (answered true q) r ≡ k
+position-at r k lost h e l = let z : _≡_ {A = ℕ} 0 1 = cc in absurd (omega arith)
+position-at r k (at i q a x) h e l =
     let h0 = h .0 in
     let h1 = h .1 in
     let d : a .cells + x .empty + q ≡ k = cc in
-    rw (lt-leb n (a .empty) (omega arith)) (omega arith)
+    let m : (2 * (a .empty + x .empty) + 1) / 2 ≡ a .empty + x .empty = omega arith in
+    rw (ne-eqb (2 * (a .empty + x .empty) + 1) nowhere (λ z. omega arith), m) (omega arith)

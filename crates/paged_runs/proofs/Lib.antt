@@ -5,7 +5,6 @@ pub mod Along
 pub mod Held
 pub mod PartsAgain
 pub mod CheckSteps
-pub mod Counting
 pub mod Whole
 pub mod Answering
 pub mod Finding

@@ -10,25 +10,24 @@ use Rattle.format.specs.declared.View.{View}
 use Rattle.format.specs.Tools.{both, within}
 use Rattle.format.specs.PagedRuns.{none, at}
 use Rattle.laws.proofs.Tools.{both-false}
-use Rattle.paged_runs.specs.declared.search.Reached.the-variants.{Nowhere}
 use Rattle.levels.specs.Levels.{entries, sizesOf, total, cut, Sized}
-use Rattle.paged_runs.specs.Descent.{foundAt, descended, viewFits, searched, LevelsFit}
+use Rattle.paged_runs.specs.Descent.{nowhere, answered, descended, viewFits, searched, LevelsFit}
 use Rattle.levels.proofs.LevelSizes.{total-take, cut-take}
 
 -- ---- refused views
 
 module _ (file : List ℕ) (v : View) (stored : Bool) (number : ℕ) where
-  none-unfit : viewFits v ≡ false → searched file v stored number ≡ Nowhere
+  none-unfit : viewFits v ≡ false → searched file v stored number ≡ nowhere
   unfolding searched
   none-unfit e = rw e
 
-  pub step-low : v .step < 2 → searched file v stored number ≡ Nowhere
+  pub step-low : v .step < 2 → searched file v stored number ≡ nowhere
   step-low h = none-unfit (rw (lt-leb 2 (v .step) h))
 
-  pub step-high : 64 < v .step → searched file v stored number ≡ Nowhere
+  pub step-high : 64 < v .step → searched file v stored number ≡ nowhere
   step-high h = let e : 2 ≤ v .step = omega arith in none-unfit (rw (le-leb 2 (v .step) e, lt-leb (v .step) 64 h))
 
-  pub many-runs : 16777216 < v .seconds → searched file v stored number ≡ Nowhere
+  pub many-runs : 16777216 < v .seconds → searched file v stored number ≡ nowhere
   many-runs h = none-unfit (ap (both (within 2 64 (v .step))) (lt-leb (v .seconds) 16777216 h) ∙ both-false (within 2 64 (v .step)))
 
   -- ---- a view that fits, and the sizes that were stored
@@ -41,15 +40,19 @@ module _ (file : List ℕ) (v : View) (stored : Bool) (number : ℕ) where
     counted-sizes : length (sizesOf (v .step) (v .seconds)) ≡ count
     counted-sizes = rw (← s .levels, length-take count sizes) (omega (arith, s .room, s .count-most))
 
+    some-sizes : 1 ≤ count
+    unfolding sizesOf
+    some-sizes = omega (arith, counted-sizes)
+
     same-total : total (sizesOf (v .step) (v .seconds)) (length (sizesOf (v .step) (v .seconds))) ≡ n
     same-total = rw (counted-sizes, ← s .levels) (total-take sizes count count (omega arith) ∙ sym (s .sum))
 
-    pub short-file : length file < v .start + 8 * n → searched file v stored number ≡ Nowhere
+    pub short-file : length file < v .start + 8 * n → searched file v stored number ≡ nowhere
     unfolding searched
     short-file h = rw (fits, same-total, lt-leb (v .start + 8 * n) (length file) h)
 
     pub from-top : v .start + 8 * n ≤ length file
-        → foundAt (descended (entries (v .start) file) sizes (v .step) stored count 0 (at 0 number none none)) ≡ searched file v stored number
+        → answered stored (descended (entries (v .start) file) sizes (v .step) stored count 0 (at 0 number none none)) ≡ searched file v stored number
     unfolding searched descended
     from-top h =
         let e : cut (sizesOf (v .step) (v .seconds)) count (entries (v .start) file) ≡ cut sizes count (entries (v .start) file)
@@ -60,4 +63,5 @@ module _ (file : List ℕ) (v : View) (stored : Bool) (number : ℕ) where
     top-fits h =
         let sum = s .sum in
         let most = s .count-most in
-        record { inside = omega arith; number = omega arith; levels = omega arith; sum = omega arith; steps = omega arith }
+        let some = some-sizes in
+        record { inside = omega arith; number = omega arith; some = some; levels = omega arith; sum = omega arith; steps = omega arith }

@@ -4,7 +4,6 @@ use lib.ListN.{length}
 use Rattle.parts.proofs.Taking.{put-second, length-putBy}
 use Rattle.paged_runs.specs.Coding.{pageEntry, pagesCoder}
 use Rattle.paged_runs.proofs.OneEntry.{length-entry, pages-entry}
-use borrow.Author.Needs.{needs}
 use Rattle.paged_runs.proofs.coding.put_entry.Statement.{statement}
 use Rattle.paged_runs.proofs.coding.put_entry.Tie as tie
 
