@@ -10,6 +10,7 @@ pub mod Answering
 pub mod Finding
 -- The cursor and the encoder.
 pub mod Walk
+pub mod Pages
 pub mod OneEntry
 pub mod RunEnds
 pub mod Codes

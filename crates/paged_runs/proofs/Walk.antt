@@ -18,36 +18,29 @@ use Rattle.wire.specs.Wire.{pairAt}
 use Rattle.parts.specs.declared.Cursor.{Cursor}
 use Rattle.parts.specs.Cursor.{add32, alongRun, before}
 use Rattle.parts.specs.Holds.{Holds}
-use Rattle.parts.specs.Walks.{Walks, StepsAlong}
+use Rattle.parts.specs.Walks.{Walks, GoesAlong, StepsAlong}
 use Rattle.parts.proofs.Entries.{Entries, first-pair, rest-pairs, all-entries}
 use Rattle.parts.proofs.Steps.{add32-small, add32-back, upper, kept-walk}
 use Rattle.parts.proofs.RunWalk.{Fit, Along, along-run, none-left, enter-run, all-fit, all-along}
-use Rattle.paged_runs.specs.Steps.{pageOf, enteredBy, entered, next}
+use Rattle.paged_runs.specs.Steps.{pageOf, enteredBy, entered, nextIn, next}
 use Rattle.paged_runs.proofs.Allowed.{page-step}
+
+pub in-along : (b : List ℕ) (second step : ℕ) → GoesAlong (nextIn b second step)
+unfolding nextIn
+in-along b second step c h = rw (lt-ltb _ _ h)
 
 pub next-along : StepsAlong next
 unfolding next
-next-along b v c h = rw (lt-ltb _ _ h)
+next-along b v = in-along b (v .second) (v .step)
 
 pub page-next : (step : ℕ) (c : Cursor) → pageOf step c .next ≡ c .next
 unfolding pageOf
 page-next step c = cases (ltb (c .used) step) (λ t. rw t) (λ t. rw t)
 
--- at most one entry is read in a step
-pub next-near : (b : List ℕ) (v : View) (c : Cursor) → next b v c .next ≤ c .next + 1
-unfolding next alongRun entered enteredBy
-next-near b v c =
-    cases (ltb (c .at) (c .last))
-    (λ t. rw t (omega arith))
-    (λ t. rw (t, page-next (v .step) c) (most (c .next)))
-  where
-    most : (n : ℕ) → add32 n 1 ≤ n + 1
-    most n = unfold add32 in omega arith
-
 -- where the run ends, with the next entry x
 pub next-entered : (b : List ℕ) (v : View) (c p : Cursor) (x : Pair) → c .last ≤ c .at → p ≡ pageOf (v .step) c → x ≡ pairAt (v .second + 8 * p .next) b
     → enteredBy x p ≡ next b v c
-unfolding next entered
+unfolding next nextIn entered
 next-entered b v c p x h e f = rw (le-ltb (c .at) (c .last) h, f, e)
 
 -- a is the sum of the page's pairs so far, and base and empty say what stands before the page, while entries of the page are left
@@ -69,7 +62,7 @@ module _ (b : List ℕ) (w : View) (B : ℕ) (small : B < 2 ^ 32) (c : Cursor) (
   enter-entry : (q : Cursor) (a x : Span) (xs : List Span) → c .last ≤ c .at → Fit B e (x ∷ xs) → Along B c e v (x ∷ xs) (p ∷ ls)
       → q .rank ≡ c .rank → q .next ≡ c .next → q .base < 2 ^ 32 → add32 (q .base) 1 + a .cells ≡ e → q .empty + a .empty ≡ v
       → Entries b 4 (w .second) (2 * q .next) (flatSpans (plus a x ∷ sumsFrom (w .step) (w .step - q .used) (plus a x) xs))
-      → (entered b w q .at ≡ p) × Ahead b w B (entered b w q) ls
+      → (entered b (w .second) q .at ≡ p) × Ahead b w B (entered b (w .second) q) ls
   unfolding entered enteredBy flatSpans
   enter-entry q a x xs h f o qr qn qb qc qe es =
       let f0 = f .0 in
@@ -84,8 +77,8 @@ module _ (b : List ℕ) (w : View) (B : ℕ) (small : B < 2 ^ 32) (c : Cursor) (
       let g : add32 (upper c) (v + x .empty) ≡ e + x .empty = add32-small (upper c) (v + x .empty) (omega arith) ∙ omega arith in
       let k : add32 (q .base) (a .cells + x .cells) ≡ e + x .cells - 1
       = add32-back (q .base) (a .cells + x .cells) (add32 (q .base) 1) qb refl (omega arith) (omega arith) ∙ omega arith in
-      let y = enter-run B small c e v x xs p ls h f o (entered b w q) ru (rw (t, ru, s) g) (rw t k) m in
-      let at : entered b w q .at ≡ e + x .empty = rw (t, ru, s) g in (
+      let y = enter-run B small c e v x xs p ls h f o (entered b (w .second) q) ru (rw (t, ru, s) g) (rw t k) m in
+      let at : entered b (w .second) q .at ≡ e + x .empty = rw (t, ru, s) g in (
         y .0,
         record {
           e = e + x .cells;
@@ -106,7 +99,7 @@ module _ (b : List ℕ) (w : View) (B : ℕ) (small : B < 2 ^ 32) (c : Cursor) (
   next-entry : (xs : List Span) (a : Span) → c .last ≤ c .at → Fit B e xs → Along B c e v xs (p ∷ ls) → c .at < 2 ^ 32 → c .base < 2 ^ 32
       → (c .used < w .step → add32 (c .base) 1 + a .cells ≡ e) → (c .used < w .step → c .empty + a .empty ≡ v)
       → Entries b 4 (w .second) (2 * c .next) (flatSpans (sumsFrom (w .step) (w .step - c .used) a xs))
-      → (entered b w (pageOf (w .step) c) .at ≡ p) × Ahead b w B (entered b w (pageOf (w .step) c)) ls
+      → (entered b (w .second) (pageOf (w .step) c) .at ≡ p) × Ahead b w B (entered b (w .second) (pageOf (w .step) c)) ls
   unfolding pageOf sumsFrom
   next-entry [] a h f o fa fb uc ue es = absurd (none-left B small c e v p ls h o)
   next-entry (x ∷ xs) a h f o fa fb uc ue es =
@@ -125,7 +118,7 @@ module _ (b : List ℕ) (w : View) (B : ℕ) (small : B < 2 ^ 32) (c : Cursor) (
 
 turn : (b : List ℕ) (w : View) (B : ℕ) → B < 2 ^ 32 → (c : Cursor) (p : ℕ) (ls : List ℕ) → Ahead b w B c (p ∷ ls)
     → (next b w c .at ≡ p) × Ahead b w B (next b w c) ls
-unfolding next
+unfolding next nextIn
 turn b w B small c p ls a =
     cases (ltb (c .at) (c .last))
     (λ t.
@@ -189,7 +182,7 @@ pub walks : Walks pagesKind next
 walks =
     record {
       rank = λ b v c.
-          unfold next alongRun entered enteredBy pageOf in
+          unfold next nextIn alongRun entered enteredBy pageOf in
           cases (ltb (c .at) (c .last))
           (λ t. rw t)
           (λ t. rw t (cases (ltb (c .used) (v .step)) (λ u. rw u) (λ u. rw u)));

@@ -12,7 +12,7 @@ ghost use mathlib.Core.Bool.{true};
 ghost use Prim.Native.Nat.{_+_, _-_, _≤_};
 ghost use lib.ListN.{length};
 ghost use Rattle.parts.specs.Cursor.{steppedAs, Batch};
-ghost use Rattle.paged_runs.specs.Steps.{pageOf, enteredBy, next, There};
+ghost use Rattle.paged_runs.specs.Steps.{pageOf, enteredBy, nextIn, next, There, Filled};
 
 // The page of the next entry: the same, or the one after the run where the cursor stands at the end.
 fn page_of(step: u32, mut c: Cursor) -> Cursor
@@ -67,7 +67,7 @@ pub fn past(file: &[u8], v: View, c: Cursor, k: u32) -> Cursor
 
 // Whether the n entries from the cursor's next on are all there.
 fn all_there(file: &[u8], v: View, c: Cursor, n: usize) -> bool
-    ensures { λ r. ⌜ (r ≡ true → There (now (file .entry)) v c n) ⌝ }
+    ensures { λ r. ⌜ (r ≡ true → There (now (file .entry)) (v .second) c n) ⌝ }
 {
     if 65536 < n {
         return false;
@@ -77,7 +77,7 @@ fn all_there(file: &[u8], v: View, c: Cursor, n: usize) -> bool
 
 // The cursor at the next rank, where the next entry is there.
 fn next_there(file: &[u8], v: View, mut c: Cursor) -> Cursor
-    requires { ⌜ There (now file) v c 1 ⌝ }
+    requires { ⌜ There (now file) (v .second) c 1 ⌝ }
     ensures { λ r. ⌜ r ≡ next (now (file .entry)) v c ⌝ }
 {
     if c.at < c.last {
@@ -91,22 +91,66 @@ fn next_there(file: &[u8], v: View, mut c: Cursor) -> Cursor
 
 // k cells along the run, then one step, where the next entry is there.
 fn past_there(file: &[u8], v: View, c: Cursor, k: u32) -> Cursor
-    requires { ⌜ (k ≤ c .last - c .at) × There (now file) v c 1 ⌝ }
-    ensures { λ r. ⌜ (r ≡ steppedAs (next (now (file .entry)) v) c (k + 1)) × (r .next ≤ c .next + 1) ⌝ }
+    requires { ⌜ (k ≤ c .last - c .at) × There (now file) (v .second) c 1 ⌝ }
+    ensures { λ r. ⌜ r ≡ steppedAs (next (now (file .entry)) v) c (k + 1) ⌝ }
 {
     next_there(file, v, along_run(c, k))
 }
 
-// The positions of the ranks from the cursor on, where an entry for each is there.
+// Where a walk into a buffer stands: the cursor, and how many elements are filled.
+struct Ahead {
+    c: Cursor,
+    filled: usize,
+}
+
+// The positions of the ranks from the cursor on, into the elements from an index on, up to the last entry of the cursor's page. An entry for each is
+// there. The cursor stays in registers: no call takes it and gives it back.
+fn along_page(
+    file: &[u8],
+    second: usize,
+    step: u32,
+    mut c: Cursor,
+    out: &mut [u32],
+    from: usize,
+) -> Ahead
+    requires { ⌜ (from ≤ length (now out)) × There (now file) second c (length (now out) - from) ⌝ }
+    ensures { λ r. ⌜ Filled (nextIn (now (file .entry)) second step) c from (r .filled) (now (out .entry)) (r .c) (now (out .exit)) ⌝ }
+{
+    let mut i = from;
+    while i < out.len() {
+        if step <= c.used {
+            return Ahead { c, filled: i };
+        }
+        let m = fill_run(out, i, c);
+        i += m;
+        let more = (m - 1) as u32;
+        let at = c.at + more;
+        c.rank = wrapping_add_u32(wrapping_add_u32(c.rank, more), 1);
+        if at < c.last {
+            c.at = at + 1;
+        } else {
+            let x = get_pair(file, second + 8 * c.next as usize);
+            c.used += 1;
+            c.at = wrapping_add_u32(c.rank, wrapping_add_u32(c.empty, x.second));
+            c.next = wrapping_add_u32(c.next, 1);
+            c.last = wrapping_add_u32(c.base, x.first);
+        }
+    }
+    Ahead { c, filled: i }
+}
+
+// The positions of the ranks from the cursor on, where an entry for each is there: the last run of a page and the step to the next, then along it.
 fn along(file: &[u8], v: View, mut c: Cursor, out: &mut [u32]) -> Cursor
-    requires { ⌜ There (now file) v c (length (now out)) ⌝ }
+    requires { ⌜ There (now file) (v .second) c (length (now out)) ⌝ }
     ensures { λ r. ⌜ Batch (next (now (file .entry)) v) c (length (now (out .entry))) r (now (out .exit)) ⌝ }
 {
     let mut i: usize = 0;
     while i < out.len() {
         let m = fill_run(out, i, c);
         c = past_there(file, v, c, (m - 1) as u32);
-        i += m;
+        let s = along_page(file, v.second as usize, v.step, c, out, i + m);
+        c = s.c;
+        i = s.filled;
     }
     c
 }

@@ -2,13 +2,13 @@ use mathlib.Core.Path.{_∙_}
 use borrow.Author.Tests.{lt-ltb}
 use borrow.Author.Needs.{needs}
 use Rattle.parts.specs.Cursor.{add32, alongRun}
-use Rattle.paged_runs.specs.Steps.{next}
+use Rattle.paged_runs.specs.Steps.{nextIn, next}
 use Rattle.paged_runs.proofs.Walk.{next-entered}
 use Rattle.paged_runs.proofs.steps.next.Statement.{statement}
 use Rattle.paged_runs.proofs.steps.next.Tie as tie
 
 returns : tie.Need-returns
-unfolding next alongRun add32
+unfolding next nextIn alongRun add32
 returns c = rw (lt-ltb _ _ (c .before .before .if1 .taken), c .before .wrapping-add-u32 .ensures)
 
 returns-2 : tie.Need-returns-2

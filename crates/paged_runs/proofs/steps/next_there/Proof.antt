@@ -4,13 +4,13 @@ use borrow.Author.Tests.{lt-ltb}
 use borrow.Author.Needs.{needs}
 use Rattle.wire.proofs.Laws.{pair-there}
 use Rattle.parts.specs.Cursor.{add32, alongRun}
-use Rattle.paged_runs.specs.Steps.{next}
+use Rattle.paged_runs.specs.Steps.{nextIn, next}
 use Rattle.paged_runs.proofs.Walk.{page-next, next-entered}
 use Rattle.paged_runs.proofs.steps.next_there.Statement.{statement}
 use Rattle.paged_runs.proofs.steps.next_there.Tie as tie
 
 returns : tie.Need-returns
-unfolding next alongRun add32
+unfolding next nextIn alongRun add32
 returns c = rw (lt-ltb _ _ (c .before .before .if1 .taken), c .before .wrapping-add-u32 .ensures)
 
 -- the next entry is in the file
