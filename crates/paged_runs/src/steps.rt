@@ -75,26 +75,19 @@ fn all_there(file: &[u8], v: View, c: Cursor, n: usize) -> bool
     v.second as usize + 8 * (c.next as usize + n) <= file.len()
 }
 
-// The cursor at the next rank, where the next entry is there.
-fn next_there(file: &[u8], v: View, mut c: Cursor) -> Cursor
-    requires { ⌜ There (now file) (v .second) c 1 ⌝ }
-    ensures { λ r. ⌜ r ≡ next (now (file .entry)) v c ⌝ }
-{
-    if c.at < c.last {
-        c.rank = wrapping_add_u32(c.rank, 1);
-        c.at += 1;
-        return c;
-    }
-    let p = page_of(v.step, c);
-    enter(get_pair(file, v.second as usize + 8 * p.next as usize), p)
-}
-
 // k cells along the run, then one step, where the next entry is there.
 fn past_there(file: &[u8], v: View, c: Cursor, k: u32) -> Cursor
     requires { ⌜ (k ≤ c .last - c .at) × There (now file) (v .second) c 1 ⌝ }
     ensures { λ r. ⌜ r ≡ steppedAs (next (now (file .entry)) v) c (k + 1) ⌝ }
 {
-    next_there(file, v, along_run(c, k))
+    let mut d = along_run(c, k);
+    if d.at < d.last {
+        d.rank = wrapping_add_u32(d.rank, 1);
+        d.at += 1;
+        return d;
+    }
+    let p = page_of(v.step, d);
+    enter(get_pair(file, v.second as usize + 8 * p.next as usize), p)
 }
 
 // Where a walk into a buffer stands: the cursor, and how many elements are filled.

@@ -1,9 +1,8 @@
 -- `along` meets its contract. Each turn fills the cells of a run, steps past it, and goes along the page. Assumes nothing.
 use Prim.Native.Nat.{_+_, _-_}
-use mathlib.Core.Path.{_≡_, _∙_}
 use native.Mathlib.Omega.{arith}
 use lib.ListN.{length}
-use Rattle.paged_runs.specs.Steps.{nextIn, next, There, Filled}
+use Rattle.paged_runs.specs.Steps.{nextIn, next, Filled}
 use Rattle.paged_runs.proofs.Walk.{in-along}
 use Rattle.paged_runs.proofs.Pages.{filled-none, filled-then, filled-run, filled-all, still-there}
 use borrow.Author.Needs.{needs}

@@ -5,7 +5,7 @@ use native.Mathlib.Omega.{arith}
 use lib.ListN.{length}
 use Rattle.wire.proofs.Laws.{pair-there}
 use Rattle.parts.specs.Cursor.{add32}
-use Rattle.paged_runs.specs.Steps.{nextIn, There, Filled}
+use Rattle.paged_runs.specs.Steps.{nextIn, Filled}
 use Rattle.paged_runs.proofs.Walk.{in-along}
 use Rattle.paged_runs.proofs.Pages.{filled-none, filled-then, filled-run, still-there, in-run, in-page}
 use borrow.Author.Needs.{needs}
@@ -108,8 +108,14 @@ loop-again-2 c =
     let small = z .small in
     filled-then _ _ _ _ _ _ _ _ _ _ (l .inv)
     (filled-run _ (in-along _ _ _) (l .c) _ (l .i) (t .result) _ _ z
-    (rw (c .wrapping-add-u326 .ensures, c .before .wrapping-add-u325 .ensures, c .before .before .wrapping-add-u324 .ensures, c .before .before .before .wrapping-add-u323 .ensures,
-      w .wrapping-add-u322 .ensures, w .before .wrapping-add-u32 .ensures)
+    (rw (
+      c .wrapping-add-u326 .ensures,
+      c .before .wrapping-add-u325 .ensures,
+      c .before .before .wrapping-add-u324 .ensures,
+      c .before .before .before .wrapping-add-u323 .ensures,
+      w .wrapping-add-u322 .ensures,
+      w .before .wrapping-add-u32 .ensures,
+    )
     (in-page _ _ _ (l .c) (t .result - 1) (omega (arith, s .struct-known .given)) (omega arith) (omega arith) _ (g .before .before .if2 .left) (u .if1 .left)
     (g .get-pair .ensures .0 ∙ sym (pair-there _ _ (get-pair-requires (g .before) (g .get-pair .lifetimes)))))))
 
