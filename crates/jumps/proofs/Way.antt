@@ -10,13 +10,16 @@ use Rattle.format.specs.Bytes.{field}
 use Rattle.laws.proofs.Tools.{cases}
 use Rattle.parts.specs.declared.Cursor.{Cursor}
 use Rattle.parts.specs.Cursor.{movedTo, steppedAs}
+use Rattle.parts.specs.Walks.{Climbs}
 use Rattle.parts.proofs.Steps.{add32-small}
 use Rattle.parts.proofs.Sought.{sought-next}
-use Rattle.jumps.specs.declared.search.Reached.{Reached}
-use Rattle.jumps.specs.Walk.{stepBy, stepped, walked, Room}
-use Rattle.jumps.specs.Steps.{jumpFrom, jumpBy, next, nextAt, Climbs, OnWay}
-use Rattle.jumps.proofs.Groups.{earlier}
-use Rattle.jumps.proofs.Filled.{step-there, next-at}
+use Rattle.differences.specs.declared.walk.Reached.{Reached}
+use Rattle.differences.specs.Walk.{stepBy, stepped, walked, Room}
+use Rattle.differences.specs.Steps.{jumpFrom, jumpBy, nextAt}
+use Rattle.differences.proofs.Sums.{earlier}
+use Rattle.differences.proofs.Filled.{step-there}
+use Rattle.jumps.specs.Steps.{next, OnWay}
+use Rattle.jumps.proofs.Walks.{next-at}
 use Rattle.jumps.proofs.Laws.{walks}
 
 -- ---- a step
