@@ -16,8 +16,8 @@ use Rattle.laws.proofs.Bounds.{length-differences}
 use Rattle.laws.proofs.Positions.{jumps-back}
 use Rattle.wire.specs.Wire.{whole}
 use Rattle.parts.proofs.Entries.{Entries, first-field, first-entry, rest-entries}
-use Rattle.jumps.specs.declared.search.Reached.{Reached}
-use Rattle.jumps.specs.Walk.{stepBy, stepped, walked}
+use Rattle.differences.specs.declared.walk.Reached.{Reached}
+use Rattle.differences.specs.Walk.{stepBy, stepped, walked}
 use Rattle.jumps.proofs.Held.{Held}
 
 -- s is reached, and the ranks from r on have the positions ls and the differences ds

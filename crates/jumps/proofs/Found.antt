@@ -17,10 +17,11 @@ use Rattle.wire.proofs.Laws.{other-width}
 use Rattle.parts.specs.Holds.{Holds}
 use Rattle.parts.specs.Found.{FoundAmong, FoundIn, PositionIn}
 use Rattle.parts.proofs.Places.{rising-lt, found-here, found-gap}
-use Rattle.jumps.specs.declared.search.Reached.{Reached}
-use Rattle.jumps.specs.Walk.{stepped, walked, OfWidth}
+use Rattle.differences.specs.declared.walk.Reached.{Reached}
+use Rattle.differences.specs.Walk.{stepped, walked}
+use Rattle.differences.proofs.Walked.{origin}
+use Rattle.jumps.specs.Width.{OfWidth}
 use Rattle.jumps.proofs.Held.{Held, held}
-use Rattle.jumps.proofs.Walked.{origin}
 use Rattle.jumps.proofs.Ahead.{Reaches, reach-start, reach-next, reach-walk}
 
 -- a width that is not 1 is 2

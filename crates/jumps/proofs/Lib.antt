@@ -6,10 +6,8 @@ pub mod Held
 pub mod Parts
 -- The walks.
 pub mod Ahead
-pub mod Walked
 pub mod Found
 pub mod Walks
-pub mod Filled
 -- The encoder.
 pub mod Adds
 pub mod Taken

@@ -3,7 +3,7 @@ use Prim.Native.Nat.{ℕ, zero, suc, _+_, _-_, _*_, _^_, _≤_, _<_}
 use mathlib.Core.Path.{_≡_, refl, ap, _∙_}
 use mathlib.Core.Bool.{true, false}
 use mathlib.Core.List.{List, [], _∷_}
-use native.Mathlib.Nat.{mul-suc, mul-zero, add-zero, sub-zero, mul-le-mul-left}
+use native.Mathlib.Nat.{mul-suc, mul-zero, add-zero, sub-zero}
 use native.Mathlib.Numerals.{add-one}
 use native.Mathlib.Omega.{arith}
 use lib.ListN.{length, drop}
@@ -13,6 +13,7 @@ use borrow.Author.Tests.{le-leb, lt-leb}
 use Rattle.format.specs.declared.View.{View}
 use Rattle.format.specs.Bytes.{field, numbersOf}
 use Rattle.laws.proofs.Numbers.{numbers-turn, numbers-end}
+use Rattle.differences.proofs.Sums.{entry-inside}
 use Rattle.jumps.specs.Pass.{Laid, entriesFrom, passes, jumpsLeft, differencesLeft, passesFrom, passesOn, starts}
 
 -- ---- entries by index
@@ -32,10 +33,6 @@ module _ (w at n : ℕ) (b : List ℕ) where
       let e : n - i ≡ suc (n - (i + 1)) = omega arith in
       let p : at + w * i + w ≡ at + w * (i + 1) = rw (add-one, mul-suc) (omega arith) in
       rw (e, drop-drop w (at + w * i) b, p)
-
--- an entry's bytes lie in the part
-pub entry-inside : (w n i : ℕ) → i < n → w * i + w ≤ w * n
-entry-inside w n i h = let m : w * suc i ≤ w * n = mul-le-mul-left w h in rw mul-suc at m
 
 pub none : {n : ℕ} → n ≡ 0 → n ≤ 0
 none h = omega arith

@@ -1,6 +1,6 @@
 -- The cursor's steps go from position to position. Assumes nothing.
 use Prim.Native.Nat.{ℕ, _+_, _*_, _^_, _≤_}
-use mathlib.Core.Path.{_≡_}
+use mathlib.Core.Path.{_≡_, sym, ap, _∙_}
 use mathlib.Core.List.{List, _∷_}
 use native.Mathlib.Omega.{arith}
 use lib.ListN.{length}
@@ -15,11 +15,18 @@ use Rattle.wire.proofs.Laws.{entry-of}
 use Rattle.parts.specs.declared.Cursor.{Cursor}
 use Rattle.parts.specs.Cursor.{add32, before, movedTo, entryOf, walkedAs}
 use Rattle.parts.proofs.Steps.{add32-small, upper, RanksFit, upper-next, ranks-rest, kept-walk}
-use Rattle.jumps.specs.declared.search.Reached.{Reached}
-use Rattle.jumps.specs.Walk.{stepBy, stepped}
-use Rattle.jumps.specs.Steps.{jumpFrom, jumpBy, next}
+use Rattle.differences.specs.declared.walk.Reached.{Reached}
+use Rattle.differences.specs.Walk.{stepBy, stepped}
+use Rattle.differences.specs.Steps.{jumpFrom, jumpBy, nextAt}
+use Rattle.jumps.specs.Steps.{next}
 use Rattle.jumps.proofs.Held.{Held}
 use Rattle.jumps.proofs.Ahead.{Ahead, turned, there, ahead}
+
+-- the step by a view is that by its places, where the width is 1 or 2
+pub next-at : (b : List ℕ) (v : View) {w : ℕ} → v .width ≡ w → 1 ≤ w → w ≤ 2 → nextAt w (v .start) (v .second) b ≡ next b v
+unfolding nextAt next entryOf
+next-at b v {w} e h k =
+    ap {B = Cursor → Cursor} (λ (x : ℕ). λ c. jumpBy b (v .start) (whole x (v .second + x * add32 (c .rank) 1) b) c) (sym (ap entrySize e ∙ entry-of w h k))
 
 -- the cursor before the positions ls
 pub record AheadOf (b : List ℕ) (v : View) (c : Cursor) (ls : List ℕ) : Type 0 where

@@ -1,22 +1,20 @@
 -- On the way to the first position from p on: by a step, and over many ranks at once. Assumes nothing.
-use Prim.Native.Nat.{ℕ, zero, suc, _+_, _-_, _*_, _^_, _≤_, _<_}
+use Prim.Native.Nat.{ℕ, zero, suc, _+_, _-_, _^_, _≤_, _<_}
 use mathlib.Core.Path.{_≡_, refl, ap, _∙_}
 use mathlib.Core.List.{List}
-use native.Mathlib.Nat.{add-zero, le-refl}
+use native.Mathlib.Nat.{le-refl}
 use native.Mathlib.Omega.{arith}
-use lib.Dec.{eqb}
 use Rattle.format.specs.declared.View.{View}
-use Rattle.format.specs.Bytes.{field}
-use Rattle.laws.proofs.Tools.{cases}
 use Rattle.parts.specs.declared.Cursor.{Cursor}
-use Rattle.parts.specs.Cursor.{movedTo, steppedAs}
+use Rattle.parts.specs.Cursor.{steppedAs}
+use Rattle.parts.specs.Walks.{Climbs}
 use Rattle.parts.proofs.Steps.{add32-small}
 use Rattle.parts.proofs.Sought.{sought-next}
-use Rattle.jumps.specs.declared.search.Reached.{Reached}
-use Rattle.jumps.specs.Walk.{stepBy, stepped, walked, Room}
-use Rattle.jumps.specs.Steps.{jumpFrom, jumpBy, next, nextAt, Climbs, OnWay}
-use Rattle.jumps.proofs.Groups.{earlier}
-use Rattle.jumps.proofs.Filled.{step-there, next-at}
+use Rattle.differences.specs.declared.walk.Reached.{Reached}
+use Rattle.differences.specs.Walk.{walked, Room}
+use Rattle.differences.proofs.Follows.{placed, reached, stepped-last, follows}
+use Rattle.jumps.specs.Steps.{next, OnWay}
+use Rattle.jumps.proofs.Walks.{next-at}
 use Rattle.jumps.proofs.Laws.{walks}
 
 -- ---- a step
@@ -50,67 +48,6 @@ left-start c t zero e l n = absurd (n (e refl))
 left-start c t (suc k) e l n = l (omega arith)
 
 -- ---- many ranks at once
-
--- n ranks further than c, after so many jumps, at the position x
-abbrev pub placed : Cursor → ℕ → ℕ → ℕ → Cursor
-placed c n taken x =
-    record { rank = c .rank + n; at = x; next = taken; last = c .last; used = c .used; base = c .base; empty = c .empty }
-
--- as a search has it
-abbrev reached : Cursor → Reached
-reached c = record { position = c .at; taken = c .next }
-
-stepped-last : (f : Cursor → Cursor) (c : Cursor) (n : ℕ) → steppedAs f c (suc n) ≡ f (steppedAs f c n)
-unfolding steppedAs
-stepped-last f c zero = refl
-stepped-last f c (suc n) = stepped-last f (f c) n
-
--- the cursor u, n ranks further than c, stands where a search has reached s, as far as 32 bits hold the position
-record Follows (c : Cursor) (n : ℕ) (s : Reached) (u : Cursor) : Type 0 where
-  shape : u ≡ placed c n (s .taken) (u .at)
-  at : s .position < 2 ^ 32 → u .at ≡ s .position
-
-module _ (w start second : ℕ) (b : List ℕ) (c : Cursor) where
-  place-next : (n : ℕ) (s : Reached) (x : ℕ) → (s .position < 2 ^ 32 → x ≡ s .position) → Room w second b (c .rank + suc n)
-      → stepped w start second b (c .rank + suc n) s .taken < 2 ^ 32
-      → Follows c (suc n) (stepped w start second b (c .rank + suc n) s) (nextAt w start second b (placed c n (s .taken) x))
-  unfolding stepped stepBy jumpBy jumpFrom movedTo
-  place-next n s x f z h =
-      let d = field w (second + w * (c .rank + suc n)) b in
-      let q : c .rank + suc n ≡ c .rank + n + 1 = omega arith in
-      let k = z .rank in
-      let j = step-there w start second b (placed c n (s .taken) x) (rw q at z) {d = d} (rw q) in
-      let r = add32-small (c .rank + n) 1 (omega arith) in
-      cases (eqb d 0)
-      (λ e.
-      let m = rw e at h in
-      rw (← j, e, r, add32-small (s .taken) 1 m) (record { shape = rw q; at = λ i. refl }))
-      (λ e. rw (← j, e, r) (record { shape = rw q; at = λ i. rw (f (omega arith)) (add32-small (s .position) d i) }))
-
-  -- what a search from c on has reached after n ranks
-  abbrev at-rank : ℕ → Reached
-  at-rank n = walked w start second b (c .rank) n (reached c)
-
-  taken-up : (n : ℕ) → at-rank n .taken ≤ at-rank (suc n) .taken
-  unfolding walked stepped stepBy
-  taken-up n = cases (eqb (field w (second + w * (c .rank + suc n)) b) 0) (λ e. rw e (omega arith)) (λ e. rw e (omega arith))
-
-  follows-next : (n : ℕ) (u : Cursor) → Follows c n (at-rank n) u → Room w second b (c .rank + suc n) → at-rank (suc n) .taken < 2 ^ 32
-      → Follows c (suc n) (at-rank (suc n)) (nextAt w start second b u)
-  unfolding walked
-  follows-next n u f z h = let y = place-next n (at-rank n) (u .at) (f .at) z h in rw (← f .shape) at y
-
-  follows-start : Follows c 0 (at-rank 0) (steppedAs (nextAt w start second b) c 0)
-  unfolding walked steppedAs
-  follows-start = record { shape = rw (add-zero (c .rank)); at = λ i. refl }
-
-  -- the cursor goes with it, as long as 32 bits hold the number of jumps
-  follows : (n : ℕ) → Room w second b (c .rank + n) → at-rank n .taken < 2 ^ 32 → Follows c n (at-rank n) (steppedAs (nextAt w start second b) c n)
-  follows zero z h = follows-start
-  follows (suc n) z h =
-      let i = taken-up n in
-      let f = follows n (earlier w second b z (omega arith)) (omega arith) in
-      rw (stepped-last (nextAt w start second b) c n) (follows-next n (steppedAs (nextAt w start second b) c n) f z h)
 
 module _ (b : List ℕ) (v : View) (p : ℕ) (c : Cursor) where
   way-far : (m : ℕ) → v .words < 2 ^ 32 → c .rank + m ≤ v .words → ((i : ℕ) → i < m → steppedAs (next b v) c i .at < p)

@@ -1,8 +1,8 @@
 -- How positions go into jumps and differences (document 01, "The file"). Assumes nothing.
 use Prim.Native.Nat.{ℕ, _/_}
-use mathlib.Core.List.{List, [], _∷_}
+use mathlib.Core.List.{[]}
 use Rattle.format.specs.Bytes.{bytes}
-use Rattle.format.specs.Jumps.{difference, differencesFrom, jumpsOf}
+use Rattle.format.specs.Jumps.{difference}
 use Rattle.parts.specs.declared.Encoder.{Encoder}
 use Rattle.parts.specs.Encoder.{Coder, ifZero, unchanged, sizesAs}
 
@@ -25,12 +25,3 @@ jumpsCoder w =
 
 unfoldable pub coder : ℕ → ℕ → Coder
 coder w l = jumpsCoder w
-
--- the differences of all positions but the first, and the jumps among these positions
-unfoldable pub laterDifferences : ℕ → List ℕ → List ℕ
-laterDifferences w [] = []
-laterDifferences w (p ∷ ls) = differencesFrom w p ls
-
-unfoldable pub laterJumps : ℕ → List ℕ → List ℕ
-laterJumps w [] = []
-laterJumps w (p ∷ ls) = jumpsOf (differencesFrom w p ls) ls

@@ -1,4 +1,4 @@
 pub mod Pass
-pub mod Walk
+pub mod Width
 pub mod Steps
 pub mod Coding

@@ -1,8 +1,8 @@
 // The parts, checked in one pass.
-use super::differences::difference;
-use super::differences::next_group;
-use super::differences::sum;
-use super::differences::zeros;
+use differences::groups::difference;
+use differences::groups::next_group;
+use differences::groups::sum;
+use differences::groups::zeros;
 use format::View;
 use wire::get_u32;
 ghost use mathlib.Core.Path.{_≡_};

@@ -17,12 +17,11 @@ use Rattle.parts.specs.declared.walk.Walk.{Walk}
 use Rattle.parts.specs.Holds.{kindOf, Counted, Sized, said, partsRight, Holds}
 use Rattle.parts.specs.Found.{FoundIn, PositionIn}
 use Rattle.parts.specs.Cursor.{Batch}
-use Rattle.parts.specs.Walks.{sought}
+use Rattle.parts.specs.Walks.{sought, Climbs}
 use Rattle.parts.specs.Encoder.{Coder, endedBy, takenAllBy}
 use Rattle.parts.specs.Batch.{RoomAll, putAllBy}
 use Rattle.parts.specs.Codes.{Standing}
 use Rattle.parts.specs.Carried.{PutAs}
-use Rattle.jumps.specs.Steps.{Climbs}
 use Rattle.kinds.specs.Steps.{nextBy, nextOf, walked, steppedBy, soughtBy}
 use Rattle.kinds.specs.Coding.{coderOf, coder, takenAll, derived}
 

@@ -13,10 +13,10 @@ use Rattle.laws.proofs.Positions.{rising-le}
 use Rattle.parts.specs.declared.Cursor.{Cursor}
 use Rattle.parts.specs.Holds.{ViewOf}
 use Rattle.parts.specs.Cursor.{walkedAs, steppedAs}
+use Rattle.parts.specs.Walks.{Climbs}
 use Rattle.parts.proofs.Batches.{walked-as-add, length-walked-as}
 use Rattle.parts.proofs.Places.{rising-below}
 use Rattle.parts.proofs.Seen.{seen}
-use Rattle.jumps.specs.Steps.{Climbs}
 use Rattle.kinds.specs.Steps.{nextOf, startOf, walked, steppedBy}
 use Rattle.kinds.proofs.Laws.{walks}
 

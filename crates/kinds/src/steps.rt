@@ -8,7 +8,7 @@ ghost use mathlib.Core.Bool.{true};
 ghost use Prim.Native.Nat.{_+_, _-_, _≤_};
 ghost use lib.ListN.{length};
 ghost use Rattle.parts.specs.Holds.{kindOf};
-ghost use Rattle.jumps.specs.Steps.{Climbs};
+ghost use Rattle.parts.specs.Walks.{Climbs};
 ghost use Rattle.kinds.specs.Steps.{nextOf, startOf, walked, steppedBy, byWalk, soughtBy, storesRuns, runsOf};
 
 // The cursor at the next rank.

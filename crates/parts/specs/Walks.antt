@@ -1,5 +1,5 @@
 -- What a kind's step is to be: it goes to the next rank, and over parts that hold stored positions it walks along them. Assumes nothing.
-use Prim.Native.Nat.{ℕ, zero, suc, _<_}
+use Prim.Native.Nat.{ℕ, zero, suc, _+_, _≤_, _<_}
 use mathlib.Core.Path.{_≡_}
 use mathlib.Core.List.{List}
 use lib.ListN.{length}
@@ -8,7 +8,7 @@ use Rattle.format.specs.declared.View.{View}
 use Rattle.format.specs.Tools.{pick, both}
 use Rattle.format.specs.Codec.{Codec}
 use Rattle.parts.specs.declared.Cursor.{Cursor}
-use Rattle.parts.specs.Cursor.{add32, before, alongRun, walkedAs}
+use Rattle.parts.specs.Cursor.{add32, before, alongRun, walkedAs, steppedAs}
 use Rattle.parts.specs.Holds.{Holds}
 
 -- a step of the kind k, which is given by width and step
@@ -30,3 +30,7 @@ sought f n p zero c = c
 sought f n p (suc k) c =
     let later = sought f n p k (f c) in
     pick (both (ltb (c .rank) n) (ltb (c .at) p)) later c
+
+-- up to rank n the positions along the steps f from c never fall
+pub record Climbs (f : Cursor → Cursor) (n : ℕ) (c : Cursor) : Type 0 where
+  pub rise : (k m : ℕ) → c .rank + (k + m) < n → steppedAs f c k .at ≤ steppedAs f c (k + m) .at

@@ -3,8 +3,9 @@ use Prim.Native.Nat.{_+_, _-_}
 use mathlib.Core.Path.{sym, _∙_}
 use native.Mathlib.Omega.{arith}
 use borrow.Author.Tests.{eq-eqb}
-use Rattle.jumps.specs.Walk.{Room}
-use Rattle.jumps.proofs.Groups.{none-counted, group-room, group-goes}
+use Rattle.differences.specs.Walk.{Room}
+use Rattle.differences.proofs.Sums.{none-counted}
+use Rattle.jumps.proofs.Groups.{group-room, group-goes}
 use borrow.Author.Needs.{needs}
 use Rattle.jumps.proofs.check.pass_group.Statement.{statement}
 use Rattle.jumps.proofs.check.pass_group.Tie as tie

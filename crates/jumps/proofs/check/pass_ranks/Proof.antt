@@ -3,8 +3,9 @@ use Prim.Native.Nat.{ℕ, _+_, _*_, _-_, _≤_, _<_}
 use mathlib.Core.Path.{_≡_, refl, _∙_}
 use native.Mathlib.Nat.{pos-of-ne-zero, le-refl}
 use native.Mathlib.Omega.{arith}
+use Rattle.differences.proofs.Sums.{entry-inside}
 use Rattle.jumps.specs.Pass.{passesOn}
-use Rattle.jumps.proofs.Turns.{none, reach-most, entry-inside, turn-difference, turn-none, turn-near, turn-jump}
+use Rattle.jumps.proofs.Turns.{none, reach-most, turn-difference, turn-none, turn-near, turn-jump}
 use borrow.Author.Needs.{needs}
 use Rattle.jumps.proofs.check.pass_ranks.Statement.{statement}
 use Rattle.jumps.proofs.check.pass_ranks.Tie as tie

@@ -11,7 +11,8 @@ use Rattle.stores.proofs.Laws.{put-nil, length-put}
 use Rattle.parts.specs.Batch.{RoomAll}
 use Rattle.parts.proofs.Taking.{length-putBy}
 use Rattle.parts.proofs.Taken.{Writing, write-begin, write-next, write-end}
-use Rattle.jumps.specs.Coding.{jumpsCoder, coder, laterDifferences, laterJumps}
+use Rattle.differences.specs.Later.{laterDifferences, laterJumps}
+use Rattle.jumps.specs.Coding.{jumpsCoder, coder}
 use Rattle.jumps.proofs.Held.{widths}
 use Rattle.jumps.proofs.Turns.{none}
 use Rattle.jumps.proofs.Batch.{along-rising}

@@ -2,8 +2,8 @@
 use Prim.Native.Nat.{_+_, _-_, _<_}
 use native.Mathlib.Nat.{pos-of-ne-zero, mul-le-mul-right, le-refl}
 use native.Mathlib.Omega.{arith}
-use Rattle.jumps.specs.Walk.{Within}
-use Rattle.jumps.proofs.Walked.{room}
+use Rattle.differences.specs.Walk.{Within}
+use Rattle.differences.proofs.Walked.{room}
 use Rattle.jumps.proofs.Found.{Seeks, next-below, last-below, none, short, seeks-walk, seeks-next, stops, ends}
 use borrow.Author.Needs.{needs}
 use Rattle.jumps.proofs.search.seek.Statement.{statement}

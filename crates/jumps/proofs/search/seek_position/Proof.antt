@@ -1,7 +1,7 @@
 -- The position of a rank. Assumes nothing.
 use native.Mathlib.Nat.{mul-le-mul-right}
 use native.Mathlib.Omega.{arith}
-use Rattle.jumps.proofs.Walked.{room}
+use Rattle.differences.proofs.Walked.{room}
 use Rattle.jumps.proofs.Found.{position-short, position-found}
 use borrow.Author.Needs.{needs}
 use Rattle.jumps.proofs.search.seek_position.Statement.{statement}

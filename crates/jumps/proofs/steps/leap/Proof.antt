@@ -3,7 +3,7 @@ use Prim.Native.Nat.{_+_, _^_, _<_}
 use native.Mathlib.Nat.{lt-trans, lt-of-le-of-lt}
 use native.Mathlib.Omega.{arith}
 use borrow.Author.Tests.{not-false}
-use Rattle.jumps.specs.Walk.{Room}
+use Rattle.differences.specs.Walk.{Room}
 use Rattle.jumps.proofs.Way.{stay, leap-over}
 use borrow.Author.Needs.{needs}
 use Rattle.jumps.proofs.steps.leap.Statement.{statement}

@@ -4,8 +4,9 @@ use native.Mathlib.Omega.{arith}
 use lib.ListN.{length}
 use borrow.Author.Tests.{not-false}
 use Rattle.wire.proofs.Laws.{other-width}
-use Rattle.jumps.specs.Steps.{nextAt}
-use Rattle.jumps.proofs.Filled.{filled-batch, filled-length, next-at}
+use Rattle.differences.specs.Steps.{nextAt}
+use Rattle.differences.proofs.Filled.{filled-batch, filled-length}
+use Rattle.jumps.proofs.Walks.{next-at}
 use borrow.Author.Needs.{needs}
 use Rattle.jumps.proofs.steps.positions.Statement.{statement}
 use Rattle.jumps.proofs.steps.positions.Tie as tie

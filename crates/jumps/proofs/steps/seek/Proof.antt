@@ -4,7 +4,8 @@ use mathlib.Core.Path.{_≡_, refl, _∙_}
 use native.Mathlib.Omega.{arith}
 use Rattle.parts.specs.Walks.{sought}
 use Rattle.parts.proofs.Sought.{sought-end, sought-there}
-use Rattle.jumps.specs.Steps.{next, Climbs}
+use Rattle.parts.specs.Walks.{Climbs}
+use Rattle.jumps.specs.Steps.{next}
 use Rattle.jumps.proofs.steps.seek.Statement.{statement}
 use Rattle.jumps.proofs.steps.seek.Tie as tie
 
