@@ -17,7 +17,7 @@ use Rattle.laws.proofs.Tools.{cases, both-true, length-range}
 use Rattle.laws.proofs.Search.{seekFrom, Proper}
 use Rattle.parts.specs.declared.Found.{Found}
 use Rattle.parts.specs.Found.{countBelow, among}
-use Rattle.paged_runs.specs.Descent.{nowhere, answered}
+use Rattle.descent.specs.Descent.{nowhere, answered}
 
 -- ---- a position among others, r of which are counted already
 

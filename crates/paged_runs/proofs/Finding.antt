@@ -19,7 +19,7 @@ use Rattle.parts.specs.Found.{FoundAmong, FoundIn}
 use Rattle.parts.proofs.Places.{rising-below}
 use Rattle.levels.specs.Levels.{entries, sizesOf, sizesAbove, total, cut}
 use Rattle.levels.specs.Comparing.{Inside}
-use Rattle.paged_runs.specs.Descent.{counted, answered, descended, viewFits, searched}
+use Rattle.descent.specs.Descent.{counted, answered, descended, viewFits, searched}
 use Rattle.levels.proofs.Cutting.{sizes-enough, Cut, cut-levels}
 use Rattle.levels.proofs.Bounded.{proper-runs}
 use Rattle.paged_runs.proofs.Held.{inside, seconds-held, firsts-held, entries-held}

@@ -4,8 +4,6 @@ pub mod GoodPairs
 pub mod Along
 pub mod Held
 pub mod PartsAgain
-pub mod CheckSteps
-pub mod Whole
 pub mod Answering
 pub mod Finding
 -- The cursor and the encoder.

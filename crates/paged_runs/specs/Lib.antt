@@ -1,4 +1,3 @@
-pub mod Descent
 pub mod Passing
 pub mod Steps
 pub mod Coding

@@ -6,7 +6,7 @@ use native.Mathlib.Omega.{arith}
 use borrow.Author.Tests.{eq-eqb, ne-eqb}
 use borrow.Author.Needs.{needs}
 use Rattle.laws.proofs.Tools.{and-both}
-use Rattle.paged_runs.specs.Descent.{nowhere}
+use Rattle.descent.specs.Descent.{nowhere}
 use Rattle.paged_runs.proofs.Finding.{found-in}
 use Rattle.paged_runs.proofs.search.find.Statement.{statement}
 use Rattle.paged_runs.proofs.search.find.Tie as tie

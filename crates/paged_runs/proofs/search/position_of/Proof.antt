@@ -1,7 +1,7 @@
 -- `position_of` meets its contract. Assumes nothing.
 use borrow.Author.Tests.{eq-eqb, ne-eqb}
 use borrow.Author.Needs.{needs}
-use Rattle.paged_runs.specs.Descent.{nowhere}
+use Rattle.descent.specs.Descent.{nowhere}
 use Rattle.paged_runs.proofs.Finding.{position-found}
 use Rattle.paged_runs.proofs.search.position_of.Statement.{statement}
 use Rattle.paged_runs.proofs.search.position_of.Tie as tie

@@ -1,7 +1,7 @@
 -- `count` meets its contract. Assumes nothing.
 use borrow.Author.Needs.{needs}
-use Rattle.paged_runs.proofs.search.count.Statement.{statement}
-use Rattle.paged_runs.proofs.search.count.Tie as tie
+use Rattle.descent.proofs.search.count.Statement.{statement}
+use Rattle.descent.proofs.search.count.Tie as tie
 
 returns : tie.Need-returns
 returns c = rw (c .before .if1 .taken) (c .less .ensures)

@@ -11,7 +11,7 @@ use Rattle.format.specs.Tools.{both, within}
 use Rattle.format.specs.PagedRuns.{none, at}
 use Rattle.laws.proofs.Tools.{both-false}
 use Rattle.levels.specs.Levels.{entries, sizesOf, total, cut, Sized}
-use Rattle.paged_runs.specs.Descent.{nowhere, answered, descended, viewFits, searched, LevelsFit}
+use Rattle.descent.specs.Descent.{nowhere, answered, descended, viewFits, searched, LevelsFit}
 use Rattle.levels.proofs.LevelSizes.{total-take, cut-take}
 
 -- ---- refused views

@@ -1,9 +1,9 @@
 -- `search` meets its contract. Assumes nothing.
 use mathlib.Core.Path.{refl, sym, _∙_}
 use borrow.Author.Needs.{needs}
-use Rattle.paged_runs.proofs.Whole.{step-low, step-high, many-runs, short-file, from-top, top-fits}
-use Rattle.paged_runs.proofs.search.search.Statement.{statement}
-use Rattle.paged_runs.proofs.search.search.Tie as tie
+use Rattle.descent.proofs.Whole.{step-low, step-high, many-runs, short-file, from-top, top-fits}
+use Rattle.descent.proofs.search.search.Statement.{statement}
+use Rattle.descent.proofs.search.search.Tie as tie
 
 returns : tie.Need-returns
 returns c = sym (step-low _ _ _ _ (c .if1 .taken))

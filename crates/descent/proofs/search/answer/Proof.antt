@@ -1,7 +1,7 @@
 -- `answer` meets its contract. Assumes nothing.
 use borrow.Author.Needs.{needs}
-use Rattle.paged_runs.proofs.search.answer.Statement.{statement}
-use Rattle.paged_runs.proofs.search.answer.Tie as tie
+use Rattle.descent.proofs.search.answer.Statement.{statement}
+use Rattle.descent.proofs.search.answer.Tie as tie
 
 returns : tie.Need-returns
 returns c = rw (c .before .if1 .taken, c .long .ensures .0)

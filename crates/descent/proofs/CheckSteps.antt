@@ -15,7 +15,7 @@ use Rattle.format.specs.Runs.{Span}
 use Rattle.format.specs.PagedRuns.{none, Place, lost, at, walkFrom, stepDown, through}
 use Rattle.laws.proofs.Tools.{cases}
 use Rattle.levels.specs.Levels.{entries, cut}
-use Rattle.paged_runs.specs.Descent.{counted, ofEmpty, nowhere, answered, descended, walked, PageFits, LevelsFit}
+use Rattle.descent.specs.Descent.{counted, ofEmpty, nowhere, answered, descended, walked, PageFits, LevelsFit}
 use Rattle.levels.proofs.Reading.{length-entries}
 
 -- ---- places that differ in sums of cells only

@@ -7,21 +7,21 @@ use borrow.Author.Needs.{needs}
 use borrow.Fn.Kinds.{In}
 use borrow.Fn.PlainCycle.{Measures, is, falls, and}
 use Rattle.levels.specs.Levels.{spanOf}
-use Rattle.paged_runs.proofs.CheckSteps.{walk-end, descent-page, first-fits, page-fits, Walking, walking-first, walking-inside, walking-on, walking-leaf, walking-below, walking-down, walking-none}
-use Rattle.paged_runs.proofs.search.descend.Reads as descend
-use Rattle.paged_runs.proofs.search.descend.Kinds as descend-kinds
-use Rattle.paged_runs.proofs.search.+descend+page_walk.Lts-descend as descend-lts
-use Rattle.paged_runs.proofs.search.page_walk.Reads as page-walk
-use Rattle.paged_runs.proofs.search.page_walk.Kinds as page-walk-kinds
-use Rattle.paged_runs.proofs.search.+descend+page_walk.Lts-page_walk as page-walk-lts
+use Rattle.descent.proofs.CheckSteps.{walk-end, descent-page, first-fits, page-fits, Walking, walking-first, walking-inside, walking-on, walking-leaf, walking-below, walking-down, walking-none}
+use Rattle.descent.proofs.search.descend.Reads as descend
+use Rattle.descent.proofs.search.descend.Kinds as descend-kinds
+use Rattle.descent.proofs.search.+descend+page_walk.Lts-descend as descend-lts
+use Rattle.descent.proofs.search.page_walk.Reads as page-walk
+use Rattle.descent.proofs.search.page_walk.Kinds as page-walk-kinds
+use Rattle.descent.proofs.search.+descend+page_walk.Lts-page_walk as page-walk-lts
 use Rattle.levels.proofs.entry.pair_at.Reads as pair-at-reads
-use Rattle.paged_runs.proofs.search.count.Reads as count-reads
-use Rattle.paged_runs.proofs.search.less.Reads as less-reads
-use Rattle.paged_runs.proofs.search.answer.Reads as answer-reads
+use Rattle.descent.proofs.search.count.Reads as count-reads
+use Rattle.descent.proofs.search.less.Reads as less-reads
+use Rattle.descent.proofs.search.answer.Reads as answer-reads
 use Rattle.wire.proofs.numbers.lesser.Reads as lesser-reads
 use Rattle.levels.proofs.sizes.size_at.Reads as size-at-reads
-use Rattle.paged_runs.proofs.search.+descend+page_walk.{statement}
-use Rattle.paged_runs.proofs.search.+descend+page_walk.Tie.{close}
+use Rattle.descent.proofs.search.+descend+page_walk.{statement}
+use Rattle.descent.proofs.search.+descend+page_walk.Tie.{close}
 
 abbrev μ-descend : Measures 1 descend-kinds.ps ℕ
 μ-descend κs a = 2 * a .1 .1 .1 .1 .1 .0

@@ -1,0 +1,2 @@
+pub mod CheckSteps
+pub mod Whole
