@@ -1,0 +1,5 @@
+pub mod Behind
+pub mod OneRun
+pub mod Apart
+pub mod Copying
+pub mod Page
