@@ -50,7 +50,7 @@ module _ (b : List ℕ) (v : View) (c : Cursor) (m : ℕ) (w : Behind b v c m) (
 
   -- the entries that the page still takes behind t of them
   abbrev pub leftOn : ℕ → ℕ
-  leftOn t = ifZero t (e .left) (leftAfter s (e .left) + 1 - t)
+  leftOn t = ifZero t (e .left) (leftAfter s (e .left) - (t - 1))
 
   abbrev encoderAt : ℕ → Encoder
   encoderAt t = encoderOn e (cells t) (ranks t) t (leftOn t)
@@ -66,8 +66,8 @@ module _ (b : List ℕ) (v : View) (c : Cursor) (m : ℕ) (w : Behind b v c m) (
   left-on : (t : ℕ) → t < m → (leftOn (suc t) ≡ leftAfter s (leftOn t)) × (1 ≤ leftOn (suc t))
   left-on zero k = (omega arith, omega arith)
   left-on (suc t) k =
-      let l = leftAfter s (e .left) + 1 - suc t in
-      let z : leftAfter s (e .left) + 1 - suc (suc t) ≡ l - 1 = omega arith in
+      let l = leftAfter s (e .left) - (suc t - 1) in
+      let z : leftAfter s (e .left) - (suc (suc t) - 1) ≡ l - 1 = omega arith in
       (z ∙ left-next s l (λ h. omega arith), omega arith)
 
   same-last : e .last ≡ c .last

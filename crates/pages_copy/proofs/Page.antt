@@ -59,7 +59,7 @@ module _ (b : List ℕ) (v : View) (c : Cursor) (m : ℕ) (w : Behind b v c m) (
     bytes f g = copied b (v .second + 8 * (c .next - 1)) f g (e .second) m d
 
     abbrev after : Encoder
-    after = encoderOn e cells ranks m (leftAfter s (e .left) + 1 - m)
+    after = encoderOn e cells ranks m (leftAfter s (e .left) - (m - 1))
 
     module _ (f g : ℕ) (by-first : (f + x .first) % 2 ^ 32 ≡ e .last + 1 - e .cells) (f-small : f < 2 ^ 32)
         (by-second : (g + x .second) % 2 ^ 32 ≡ e .last + 1 - e .rank - e .empty) (g-small : g < 2 ^ 32) where
@@ -68,7 +68,7 @@ module _ (b : List ℕ) (v : View) (c : Cursor) (m : ℕ) (w : Behind b v c m) (
           let n = ranks in
           let k : ranks ≡ on.ranksOn b v c m w m = rw (first-is, last-is) in
           let z : n - ranks ≡ 0 = none-left ranks in
-          let l : leftOn b v c m w s e some same room m ≡ leftAfter s (e .left) + 1 - m = if-more m (e .left) _ (λ h. omega arith) in
+          let l : leftOn b v c m w s e some same room m ≡ leftAfter s (e .left) - (m - 1) = if-more m (e .left) _ (λ h. omega arith) in
           let t = gone b v c m w s e some same room d n f g (rw first-is at by-first) f-small (rw first-is at by-second) g-small
           (turn-now (next b v) (pagesCoder s) (next b v c) e n left most a) (turn-room-now (next b v) (pagesCoder s) (next b v c) e n left most (length d) r) m (le-refl m)
           (rw k (le-refl _)) in

@@ -101,7 +101,7 @@ fn put_page(
     let first = wrapping_sub_u32(end - e.cells, x.first);
     let second = wrapping_sub_u32(end - e.rank - e.empty, x.second);
     copy_pairs(dst, e.second, file, at, m as usize, first, second);
-    run_on(c, e, cells, ranks, m, room + 1 - m)
+    run_on(c, e, cells, ranks, m, room - (m - 1))
 }
 
 // The next n ranks.
