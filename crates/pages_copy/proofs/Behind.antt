@@ -3,6 +3,7 @@ use Prim.Native.Nat.{ℕ, zero, suc, _+_, _-_, _*_, _^_, _≤_, _<_}
 use mathlib.Core.Path.{_≡_, sym, ap, _∙_, subst}
 use mathlib.Core.List.{List, [], _∷_}
 use native.Mathlib.Nat.{add-zero}
+use native.Mathlib.Numerals.{add-one}
 use native.Mathlib.Omega.{arith}
 use lib.ListN.{length, drop}
 use Rattle.format.specs.declared.View.{View}
@@ -15,13 +16,14 @@ use Rattle.parts.specs.declared.Cursor.{Cursor}
 use Rattle.parts.specs.Cursor.{add32, before, steppedAs}
 use Rattle.parts.specs.Holds.{Holds}
 use Rattle.parts.specs.Carried.{Reached}
+use Rattle.parts.proofs.Batches.{stepped-as-add}
 use Rattle.parts.proofs.Entries.{Entries, first-pair, rest-pairs}
 use Rattle.parts.proofs.RunWalk.{Fit}
 use Rattle.paged_runs.specs.Steps.{next}
 use Rattle.paged_runs.proofs.GoodPairs.{Good}
 use Rattle.paged_runs.proofs.Along.{least-one}
 use Rattle.paged_runs.proofs.Held.{inside}
-use Rattle.paged_runs.proofs.Walk.{Ahead, turn, held-ahead}
+use Rattle.paged_runs.proofs.Walk.{Ahead, turn, held-ahead, walks}
 
 -- ---- the entries of a page
 
@@ -89,6 +91,14 @@ module _ (b : List ℕ) (v : View) (c : Cursor) (m : ℕ) (w : Behind b v c m) w
   pub pair-here : fieldPair (v .second + 8 * (c .next - 1)) b ≡ pairOn b v c 0
   pair-here = let z : v .second + 8 * (c .next - 1) + 8 * 0 ≡ v .second + 8 * (c .next - 1) = omega arith in rw z at (pair-on 0 (omega arith))
 
+-- a rank that was reached fits 32 bits
+pub reached-small : (b : List ℕ) (v : View) (words : ℕ) (c : Cursor) (n : ℕ) → Reached (next b v) words c n → c .rank < 2 ^ 32
+unfolding add32 steppedAs
+reached-small b v words c n q =
+    let o : c ≡ next b v (steppedAs (next b v) before (q .rank)) = q .steps ∙ ap (steppedAs (next b v) before) (sym (add-one (q .rank))) ∙ stepped-as-add (next b v) before (q .rank) 1 in
+    let e = ap (λ (x : Cursor). x .rank) o ∙ walks .rank b v _ in
+    omega arith
+
 -- the position and the rank where a run ends
 ends-at : (at rank e v B : ℕ) → at < 2 ^ 32 → rank < 2 ^ 32 → 1 ≤ e → e ≤ B → B ≤ 16777216 → add32 at 1 ≡ add32 rank 1 + v → add32 rank 1 + v + 0 ≡ e → at - rank ≡ v
     → (at + 1 ≡ e) × (at ≡ rank + v)
@@ -111,8 +121,8 @@ module _ (b : List ℕ) (v : View) (ls : List ℕ) (h : Holds (pagesKind (v .wid
         let s = h .size in
         subst (λ (x : Cursor). Ahead b v (v .cells) x (drop (suc (q .rank)) ls)) (sym (q .steps)) (ahead-by (suc (q .rank)) before ls (omega arith) (held-ahead b v ls h))
 
-    pub behind : (m : ℕ) → 1 ≤ m → c .rank < 2 ^ 32 → (c .at ≡ c .last) × (c .used + m ≤ v .step) × (c .next + m ≤ v .seconds) → Behind b v c m
-    behind m o r k =
+    pub behind : (m : ℕ) → 1 ≤ m → (c .at ≡ c .last) × (c .used + m ≤ v .step) × (c .next + m ≤ v .seconds) → Behind b v c m
+    behind m o k =
         let k0 = k .0 in
         let k1 = k .1 in
         let k2 = k .2 in
@@ -127,7 +137,7 @@ module _ (b : List ℕ) (v : View) (ls : List ℕ) (h : Holds (pagesKind (v .wid
         let y : suc (c .next - 1) ≡ c .next = omega arith in
         let x : pairOn b v c 0 ≡ record { first = a .a .cells; second = a .a .empty } = ap (λ (j : ℕ). pairAt (v .second + 8 * j) b) z ∙ d .pair in
         let n : c .last - c .at ≡ 0 = omega arith in
-        let t = ends-at (c .at) (c .rank) (a .e) (a .v) (v .cells) (a .at-fits) r (d .cell) (l .end) most (l .here) (rw n at (l .run)) (l .empties) in
+        let t = ends-at (c .at) (c .rank) (a .e) (a .v) (v .cells) (a .at-fits) (reached-small b v (v .words) c 1 q) (d .cell) (l .end) most (l .here) (rw n at (l .run)) (l .empties) in
         let t0 = t .0 in
         let t1 = t .1 in
         let e = a .cells u in

@@ -3,3 +3,4 @@ pub mod OneRun
 pub mod Apart
 pub mod Copying
 pub mod Page
+pub mod Turn

@@ -21,9 +21,8 @@ runs-here c =
     let p = c .before .before .before .before .before in
     let a = p .args in
     let m = c .before .runs-behind in
-    let g = p .good .1 .1 .1 .1 .0 in
     let h = c .if1 .left in
-    behind (a .file .now) (a .v) _ (p .pre .1) (a .c) (p .pre .2) (m .result) (omega arith) (omega arith) (m .ensures .1 (omega arith))
+    behind (a .file .now) (a .v) _ (p .pre .1) (a .c) (p .pre .2) (m .result) (omega arith) (m .ensures .1 (omega arith))
 
 -- the new page takes their entries
 room-here : (c : tie.Else1) → let a = c .before .before .before .before .before .args in c .before .runs-behind .result ≤ leftAfter (a .step) (a .e .left)
