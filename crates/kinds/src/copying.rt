@@ -1,4 +1,5 @@
 // Ranks of a file put out by the kind's own copying, where file and setting are of kinds that have one.
+use super::steps::stores_runs;
 use format::Setting;
 use format::View;
 use parts::Cursor;
@@ -20,8 +21,8 @@ ghost use Rattle.kinds.specs.Copying.{copiesTo};
 pub fn copies(kind: u32, to: u32) -> bool
     ensures { λ r. ⌜ (r ≡ true → copiesTo kind to) ⌝ }
 {
-    if kind == 1 {
-        return to == 1;
+    if stores_runs(kind) {
+        return to == kind;
     }
     false
 }
@@ -40,5 +41,8 @@ pub fn copy_ranks(
         × Along e (walkedAs (nextOf (now file) v) c n) × RoomAll (coder s) e (walkedAs (nextOf (now file) v) c n) (length (now dst)) ⌝ }
     ensures { λ r. ⌜ PutAs (nextOf (now (file .entry)) v) (coder s) c e n (now (dst .entry)) r (now (dst .exit)) ⌝ }
 {
-    runs_copy::copy::put_runs(dst, file, v, s.width, s.step, c, e, n)
+    if v.kind == 1 {
+        return runs_copy::copy::put_runs(dst, file, v, s.width, s.step, c, e, n);
+    }
+    pages_copy::put_runs(dst, file, v, s.width, s.step, c, e, n)
 }

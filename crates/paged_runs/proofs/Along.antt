@@ -30,7 +30,7 @@ use Rattle.paged_runs.proofs.GoodPairs.{Good, good-moved}
 
 -- ---- one entry, at the start of a page and within it
 
-least-one : (n : ℕ) → 0 < n → leastEmpty n ≡ 1
+pub least-one : (n : ℕ) → 0 < n → leastEmpty n ≡ 1
 least-one zero h = absurd (omega arith)
 least-one (suc n) h = refl
 

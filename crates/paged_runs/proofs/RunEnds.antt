@@ -79,7 +79,7 @@ module _ (e : Encoder) (p : ℕ) (h : 1 ≤ e .rank) where
   goes-on : p ≡ e .last + 1 → runEnds e p ≡ false
   goes-on q = sym (ends-later e p (λ z. omega arith)) ∙ ap not (eq-eqb p (e .last + 1) q)
 
-  breaks-off : (p ≡ e .last + 1 → ⊥) → runEnds e p ≡ true
+  pub breaks-off : (p ≡ e .last + 1 → ⊥) → runEnds e p ≡ true
   breaks-off q = sym (ends-later e p (λ z. omega arith)) ∙ ap not (ne-eqb p (e .last + 1) q)
 
 -- after p

@@ -31,7 +31,7 @@ unfolding alongBy alongRun
 along-more c m = rw (add32-one (c .rank) m, add32-in (c .at) m)
 
 module _ (f : Cursor → Cursor) (same : GoesAlong f) where
-  stepped-along : (m : ℕ) (c : Cursor) → c .rank < 2 ^ 32 → c .at + m < 2 ^ 32 → m ≤ c .last - c .at → steppedAs f c m ≡ alongBy m c
+  pub stepped-along : (m : ℕ) (c : Cursor) → c .rank < 2 ^ 32 → c .at + m < 2 ^ 32 → m ≤ c .last - c .at → steppedAs f c m ≡ alongBy m c
   unfolding steppedAs
   stepped-along zero c r a h = along-none c r (omega arith)
   stepped-along (suc m) c r a h =
