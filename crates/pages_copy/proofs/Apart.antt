@@ -21,6 +21,7 @@ pub record Apart (n : ℕ) (x y : Pair) (cells empty ranks : ℕ) : Type 0 where
   pub most : n + y .first ≤ 16777216
 
 module _ (b : List ℕ) (v : View) (c : Cursor) (m : ℕ) (w : Behind b v c m) where
+  -- the entry of the run t runs behind the cursor's, and the cells before the page
   abbrev pub X : ℕ → Pair
   X t = pairOn b v c t
 

@@ -6,13 +6,12 @@ use native.Mathlib.Nat.{sub-zero}
 use native.Mathlib.Omega.{arith}
 use lib.ListN.{length}
 use Rattle.format.specs.declared.View.{View}
-use Rattle.format.specs.Tools.{range}
 use Rattle.stores.specs.Put.{pair}
 use Rattle.parts.specs.declared.Cursor.{Cursor}
 use Rattle.parts.specs.declared.Encoder.{Encoder}
 use Rattle.parts.specs.Cursor.{add32, walkedAs}
-use Rattle.parts.specs.Encoder.{ifZero, leftAfter, takenAllBy}
-use Rattle.parts.specs.Batch.{Along, RoomAll, putAllBy}
+use Rattle.parts.specs.Encoder.{ifZero, leftAfter}
+use Rattle.parts.specs.Batch.{Along, RoomAll}
 use Rattle.parts.specs.Copied.{copied}
 use Rattle.parts.proofs.Copied.{shifted}
 use Rattle.parts.proofs.Taking.{left-next}

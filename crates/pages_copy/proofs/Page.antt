@@ -1,5 +1,5 @@
 -- Some ranks behind a cursor, put out by the entries of its page: what the code needs of its numbers, and what it leaves. Assumes nothing.
-use Prim.Native.Nat.{ℕ, suc, _+_, _-_, _*_, _%_, _^_, _≤_, _<_}
+use Prim.Native.Nat.{ℕ, _+_, _-_, _*_, _%_, _^_, _≤_, _<_}
 use mathlib.Core.Path.{_≡_, refl, sym, ap, _∙_}
 use mathlib.Core.List.{List}
 use native.Mathlib.Nat.{le-refl, add-zero}
@@ -10,10 +10,8 @@ use Rattle.wire.specs.declared.Pair.{Pair}
 use Rattle.wire.specs.Wire.{fieldPair}
 use Rattle.parts.specs.declared.Cursor.{Cursor}
 use Rattle.parts.specs.declared.Encoder.{Encoder}
-use Rattle.parts.specs.declared.walk.Walk.{Walk}
 use Rattle.parts.specs.Cursor.{walkedAs, steppedAs}
 use Rattle.parts.specs.Encoder.{Coder, leftAfter, takenAllBy}
-use Rattle.parts.specs.Ready.{Sound}
 use Rattle.parts.specs.Batch.{Along, RoomAll}
 use Rattle.parts.specs.Copied.{copied}
 use Rattle.parts.proofs.Taking.{if-more}

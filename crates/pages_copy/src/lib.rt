@@ -13,7 +13,7 @@ use std::num::wrapping_sub_u32;
 use wire::get_pair;
 ghost use mathlib.Core.Path.{_≡_};
 ghost use mathlib.Core.Bool.{true};
-ghost use Prim.Native.Nat.{_+_, _*_, _≤_, _<_};
+ghost use Prim.Native.Nat.{_+_, _≤_};
 ghost use lib.ListN.{length};
 ghost use Rattle.format.specs.PagedRuns.{pagesKind};
 ghost use Rattle.parts.specs.Cursor.{walkedAs};

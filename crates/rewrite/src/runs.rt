@@ -1,4 +1,4 @@
-// Ranks of a file put out run by run, where both the file's kind and the new one store runs.
+// Ranks of a file put out run by run, where both the file's kind and the new one store runs and the kinds differ.
 use format::Setting;
 use format::View;
 use kinds::coding::put_run;

@@ -26,7 +26,10 @@ runs-here c =
 
 -- the new page takes their entries
 room-here : (c : tie.Else1) → let a = c .before .before .before .before .before .args in c .before .runs-behind .result ≤ leftAfter (a .step) (a .e .left)
-room-here c = rw (c .before .before .left-after .ensures) at (c .before .runs-behind .ensures .0)
+room-here c =
+    let t = c .before .before .left-after .ensures in
+    let r = c .before .runs-behind .ensures .0 in
+    omega arith
 
 -- from the cursor's entry to the last of them
 apart-here : (c : tie.After-get-pair2)
