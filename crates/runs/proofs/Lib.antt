@@ -5,6 +5,7 @@ pub mod Body
 pub mod Before
 pub mod Lookup
 pub mod Walk
+pub mod Passing
 pub mod Adds
 pub mod Further
 pub mod Ends

@@ -1,6 +1,7 @@
 -- The cursor's step along kind 1's runs, as the code takes it. Assumes nothing.
-use Prim.Native.Nat.{ℕ, _+_, _*_}
+use Prim.Native.Nat.{ℕ, _+_, _*_, _≤_}
 use mathlib.Core.List.{List}
+use lib.ListN.{length}
 use lib.Dec.{ltb}
 use Rattle.format.specs.declared.View.{View}
 use Rattle.format.specs.Tools.{pick}
@@ -24,3 +25,7 @@ entered b v c =
 
 unfoldable pub next : List ℕ → View → Cursor → Cursor
 next b v c = pick (ltb (c .at) (c .last)) (alongRun c) (entered b v c)
+
+-- the n pairs from the cursor's next on are all in the file
+abbrev pub There : List ℕ → View → Cursor → ℕ → Type 0
+There b v c n = v .start + 8 * (c .next + n) ≤ length b

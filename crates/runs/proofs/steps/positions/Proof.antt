@@ -1,9 +1,9 @@
 -- `runs::steps::positions` meets its contract. Assumes nothing.
 use Prim.Native.Nat.{_-_, _≤_}
-use mathlib.Core.Path.{_≡_, refl, _∙_}
+use mathlib.Core.Path.{_≡_, refl, ap, _∙_}
 use native.Mathlib.Omega.{arith}
 use lib.ListN.{length}
-use Rattle.parts.proofs.Batches.{Partly, batch-start, batch-end}
+use Rattle.parts.proofs.Batches.{Partly, batch-start, batch-end, length-walked-as}
 use Rattle.parts.proofs.Fills.{stretch-turn}
 use Rattle.runs.specs.Steps.{next}
 use Rattle.runs.proofs.Walk.{next-along}
@@ -47,8 +47,11 @@ loop-again c =
     let room = z .room in
     (omega arith, z .filled .size ∙ l .inv .1, stretch-turn _ (next-along _ _) _ _ (l .c) _ _ _ (l .i) (t .result) (l .inv .1) z (c .past .ensures) (l .inv .2))
 
-returns : tie.Need-returns Inv-loop μ-loop
-returns c =
+same-length : tie.Need-same-length Inv-loop μ-loop
+same-length c = ap length (c .before .before .along .ensures .positions) ∙ length-walked-as _ _ _
+
+returns-2 : tie.Need-returns-2 Inv-loop μ-loop
+returns-2 c =
     let l = c .before .loop in
     batch-end _ _ _ (l .c) (l .out) (l .i) (c .loop-test .left) (l .inv .1) (l .inv .2)
 
@@ -58,6 +61,10 @@ positions-spec =
     (tie.spec
     Inv-loop
     μ-loop
+    (λ c κs. search needs)
+    (λ c κs. c .before .before .all-there .ensures (c .before .if1 .taken))
+    same-length
+    (λ c. c .before .before .along .ensures)
     loop-holds
     (λ c κs. search needs)
     sub-past
@@ -67,4 +74,4 @@ positions-spec =
     loop-less
     loop-again
     (λ c. c .before .loop .inv .1)
-    returns)
+    returns-2)
