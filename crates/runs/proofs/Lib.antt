@@ -2,7 +2,6 @@
 pub mod Pairs
 pub mod Accepts
 pub mod Body
-pub mod Before
 pub mod Lookup
 pub mod Walk
 pub mod Passing

@@ -23,9 +23,9 @@ use Rattle.parts.proofs.Places.{found-here, found-gap}
 use Rattle.parts.proofs.Entries.{Entries, first-pair, rest-pairs}
 use Rattle.parts.specs.Last.{Ascending, LastAtMost}
 use Rattle.parts.proofs.Last.{ascending-by}
-use Rattle.runs.specs.Before.{lastAt, emptyAt, cellsBefore, ranksBefore, LastRun}
+use Rattle.run_search.specs.Before.{lastAt, emptyAt, cellsBefore, ranksBefore, LastRun}
 use Rattle.runs.proofs.Body.{Inside, inside, held}
-use Rattle.runs.proofs.Before.{few-ranks}
+use Rattle.run_search.proofs.Before.{few-ranks}
 
 -- A run with the pair l and y, after g cells, whose first rank is f, among positions ls, the first of which has the rank o: it has a stored cell, and its positions
 -- stand in ls.

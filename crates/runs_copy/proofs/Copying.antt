@@ -26,7 +26,7 @@ use Rattle.parts.proofs.Copied.{shifted}
 use Rattle.parts.proofs.Taking.{ends-later, put-first}
 use Rattle.parts.proofs.Grown.{taken-range, put-range}
 use Rattle.parts.proofs.Carried.{Written, written-begin, Cells, written-turn}
-use Rattle.runs.specs.Before.{lastAt, emptyAt, ranksBefore}
+use Rattle.run_search.specs.Before.{lastAt, emptyAt, ranksBefore}
 use Rattle.runs.specs.Steps.{next}
 use Rattle.runs.specs.Coding.{runPair, runsCoder}
 use Rattle.runs_copy.specs.Copy.{atRun, ranOn}

@@ -26,7 +26,7 @@ use Rattle.parts.specs.Holds.{Holds}
 use Rattle.parts.specs.Copied.{copied}
 use Rattle.parts.proofs.Grown.{taken-range}
 use Rattle.parts.proofs.Carried.{Written}
-use Rattle.runs.specs.Before.{lastAt, emptyAt, ranksBefore}
+use Rattle.run_search.specs.Before.{lastAt, emptyAt, ranksBefore}
 use Rattle.runs.specs.Steps.{next}
 use Rattle.runs.specs.Coding.{runsCoder}
 use Rattle.runs_copy.specs.Copy.{atRun, atEnd, ranOn, BetweenRuns}

@@ -20,7 +20,7 @@ use Rattle.parts.proofs.Steps.{add32-small}
 use Rattle.parts.proofs.Entries.{Entries, rest-pairs}
 use Rattle.parts.proofs.Batches.{stepped-as-add}
 use Rattle.parts.proofs.Along.{past-along}
-use Rattle.runs.specs.Before.{lastAt, emptyAt, ranksBefore}
+use Rattle.run_search.specs.Before.{lastAt, emptyAt, ranksBefore}
 use Rattle.runs.specs.Steps.{entered, next}
 use Rattle.runs_copy.specs.Copy.{atRun, atEnd}
 use Rattle.runs.proofs.Body.{held}

@@ -6,7 +6,7 @@ use Rattle.format.specs.declared.View.{View}
 use Rattle.parts.specs.declared.Cursor.{Cursor}
 use Rattle.parts.specs.declared.Encoder.{Encoder}
 use Rattle.parts.specs.Cursor.{add32}
-use Rattle.runs.specs.Before.{lastAt, emptyAt, ranksBefore}
+use Rattle.run_search.specs.Before.{lastAt, emptyAt, ranksBefore}
 
 -- the cursor c at the first cell of run i
 unfoldable pub atRun : List ℕ → View → Cursor → ℕ → Cursor

@@ -3,7 +3,7 @@ use mathlib.Core.Path.{_≡_, refl, ap}
 use native.Mathlib.Omega.{arith}
 use borrow.Author.Tests.{ltb-true}
 use Rattle.wire.specs.declared.Pair.{Pair}
-use Rattle.runs.specs.Before.{emptyAt}
+use Rattle.run_search.specs.Before.{emptyAt}
 use Rattle.runs.proofs.Pairs.{unlike}
 use Rattle.runs.proofs.Lookup.{not-above, found-end, found-empty, found-stored}
 use borrow.Author.Needs.{needs}

@@ -2,7 +2,7 @@
 use mathlib.Core.Path.{_≡_, ap}
 use native.Mathlib.Omega.{arith}
 use Rattle.wire.specs.declared.Pair.{Pair}
-use Rattle.runs.specs.Before.{emptyAt}
+use Rattle.run_search.specs.Before.{emptyAt}
 use Rattle.runs.proofs.Lookup.{position}
 use borrow.Author.Needs.{needs}
 use Rattle.runs.proofs.search.position_of.Statement.{statement}

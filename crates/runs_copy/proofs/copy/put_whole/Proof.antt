@@ -5,7 +5,7 @@ use lib.ListN.{length}
 use Rattle.wire.specs.declared.Pair.{Pair}
 use Rattle.parts.specs.Copied.{copied}
 use Rattle.parts.proofs.Carried.{Written, written-end}
-use Rattle.runs.specs.Before.{lastAt, emptyAt, ranksBefore}
+use Rattle.run_search.specs.Before.{lastAt, emptyAt, ranksBefore}
 use Rattle.runs.specs.Steps.{next}
 use Rattle.runs.specs.Coding.{runsCoder}
 use Rattle.runs_copy.specs.Copy.{atRun, ranOn}

@@ -1,4 +1,4 @@
--- `runs::search::parts_ended` meets its contract. Assumes nothing.
+-- `run_search::search::parts_ended` meets its contract. Assumes nothing.
 use Prim.Native.Nat.{ℕ, suc, _+_, _-_, _*_, _≤_}
 use mathlib.Core.Path.{_≡_, sym, ap, _∙_}
 use native.Mathlib.Omega.{arith}
@@ -6,11 +6,11 @@ use lib.ListN.{length}
 use lib.Dec.{leb}
 use Rattle.parts.specs.Last.{passing}
 use Rattle.parts.proofs.Last.{passing-none, passing-next}
-use Rattle.runs.specs.Before.{cellsBefore}
-use Rattle.runs.proofs.Before.{cells-there, part-room}
+use Rattle.run_search.specs.Before.{cellsBefore}
+use Rattle.run_search.proofs.Before.{cells-there, part-room}
 use borrow.Author.Needs.{needs}
-use Rattle.runs.proofs.search.parts_ended.Statement.{statement}
-use Rattle.runs.proofs.search.parts_ended.Tie as tie
+use Rattle.run_search.proofs.search.parts_ended.Statement.{statement}
+use Rattle.run_search.proofs.search.parts_ended.Tie as tie
 
 abbrev Inv-loop : tie.InvT-loop
 Inv-loop file start low part n p count₀ i₀ count i = (i ≤ n) × (count ≤ i) × (count ≡ passing (λ k. leb (cellsBefore file start (low + part * k)) p) i)

@@ -1,15 +1,15 @@
--- `runs::search::run_at` meets its contract. Assumes nothing.
+-- `run_search::search::run_at` meets its contract. Assumes nothing.
 use Prim.Native.Nat.{ℕ, suc, _+_, _*_, _/_, _≤_, _<_}
 use mathlib.Core.Path.{_≡_, refl, subst}
 use native.Mathlib.Nat.{mul-le-mul-left}
 use native.Mathlib.Omega.{arith}
 use lib.ListN.{length}
 use Rattle.parts.proofs.Last.{Left, left-all, left-eighth, left-rest}
-use Rattle.runs.specs.Before.{cellsBefore}
-use Rattle.runs.proofs.Before.{cut, found}
+use Rattle.run_search.specs.Before.{cellsBefore}
+use Rattle.run_search.proofs.Before.{cut, found}
 use borrow.Author.Needs.{needs}
-use Rattle.runs.proofs.search.run_at.Statement.{statement}
-use Rattle.runs.proofs.search.run_at.Tie as tie
+use Rattle.run_search.proofs.search.run_at.Statement.{statement}
+use Rattle.run_search.proofs.search.run_at.Tie as tie
 
 -- what is left is in the file
 abbrev Inv-loop : tie.InvT-loop

@@ -1,10 +1,10 @@
--- `runs::search::ranks_below` meets its contract. Assumes nothing.
+-- `run_search::search::ranks_below` meets its contract. Assumes nothing.
 use Prim.Native.Nat.{suc, _-_}
 use native.Mathlib.Omega.{arith}
 use borrow.Author.Tests.{le-leb, lt-leb}
 use borrow.Author.Needs.{needs}
-use Rattle.runs.proofs.search.ranks_below.Statement.{statement}
-use Rattle.runs.proofs.search.ranks_below.Tie as tie
+use Rattle.run_search.proofs.search.ranks_below.Statement.{statement}
+use Rattle.run_search.proofs.search.ranks_below.Tie as tie
 
 returns : tie.Need-returns
 returns c =

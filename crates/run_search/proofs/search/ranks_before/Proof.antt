@@ -1,13 +1,13 @@
--- `runs::search::ranks_before` meets its contract. Assumes nothing.
+-- `run_search::search::ranks_before` meets its contract. Assumes nothing.
 use Prim.Native.Nat.{_-_}
 use mathlib.Core.Path.{_≡_, ap}
 use native.Mathlib.Omega.{arith}
 use Rattle.wire.specs.declared.Pair.{Pair}
-use Rattle.runs.specs.Before.{lastAt, emptyAt}
-use Rattle.runs.proofs.Before.{first-ranks, later-ranks}
+use Rattle.run_search.specs.Before.{lastAt, emptyAt}
+use Rattle.run_search.proofs.Before.{first-ranks, later-ranks}
 use borrow.Author.Needs.{needs}
-use Rattle.runs.proofs.search.ranks_before.Statement.{statement}
-use Rattle.runs.proofs.search.ranks_before.Tie as tie
+use Rattle.run_search.proofs.search.ranks_before.Statement.{statement}
+use Rattle.run_search.proofs.search.ranks_before.Tie as tie
 
 returns : tie.Need-returns
 returns c = let a = c .before .before .args in first-ranks (a .file .now) (a .start) (a .j) (c .if1 .taken)

@@ -1,9 +1,9 @@
--- `runs::search::ends_before` meets its contract. Assumes nothing.
+-- `run_search::search::ends_before` meets its contract. Assumes nothing.
 use Prim.Native.Nat.{suc}
 use native.Mathlib.Omega.{arith}
 use borrow.Author.Tests.{le-leb, lt-leb}
-use Rattle.runs.proofs.search.ends_before.Statement.{statement}
-use Rattle.runs.proofs.search.ends_before.Tie as tie
+use Rattle.run_search.proofs.search.ends_before.Statement.{statement}
+use Rattle.run_search.proofs.search.ends_before.Tie as tie
 
 returns : tie.Need-returns
 returns c = let t = c .if1 .taken in (rw (le-leb (suc (c .before .args .last)) (c .before .args .p) (omega arith)), omega arith)

@@ -10,7 +10,7 @@ use Rattle.wire.specs.declared.Pair.{Pair}
 use Rattle.wire.specs.Wire.{fieldPair}
 use Rattle.wire.proofs.Laws.{pair-there}
 use Rattle.parts.specs.Last.{LastAtMost}
-use Rattle.runs.specs.Before.{lastAt, emptyAt, cellsBefore, ranksBefore, LastRun}
+use Rattle.run_search.specs.Before.{lastAt, emptyAt, cellsBefore, ranksBefore, LastRun}
 
 module _ (b : List ℕ) (s : ℕ) where
   pub first-ranks : (j : ℕ) → j ≡ 0 → 0 ≡ ranksBefore b s j

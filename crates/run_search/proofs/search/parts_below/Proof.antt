@@ -1,4 +1,4 @@
--- `runs::search::parts_below` meets its contract. Assumes nothing.
+-- `run_search::search::parts_below` meets its contract. Assumes nothing.
 use Prim.Native.Nat.{ℕ, suc, _+_, _-_, _*_, _≤_}
 use mathlib.Core.Path.{_≡_, sym, ap, _∙_}
 use native.Mathlib.Omega.{arith}
@@ -7,11 +7,11 @@ use lib.Dec.{leb}
 use Rattle.wire.specs.declared.Pair.{Pair}
 use Rattle.parts.specs.Last.{passing}
 use Rattle.parts.proofs.Last.{passing-none, passing-next}
-use Rattle.runs.specs.Before.{ranksBefore}
-use Rattle.runs.proofs.Before.{ranks-there, part-room}
+use Rattle.run_search.specs.Before.{ranksBefore}
+use Rattle.run_search.proofs.Before.{ranks-there, part-room}
 use borrow.Author.Needs.{needs}
-use Rattle.runs.proofs.search.parts_below.Statement.{statement}
-use Rattle.runs.proofs.search.parts_below.Tie as tie
+use Rattle.run_search.proofs.search.parts_below.Statement.{statement}
+use Rattle.run_search.proofs.search.parts_below.Tie as tie
 
 abbrev Inv-loop : tie.InvT-loop
 Inv-loop file start low part n r count₀ i₀ count i = (i ≤ n) × (count ≤ i) × (count ≡ passing (λ k. leb (ranksBefore file start (low + part * k)) r) i)

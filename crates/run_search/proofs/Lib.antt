@@ -1,0 +1,2 @@
+-- The laws of what stands before a run.
+pub mod Before
