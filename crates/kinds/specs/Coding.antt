@@ -15,7 +15,7 @@ use Rattle.runs.specs.Coding as runs
 use Rattle.positions.specs.Coding as positions
 use Rattle.base_offset.specs.Coding as based
 use Rattle.jumps.specs.Coding as jumps
-use Rattle.paged_runs.specs.Coding as paged
+use Rattle.page_entries.specs.Coding as paged
 
 unfoldable pub noCoder : Coder
 noCoder =

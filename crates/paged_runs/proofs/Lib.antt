@@ -9,8 +9,6 @@ pub mod Finding
 -- The cursor and the encoder.
 pub mod Walk
 pub mod Pages
-pub mod OneEntry
-pub mod RunEnds
 pub mod Codes
 -- The upper levels, made of level 0.
 pub mod FirstPart

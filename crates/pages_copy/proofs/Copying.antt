@@ -17,9 +17,9 @@ use Rattle.parts.proofs.Copied.{shifted}
 use Rattle.parts.proofs.Taking.{left-next}
 use Rattle.parts.proofs.Carried.{Written, written-begin, written-turn}
 use Rattle.paged_runs.specs.Steps.{next}
-use Rattle.paged_runs.specs.Coding.{pageEntry, pagesCoder}
+use Rattle.page_entries.specs.Coding.{pageEntry, pagesCoder}
 use Rattle.paged_runs.proofs.Walk.{next-along}
-use Rattle.paged_runs.proofs.OneEntry.{keeps-pages}
+use Rattle.page_entries.proofs.OneEntry.{keeps-pages}
 use Rattle.pages_copy.specs.Page.{encoderOn}
 use Rattle.pages_copy.proofs.Behind.{pairOn, Behind, pair-on}
 use Rattle.pages_copy.proofs.OneRun.{in-cells, begins-at, stepped, taken, put-entry}

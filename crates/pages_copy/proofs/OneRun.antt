@@ -22,10 +22,10 @@ use Rattle.parts.proofs.Taking.{if-more, put-second}
 use Rattle.parts.proofs.Grown.{taken-range, put-range}
 use Rattle.parts.proofs.Carried.{Cells}
 use Rattle.paged_runs.specs.Steps.{pageOf, enteredBy, entered, nextIn, next}
-use Rattle.paged_runs.specs.Coding.{pageEntry, pagesCoder}
+use Rattle.page_entries.specs.Coding.{pageEntry, pagesCoder}
 use Rattle.paged_runs.proofs.Walk.{next-along}
-use Rattle.paged_runs.proofs.OneEntry.{pages-entry, pages-turn, lengthens-pages}
-use Rattle.paged_runs.proofs.RunEnds.{breaks-off}
+use Rattle.page_entries.proofs.OneEntry.{pages-entry, pages-turn, lengthens-pages}
+use Rattle.page_entries.proofs.RunEnds.{breaks-off}
 use Rattle.pages_copy.specs.Page.{cursorOn, encoderOn}
 
 -- the first stored cell of the run of the entry x, where so many ranks are behind the cursor c

@@ -17,9 +17,9 @@ use Rattle.parts.proofs.Along.{stepped-along, past-along, stretch-inside}
 use Rattle.parts.proofs.Grown.{taken-range}
 use Rattle.parts.proofs.Carried.{Cells, run-asked}
 use Rattle.paged_runs.specs.Steps.{next}
-use Rattle.paged_runs.specs.Coding.{pagesCoder}
+use Rattle.page_entries.specs.Coding.{pagesCoder}
 use Rattle.paged_runs.proofs.Walk.{next-along}
-use Rattle.paged_runs.proofs.OneEntry.{lengthens-pages}
+use Rattle.page_entries.proofs.OneEntry.{lengthens-pages}
 use Rattle.pages_copy.proofs.Behind.{reached-small}
 
 -- some ranks further

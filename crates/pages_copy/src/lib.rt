@@ -21,7 +21,7 @@ ghost use Rattle.parts.specs.Holds.{Holds, said};
 ghost use Rattle.parts.specs.Batch.{Along, RoomAll};
 ghost use Rattle.parts.specs.Carried.{PutAs, Reached};
 ghost use Rattle.paged_runs.specs.Steps.{next};
-ghost use Rattle.paged_runs.specs.Coding.{pagesCoder, coder};
+ghost use Rattle.page_entries.specs.Coding.{pagesCoder, coder};
 ghost use Rattle.pages_copy.specs.Page.{cursorOn, encoderOn, Fits, Further};
 
 // How many runs behind the cursor's are in its page, at most `room`; 0 where the cursor is not at the end of its run.

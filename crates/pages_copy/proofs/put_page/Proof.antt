@@ -6,7 +6,7 @@ use lib.ListN.{length}
 use Rattle.parts.specs.Encoder.{leftAfter}
 use Rattle.parts.specs.Copied.{copied}
 use Rattle.paged_runs.specs.Steps.{next}
-use Rattle.paged_runs.specs.Coding.{pagesCoder}
+use Rattle.page_entries.specs.Coding.{pagesCoder}
 use Rattle.pages_copy.specs.Page.{cursorOn, encoderOn, Fits, Further}
 use Rattle.pages_copy.proofs.Behind.{Behind, behind, entry-there}
 use Rattle.pages_copy.proofs.Apart.{Apart, N}

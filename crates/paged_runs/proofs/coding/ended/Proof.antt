@@ -2,8 +2,8 @@ use Prim.Native.Nat.{ℕ, _+_}
 use mathlib.Core.Path.{ap, _∙_}
 use native.Mathlib.Nat.{add-zero}
 use lib.ListN.{length}
-use Rattle.paged_runs.specs.Coding.{coder}
-use Rattle.paged_runs.proofs.OneEntry.{length-entry, end-none, end-entry, ended-at}
+use Rattle.page_entries.specs.Coding.{coder}
+use Rattle.page_entries.proofs.OneEntry.{length-entry, end-none, end-entry, ended-at}
 use borrow.Author.Needs.{needs}
 use Rattle.paged_runs.proofs.coding.ended.Statement.{statement}
 use Rattle.paged_runs.proofs.coding.ended.Tie as tie

@@ -3,8 +3,8 @@ use mathlib.Core.Path.{_≡_, sym, ap, _∙_}
 use native.Mathlib.Omega.{arith}
 use lib.ListN.{length}
 use Rattle.stores.proofs.Laws.{put-nil}
-use Rattle.paged_runs.specs.Coding.{pageEntry, pagesCoder, coder}
-use Rattle.paged_runs.proofs.OneEntry.{length-entry, end-none, end-entry, end-put}
+use Rattle.page_entries.specs.Coding.{pageEntry, pagesCoder, coder}
+use Rattle.page_entries.proofs.OneEntry.{length-entry, end-none, end-entry, end-put}
 use borrow.Author.Needs.{needs}
 use Rattle.paged_runs.proofs.coding.finish.Statement.{statement}
 use Rattle.paged_runs.proofs.coding.finish.Tie as tie

@@ -1,5 +1,5 @@
 use mathlib.Core.Path.{_∙_}
-use Rattle.paged_runs.specs.Coding.{pagesCoder, coder}
+use Rattle.page_entries.specs.Coding.{pagesCoder, coder}
 use Rattle.paged_runs.proofs.Codes.{level-alone}
 use Rattle.paged_runs.proofs.FirstPart.{level-out}
 use borrow.Author.Needs.{needs}

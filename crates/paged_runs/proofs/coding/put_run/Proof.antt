@@ -3,9 +3,9 @@ use mathlib.Core.Path.{_∙_}
 use native.Mathlib.Omega.{arith}
 use lib.ListN.{length}
 use Rattle.parts.proofs.Grown.{grow-fits, grown-range, room-range, put-range}
-use Rattle.paged_runs.specs.Coding.{pagesCoder, coder}
+use Rattle.page_entries.specs.Coding.{pagesCoder, coder}
 use Rattle.paged_runs.proofs.Allowed.{page-step}
-use Rattle.paged_runs.proofs.OneEntry.{lengthens-pages}
+use Rattle.page_entries.proofs.OneEntry.{lengthens-pages}
 use borrow.Author.Needs.{needs}
 use Rattle.paged_runs.proofs.coding.put_run.Statement.{statement}
 use Rattle.paged_runs.proofs.coding.put_run.Tie as tie

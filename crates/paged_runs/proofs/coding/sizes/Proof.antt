@@ -1,5 +1,5 @@
 use native.Mathlib.Omega.{arith}
-use Rattle.paged_runs.specs.Coding.{pagesCoder, coder}
+use Rattle.page_entries.specs.Coding.{pagesCoder, coder}
 use Rattle.paged_runs.proofs.Allowed.{page-step}
 use borrow.Author.Needs.{needs}
 use Rattle.paged_runs.proofs.coding.sizes.Statement.{statement}

@@ -5,12 +5,12 @@ use lib.ListN.{length, drop, getD}
 use Rattle.laws.proofs.Stored.{rising-length}
 use Rattle.parts.proofs.Taken.{Writing, write-begin, write-next, write-end}
 use Rattle.parts.specs.Batch.{grown}
-use Rattle.paged_runs.specs.Coding.{pagesCoder}
-use Rattle.paged_runs.proofs.OneEntry.{keeps-pages, lengthens-pages}
-use Rattle.paged_runs.proofs.RunEnds.{Ending, Ended, end-here, last-here, grown-fits, next-run}
+use Rattle.page_entries.specs.Coding.{pagesCoder}
+use Rattle.page_entries.proofs.OneEntry.{keeps-pages, lengthens-pages}
+use Rattle.page_entries.proofs.RunEnds.{Ending, Ended, end-here, last-here, grown-fits, next-run}
 use borrow.Author.Needs.{needs}
-use Rattle.paged_runs.proofs.coding.put_ends.Statement.{statement}
-use Rattle.paged_runs.proofs.coding.put_ends.Tie as tie
+use Rattle.page_entries.proofs.batch.put_ends.Statement.{statement}
+use Rattle.page_entries.proofs.batch.put_ends.Tie as tie
 
 abbrev Inv-loop : tie.InvT-loop
 Inv-loop dst₀ step ps ends at₀ taken₀ t₀ dst at taken t = Ending (pagesCoder step) ps at₀ dst₀ at dst taken (drop t ends)

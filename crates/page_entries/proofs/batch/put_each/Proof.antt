@@ -2,11 +2,11 @@ use Prim.Native.Nat.{_-_}
 use native.Mathlib.Omega.{arith}
 use lib.ListN.{length}
 use Rattle.parts.proofs.Taken.{Writing, write-begin, write-next, write-turn, write-end}
-use Rattle.paged_runs.specs.Coding.{pagesCoder}
-use Rattle.paged_runs.proofs.OneEntry.{keeps-pages}
+use Rattle.page_entries.specs.Coding.{pagesCoder}
+use Rattle.page_entries.proofs.OneEntry.{keeps-pages}
 use borrow.Author.Needs.{needs}
-use Rattle.paged_runs.proofs.coding.put_each.Statement.{statement}
-use Rattle.paged_runs.proofs.coding.put_each.Tie as tie
+use Rattle.page_entries.proofs.batch.put_each.Statement.{statement}
+use Rattle.page_entries.proofs.batch.put_each.Tie as tie
 
 abbrev Inv-loop : tie.InvT-loop
 Inv-loop dst₀ step ps at₀ i₀ dst at i = Writing (pagesCoder step) ps at₀ dst₀ at dst i

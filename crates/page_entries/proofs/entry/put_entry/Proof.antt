@@ -2,10 +2,10 @@ use mathlib.Core.Path.{_≡_, refl, ap, _∙_}
 use native.Mathlib.Omega.{arith}
 use lib.ListN.{length}
 use Rattle.parts.proofs.Taking.{put-second, length-putBy}
-use Rattle.paged_runs.specs.Coding.{pageEntry, pagesCoder}
-use Rattle.paged_runs.proofs.OneEntry.{length-entry, pages-entry}
-use Rattle.paged_runs.proofs.coding.put_entry.Statement.{statement}
-use Rattle.paged_runs.proofs.coding.put_entry.Tie as tie
+use Rattle.page_entries.specs.Coding.{pageEntry, pagesCoder}
+use Rattle.page_entries.proofs.OneEntry.{length-entry, pages-entry}
+use Rattle.page_entries.proofs.entry.put_entry.Statement.{statement}
+use Rattle.page_entries.proofs.entry.put_entry.Tie as tie
 
 put-pair-requires : tie.Need-put-pair-requires
 put-pair-requires c κs =

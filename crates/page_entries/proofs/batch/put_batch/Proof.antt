@@ -3,12 +3,12 @@ use native.Mathlib.Omega.{arith}
 use lib.Seq.{length-take-le}
 use Rattle.laws.proofs.Stored.{rising-weaken}
 use Rattle.parts.proofs.Taken.{write-begin, write-next}
-use Rattle.paged_runs.specs.Coding.{pagesCoder}
-use Rattle.paged_runs.proofs.OneEntry.{keeps-pages}
-use Rattle.paged_runs.proofs.RunEnds.{rest-asks, rest-gives}
+use Rattle.page_entries.specs.Coding.{pagesCoder}
+use Rattle.page_entries.proofs.OneEntry.{keeps-pages}
+use Rattle.page_entries.proofs.RunEnds.{rest-asks, rest-gives}
 use borrow.Author.Needs.{needs}
-use Rattle.paged_runs.proofs.coding.put_batch.Statement.{statement}
-use Rattle.paged_runs.proofs.coding.put_batch.Tie as tie
+use Rattle.page_entries.proofs.batch.put_batch.Statement.{statement}
+use Rattle.page_entries.proofs.batch.put_batch.Tie as tie
 
 list-ends-requires : tie.Need-list-ends-requires
 list-ends-requires c κs =

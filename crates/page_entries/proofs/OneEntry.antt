@@ -15,7 +15,7 @@ use Rattle.parts.specs.Ready.{Next, Keeps, moved}
 use Rattle.parts.proofs.Taking.{if-zero, if-more, if-le, pick-most, taken-moved}
 use Rattle.parts.proofs.Sounds.{Kept, ends-some, sound-by}
 use Rattle.parts.proofs.Grown.{Lengthens}
-use Rattle.paged_runs.specs.Coding.{pageEntry, paged, pagesCoder}
+use Rattle.page_entries.specs.Coding.{pageEntry, paged, pagesCoder}
 
 pub length-entry : (e : Encoder) → length (pageEntry e) ≡ 8
 unfolding pageEntry

@@ -1,8 +1,8 @@
 use mathlib.Core.Path.{sym, _∙_}
-use Rattle.paged_runs.proofs.OneEntry.{pages-on}
+use Rattle.page_entries.proofs.OneEntry.{pages-on}
 use borrow.Author.Needs.{needs}
-use Rattle.paged_runs.proofs.coding.pages_taken.Statement.{statement}
-use Rattle.paged_runs.proofs.coding.pages_taken.Tie as tie
+use Rattle.page_entries.proofs.entry.pages_taken.Statement.{statement}
+use Rattle.page_entries.proofs.entry.pages_taken.Tie as tie
 
 after-run-requires : tie.Need-after-run-requires
 after-run-requires c κs = let p = c .before .before .pre in (p .0, p .1, sym (c .before .run-ends .ensures) ∙ c .if1 .taken)

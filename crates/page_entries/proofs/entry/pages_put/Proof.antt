@@ -3,11 +3,11 @@ use mathlib.Core.Path.{_≡_, refl, sym, ap, _∙_}
 use lib.ListN.{length}
 use Rattle.parts.specs.Encoder.{runEnds}
 use Rattle.parts.proofs.Taking.{put-none, length-putBy}
-use Rattle.paged_runs.specs.Coding.{pagesCoder}
-use Rattle.paged_runs.proofs.OneEntry.{pages-none, pages-on}
+use Rattle.page_entries.specs.Coding.{pagesCoder}
+use Rattle.page_entries.proofs.OneEntry.{pages-none, pages-on}
 use borrow.Author.Needs.{needs}
-use Rattle.paged_runs.proofs.coding.pages_put.Statement.{statement}
-use Rattle.paged_runs.proofs.coding.pages_put.Tie as tie
+use Rattle.page_entries.proofs.entry.pages_put.Statement.{statement}
+use Rattle.page_entries.proofs.entry.pages_put.Tie as tie
 
 put-entry-requires : tie.Need-put-entry-requires
 put-entry-requires c κs = let p = c .before .before .before .before .pre in (p .0, p .1, p .2, sym (c .before .before .run-ends .ensures) ∙ c .before .if1 .taken)

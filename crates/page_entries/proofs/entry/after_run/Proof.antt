@@ -1,10 +1,10 @@
 use mathlib.Core.Path.{sym, _∙_}
 use mathlib.Core.Logic.{⊎-elim}
 use Rattle.parts.proofs.Taking.{if-zero, if-more}
-use Rattle.paged_runs.proofs.OneEntry.{pages-turn}
+use Rattle.page_entries.proofs.OneEntry.{pages-turn}
 use borrow.Author.Needs.{needs}
-use Rattle.paged_runs.proofs.coding.after_run.Statement.{statement}
-use Rattle.paged_runs.proofs.coding.after_run.Tie as tie
+use Rattle.page_entries.proofs.entry.after_run.Statement.{statement}
+use Rattle.page_entries.proofs.entry.after_run.Tie as tie
 
 returns : tie.Need-returns
 returns c =
