@@ -8,7 +8,7 @@ use native.Mathlib.Omega.{arith}
 use lib.ListN.{length, getD, length-append, List·getD-append}
 use lib.Seq.{getD-append-add}
 use lib.Dec.{ltb}
-use borrow.Author.Tests.{leb-true, leb-false, ltb-true, ltb-false, lt-ltb}
+use borrow.Author.Tests.{ltb-true, ltb-false, lt-ltb}
 use Rattle.format.specs.declared.View.{View}
 use Rattle.format.specs.Tools.{range}
 use Rattle.format.specs.Runs.{Run, runs, spansFrom, spans, positionsFrom, flatRuns, runParts, runsKind}
@@ -24,7 +24,7 @@ use Rattle.parts.proofs.Entries.{Entries, first-pair, rest-pairs}
 use Rattle.parts.specs.Last.{Ascending, LastAtMost}
 use Rattle.parts.proofs.Last.{ascending-by}
 use Rattle.run_search.specs.Before.{lastAt, emptyAt, cellsBefore, ranksBefore, LastRun}
-use Rattle.runs.proofs.Body.{Inside, inside, held}
+use Rattle.runs.proofs.Body.{inside, held}
 use Rattle.run_search.proofs.Before.{few-ranks}
 
 -- A run with the pair l and y, after g cells, whose first rank is f, among positions ls, the first of which has the rank o: it has a stored cell, and its positions
