@@ -7,7 +7,8 @@ use lib.ListN.{length, drop}
 use lib.Dec.{leb, ltb, eqb}
 use Rattle.format.specs.declared.View.{View}
 use Rattle.format.specs.Tools.{both, first}
-use Rattle.format.specs.Bytes.{numbersOf}
+use Rattle.format.specs.Bytes.{field, numbersOf}
+use Rattle.parts.specs.Encoder.{ifZero}
 use Rattle.jumps.specs.declared.check.Passed.{Passed}
 
 -- jumps of 4 bytes in the first part, and in front of the second part a difference of 1 or 2 bytes for each stored word
@@ -68,6 +69,11 @@ pub record Goes (w second : ℕ) (b : List ℕ) (i end : ℕ) (s t : Passed) : T
   pub least : t .least ≤ 4295032832 + 65536 * end
   pub same : (words bound : ℕ) → end ≤ words
       → passesOn w second words bound b (s .least) (s .left) i ≡ both (t .right) (passesOn w second words bound b (t .least) (t .left) end)
+
+-- the sum of the differences of rank k and the next, or 0 where one of them is a jump
+unfoldable pub bothNear : ℕ → ℕ → List ℕ → ℕ → ℕ
+bothNear w second b k =
+    ifZero (field w (second + w * k) b) 0 (ifZero (field w (second + w * (k + 1)) b) 0 (field w (second + w * k) b + field w (second + w * (k + 1)) b))
 
 -- rank 0 has the difference 0
 unfoldable pub starts : View → List ℕ → Bool

@@ -6,10 +6,11 @@ use differences::groups::zeros;
 use format::View;
 use wire::get_u32;
 ghost use mathlib.Core.Path.{_≡_};
-ghost use Prim.Native.Nat.{_+_, _^_};
+ghost use Prim.Native.Nat.{_+_, _*_, _^_, _≤_, _<_};
+ghost use lib.ListN.{length};
 ghost use Rattle.format.specs.Jumps.{jumpsKind};
 ghost use Rattle.parts.specs.Holds.{Counted, partsRight};
-ghost use Rattle.jumps.specs.Pass.{Laid, Readable, Goes, passesFrom, starts};
+ghost use Rattle.jumps.specs.Pass.{Laid, Readable, Goes, bothNear, passesFrom, starts};
 
 // Rank 0 has the difference 0.
 fn starts_right(file: &[u8], v: View) -> bool
@@ -30,7 +31,60 @@ pub struct Passed {
     pub right: bool,
 }
 
-// Over the ranks from i on up to an end, one by one; `reach` is the least distance that a difference does not reach.
+// Over rank k; `reach` is the least distance that a difference does not reach.
+fn pass_rank(file: &[u8], second: usize, width: u32, reach: usize, k: usize, s: Passed) -> Passed
+    requires { ⌜ Readable width second (now file) k (k + 1) s × (reach ≡ 256 ^ width) ⌝ }
+    ensures { λ t. ⌜ Goes width second (now (file .entry)) k (k + 1) s t ⌝ }
+{
+    let least = s.least;
+    let left = s.left;
+    let d = difference(file, second, k, width);
+    if d != 0 {
+        return Passed {
+            least: least + d as usize,
+            left,
+            right: true,
+        };
+    }
+    if left == 0 {
+        return Passed {
+            least,
+            left,
+            right: false,
+        };
+    }
+    let jump = get_u32(file, second - 4 * left) as usize;
+    if jump < least {
+        return Passed {
+            least,
+            left,
+            right: false,
+        };
+    }
+    Passed {
+        least: jump + reach,
+        left: left - 1,
+        right: true,
+    }
+}
+
+// The sum of the differences of rank k and the next, or 0 where one of them is a jump.
+fn both_near(file: &[u8], second: usize, width: u32, k: usize) -> u32
+    requires { ⌜ (1 ≤ width) × (width ≤ 2) × (k < 2 ^ 32) × (second + width * (k + 1) + width ≤ length (now file)) ⌝ }
+    ensures { λ x. ⌜ (x ≡ bothNear width second (now (file .entry)) k) × (x < 131072) ⌝ }
+{
+    let d = difference(file, second, k, width);
+    let e = difference(file, second, k + 1, width);
+    if d == 0 {
+        return 0;
+    }
+    if e == 0 {
+        return 0;
+    }
+    d + e
+}
+
+// Over the ranks from i on up to an end: two at once where neither is a jump, else one.
 fn pass_ranks(
     file: &[u8],
     second: usize,
@@ -43,39 +97,26 @@ fn pass_ranks(
     requires { ⌜ Readable width second (now file) i end s × (reach ≡ 256 ^ width) ⌝ }
     ensures { λ t. ⌜ Goes width second (now (file .entry)) i end s t ⌝ }
 {
-    let mut least = s.least;
-    let mut left = s.left;
+    let mut t = s;
+    t.right = true;
     let mut k = i;
-    while k < end {
-        let d = difference(file, second, k, width);
-        k += 1;
-        if d != 0 {
-            least += d as usize;
+    while k + 1 < end {
+        let two = both_near(file, second, width, k);
+        if two != 0 {
+            t.least += two as usize;
+            k += 2;
         } else {
-            if left == 0 {
-                return Passed {
-                    least,
-                    left,
-                    right: false,
-                };
+            t = pass_rank(file, second, width, reach, k, t);
+            if !t.right {
+                return t;
             }
-            let jump = get_u32(file, second - 4 * left) as usize;
-            if jump < least {
-                return Passed {
-                    least,
-                    left,
-                    right: false,
-                };
-            }
-            left -= 1;
-            least = jump + reach;
+            k += 1;
         }
     }
-    Passed {
-        least,
-        left,
-        right: true,
+    if k < end {
+        return pass_rank(file, second, width, reach, k, t);
     }
+    t
 }
 
 // The same. 128 ranks after rank 0 without a jump are taken by their sum.

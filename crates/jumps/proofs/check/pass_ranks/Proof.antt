@@ -1,143 +1,133 @@
--- A pass over some ranks, one by one. Assumes nothing.
+-- A pass over some ranks: two at once, or one. Assumes nothing.
 use Prim.Native.Nat.{ℕ, _+_, _*_, _-_, _≤_, _<_}
-use mathlib.Core.Path.{_≡_, refl, _∙_}
+use mathlib.Core.Path.{_≡_, refl}
+use mathlib.Core.Bool.{true}
+use mathlib.Core.List.{List}
 use native.Mathlib.Nat.{pos-of-ne-zero, le-refl}
 use native.Mathlib.Omega.{arith}
+use borrow.Author.Tests.{not-true, not-false}
 use Rattle.differences.proofs.Sums.{entry-inside}
-use Rattle.jumps.specs.Pass.{passesOn}
-use Rattle.jumps.proofs.Turns.{none, reach-most, turn-difference, turn-none, turn-near, turn-jump}
+use Rattle.jumps.specs.declared.check.Passed.{Passed}
+use Rattle.jumps.specs.Pass.{Goes}
+use Rattle.jumps.proofs.Groups.{goes-on, goes-wrong, goes-nowhere, goes-two, readable-part}
 use borrow.Author.Needs.{needs}
 use Rattle.jumps.proofs.check.pass_ranks.Statement.{statement}
 use Rattle.jumps.proofs.check.pass_ranks.Tie as tie
 
-jumps-left : {n m second : ℕ} → n ≤ m → 4 * m ≤ second → 4 * n ≤ second
-jumps-left h k = omega arith
-
-jump-inside : {n second l : ℕ} (x : ℕ) → 0 < n → 4 * n ≤ second → second + x ≤ l → second - 4 * n + 4 ≤ l
-jump-inside x h k m = omega arith
-
--- rank k is reached, and what is left tells the whole
+-- rank k is reached, and all was right
 abbrev Inv-loop : tie.InvT-loop
-Inv-loop file second width reach i end least₀ left₀ k₀ least left k =
-    (k ≤ end)
-    × (left ≤ left₀)
-    × (least ≤ 4295032832 + 65536 * k)
-    × ((words bound : ℕ) → end ≤ words → passesOn width second words bound file least₀ left₀ i ≡ passesOn width second words bound file least left k)
+Inv-loop file second width reach i end t₀ k₀ t k = (i ≤ k) × (k ≤ end) × (t .right ≡ true) × Goes width second file i k t₀ t
 
 abbrev μ-loop : tie.MeasureT-loop
-μ-loop file second width reach i end least₀ left₀ k₀ least left k = end - k
+μ-loop file second width reach i end t₀ k₀ t k = end - k
 
--- where a turn comes from
-abbrev start : tie.In-loop Inv-loop μ-loop → tie.Start Inv-loop μ-loop
-start c = c .before .before .before
-
-reaches : (c : tie.Start Inv-loop μ-loop) → c .args .reach ≤ 65536
-reaches c = reach-most (c .pre .1) (c .pre .0 .wide)
+-- whether all was right before counts for nothing
+from : {w second i k : ℕ} {b : List ℕ} {s t : Passed} → Goes w second b i k (record { least = s .least; left = s .left; right = true }) t → Goes w second b i k s t
+from g = record { left = g .left; least = g .least; same = g .same }
 
 loop-holds : tie.Need-loop-holds Inv-loop μ-loop
-loop-holds c = let z = c .before .pre .0 in (z .onward, le-refl _, z .least, λ words bound h. refl)
+loop-holds c =
+    let o = c .before in
+    let a = o .args in
+    let z = o .pre .0 in
+    (le-refl _, z .onward, refl, goes-nowhere (a .width) (a .second) (a .file .now) (a .i) (record { least = a .s .least; left = a .s .left; right = true }) (z .least) refl)
 
-difference-requires : tie.Need-difference-requires Inv-loop μ-loop
-difference-requires c κs =
-    let z = start c .pre .0 in
-    let i = z .inside in
-    let m = entry-inside (start c .args .width) (start c .args .end) (c .before .loop .k) (c .loop-test .taken) in
-    (z .narrow, z .wide, omega arith)
+both-near-requires : tie.Need-both-near-requires Inv-loop μ-loop
+both-near-requires c κs =
+    let o = c .before .before .before in
+    let z = o .pre .0 in
+    let n = z .inside in
+    let r = z .ranks in
+    let h = c .loop-test .taken in
+    let m = entry-inside (o .args .width) (o .args .end) (c .before .loop .k + 1) h in
+    (z .narrow, z .wide, omega arith, omega arith)
 
-add-least : tie.Need-add-least Inv-loop μ-loop
-add-least c = let z = start (c .before .before) .pre .0 .ranks in omega arith
+add-t : tie.Need-add-t Inv-loop μ-loop
+add-t c =
+    let r = c .before .before .before .before .before .before .pre .0 .ranks in
+    let m = c .before .before .before .before .loop .inv .3 .least in
+    let x = c .before .before .both-near .ensures .1 in
+    let h = c .before .before .before .loop-test .taken in
+    omega arith
 
 loop-again : tie.Need-loop-again Inv-loop μ-loop
 loop-again c =
-    let t = c .before .before in
-    let a = start t .args in
-    let l = t .before .loop in
-    let h = t .loop-test .taken in
-    let d = c .before .difference .ensures in
-    let d1 = d .1 in (
+    let a = c .before .before .before .before .before .before .args in
+    let l = c .before .before .before .before .loop in
+    let v = l .inv in
+    let i = v .0 in
+    let h = c .before .before .before .loop-test .taken in
+    let x = c .before .before .both-near .ensures in (
       omega arith,
-      l .inv .1,
       omega arith,
-      λ words bound m.
-          l .inv .3 words bound m
-          ∙ turn-difference (a .width) (a .second) words bound (a .file .now) (l .least) (l .left) (l .k) (omega arith) (d .0) (pos-of-ne-zero (c .if1 .taken)),
+      v .2,
+      rw (v .2) (goes-on (a .width) (a .second) (a .file .now) (a .i) (l .k) (l .k + 2) (v .3) (omega arith) (v .2)
+          (goes-two (a .width) (a .second) (a .file .now) (l .k) (l .t) (x .0) (pos-of-ne-zero (c .before .if1 .taken)) (x .1) (v .3 .least))),
+    )
+
+pass-rank-requires : tie.Need-pass-rank-requires Inv-loop μ-loop
+pass-rank-requires c κs =
+    let o = c .before .before .before .before .before in
+    let a = o .args in
+    let l = c .before .before .before .loop in
+    let h = c .before .before .loop-test .taken in (
+      readable-part (a .width) (a .second) (a .file .now) (a .i) (a .end) (a .s) (o .pre .0) (l .k) (l .k + 1) (omega arith) (omega arith) (l .inv .3 .left)
+          (l .inv .3 .least),
+      o .pre .1,
     )
 
 returns : tie.Need-returns Inv-loop μ-loop
 returns c =
-    let t = c .before .before .before in
-    let a = start t .args in
-    let l = t .before .loop in
-    let h = t .loop-test .taken in
-    record {
-      left = l .inv .1;
-      least = omega arith;
-      same = λ words bound m.
-          l .inv .3 words bound m
-          ∙ turn-none (a .width) (a .second) words bound (a .file .now) (l .least) (l .left) (l .k) (omega arith) (c .before .before .difference .ensures .0)
-          (c .before .if1 .left) (none (c .if2 .taken));
-    }
-
--- a jump is left, and lies in the file
-more : (c : tie.Else2 Inv-loop μ-loop) → 0 < c .before .before .before .before .loop .left
-more c = pos-of-ne-zero (c .if2 .left)
-
-jumps : (c : tie.Else2 Inv-loop μ-loop) → 4 * c .before .before .before .before .loop .left ≤ start (c .before .before .before) .args .second
-jumps c = jumps-left (c .before .before .before .before .loop .inv .1) (start (c .before .before .before) .pre .0 .jumps)
-
-mul-get-u32 : tie.Need-mul-get-u32 Inv-loop μ-loop
-mul-get-u32 c = let h = jumps c in omega arith
-
-sub-get-u32 : tie.Need-sub-get-u32 Inv-loop μ-loop
-sub-get-u32 c = jumps c
-
-get-u32-requires : tie.Need-get-u32-requires Inv-loop μ-loop
-get-u32-requires c κs = jump-inside _ (more c) (jumps c) (start (c .before .before .before) .pre .0 .inside)
-
-returns-2 : tie.Need-returns-2 Inv-loop μ-loop
-returns-2 c =
-    let e = c .before .before in
-    let t = e .before .before .before in
-    let a = start t .args in
-    let l = t .before .loop in
-    let h = t .loop-test .taken in
-    record {
-      left = l .inv .1;
-      least = omega arith;
-      same = λ words bound m.
-          l .inv .3 words bound m
-          ∙ turn-near (a .width) (a .second) words bound (a .file .now) (l .least) (l .left) (l .k) (omega arith) (e .before .before .difference .ensures .0)
-          (e .before .if1 .left) (more e) (jumps e) (c .before .get-u32 .ensures .0) (c .if3 .taken);
-    }
-
-add-least-2 : tie.Need-add-least-2 Inv-loop μ-loop
-add-least-2 c = let m = reaches (start (c .before .before .before .before .before)) in let r = c .before .get-u32 .ensures .1 in omega arith
+    let a = c .before .before .before .before .before .before .before .before .args in
+    let l = c .before .before .before .before .before .before .loop in
+    let h = c .before .before .before .before .before .loop-test .taken in
+    from
+    (goes-on (a .width) (a .second) (a .file .now) (a .i) (l .k) (a .end) (l .inv .3) (l .inv .1) (l .inv .2)
+    (goes-wrong (a .width) (a .second) (a .file .now) (l .k) (l .k + 1) (a .end) (c .before .before .pass-rank .ensures) (omega arith)
+    (not-true (c .before .before .pass-rank .result .right) (c .if2 .taken))))
 
 loop-again-2 : tie.Need-loop-again-2 Inv-loop μ-loop
 loop-again-2 c =
-    let e = c .before .before in
-    let t = e .before .before .before in
-    let a = start t .args in
-    let l = t .before .loop in
-    let h = t .loop-test .taken in
-    let n = reaches (start t) in
-    let r = c .before .get-u32 .ensures in
-    let r1 = r .1 in (
+    let a = c .before .before .before .before .before .before .before .before .args in
+    let l = c .before .before .before .before .before .before .loop in
+    let v = l .inv in
+    let i = v .0 in
+    let h = c .before .before .before .before .before .loop-test .taken in (
       omega arith,
       omega arith,
-      omega arith,
-      λ words bound m.
-          l .inv .3 words bound m
-          ∙ turn-jump (a .width) (a .second) words bound (a .file .now) (l .least) (l .left) (l .k) (omega arith) (e .before .before .difference .ensures .0)
-          (e .before .if1 .left) (more e) (jumps e) (r .0) (start t .pre .1) (c .if3 .left),
+      not-false (c .before .before .pass-rank .result .right) (c .if2 .left),
+      goes-on (a .width) (a .second) (a .file .now) (a .i) (l .k) (l .k + 1) (v .3) (omega arith) (v .2) (c .before .before .pass-rank .ensures),
     )
+
+pass-rank-requires-2 : tie.Need-pass-rank-requires-2 Inv-loop μ-loop
+pass-rank-requires-2 c κs =
+    let o = c .before .before .before .before in
+    let a = o .args in
+    let l = c .before .before .loop in
+    let h = c .if3 .taken in (
+      readable-part (a .width) (a .second) (a .file .now) (a .i) (a .end) (a .s) (o .pre .0) (l .k) (l .k + 1) (omega arith) (omega arith) (l .inv .3 .left)
+          (l .inv .3 .least),
+      o .pre .1,
+    )
+
+returns-2 : tie.Need-returns-2 Inv-loop μ-loop
+returns-2 c =
+    let a = c .before .before .before .before .before .args in
+    let l = c .before .before .before .loop in
+    let h = c .before .if3 .taken in
+    let n = c .before .before .loop-test .left in
+    let e : l .k + 1 ≡ a .end = omega arith in
+    from
+    (goes-on (a .width) (a .second) (a .file .now) (a .i) (l .k) (a .end) (l .inv .3) (l .inv .1) (l .inv .2) (rw e at (c .pass-rank2 .ensures)))
 
 returns-3 : tie.Need-returns-3 Inv-loop μ-loop
 returns-3 c =
-    let l = c .before .loop in
-    let h = c .loop-test .left in
-    let e : l .k ≡ c .before .before .before .args .end = omega arith in
-    record { left = l .inv .1; least = rw e at (l .inv .2); same = rw e at (l .inv .3) }
+    let a = c .before .before .before .before .args in
+    let l = c .before .before .loop in
+    let n = c .if3 .left in
+    let m = l .inv .1 in
+    let e : l .k ≡ a .end = omega arith in
+    from (rw e at (l .inv .3))
 
 pub pass-ranks-spec : {M : Type 1} → statement M
 pass-ranks-spec =
@@ -146,20 +136,18 @@ pass-ranks-spec =
     Inv-loop
     μ-loop
     loop-holds
-    difference-requires
     (λ c. search needs)
+    both-near-requires
     (λ c. search needs)
-    add-least
+    add-t
+    (λ c. search needs)
     (λ c. search needs)
     loop-again
+    pass-rank-requires
     returns
-    mul-get-u32
-    sub-get-u32
-    get-u32-requires
     (λ c. search needs)
-    returns-2
-    (λ c. search needs)
-    add-least-2
     (λ c. search needs)
     loop-again-2
+    pass-rank-requires-2
+    returns-2
     returns-3)
