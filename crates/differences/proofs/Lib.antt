@@ -1,7 +1,3 @@
 pub mod Sums
 -- The walks.
 pub mod Walked
-pub mod Filled
-pub mod Follows
--- A batch put out.
-pub mod PutTurns

@@ -1,5 +1,3 @@
-// A row of differences and its jumps, as kind 4 has them (document 01, "The file"): in groups, the walk of a search, batches of positions read and put out.
-pub mod batch;
+// A row of differences and its jumps, as kind 4 has them (document 01, "The file"): one by one, in groups, and the walk of a search.
 pub mod groups;
-pub mod put;
 pub mod walk;

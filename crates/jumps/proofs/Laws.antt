@@ -18,7 +18,7 @@ use Rattle.parts.specs.Walks.{Walks}
 use Rattle.parts.specs.Codes.{sizesIn, Codes}
 use Rattle.parts.proofs.Outright.{outright}
 use Rattle.parts.proofs.Taking.{same-fit, rank-all, first-all, second-all}
-use Rattle.differences.specs.Steps.{jumpFrom, jumpBy}
+use Rattle.difference_rows.specs.Steps.{jumpFrom, jumpBy}
 use Rattle.jumps.specs.Steps.{next}
 use Rattle.jumps.specs.Coding.{jumpsCoder, coder}
 use Rattle.jumps.proofs.Held.{widths, held}

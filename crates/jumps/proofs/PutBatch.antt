@@ -17,7 +17,7 @@ use Rattle.parts.specs.Ready.{putBy}
 use Rattle.parts.specs.Batch.{addedFirstBy, addedSecondBy, putAllBy, RoomAll}
 use Rattle.parts.proofs.Taken.{length-second, length-first, put-all-cons}
 use Rattle.parts.proofs.Added.{first-place}
-use Rattle.differences.specs.Later.{laterDifferences, laterJumps}
+use Rattle.difference_rows.specs.Later.{laterDifferences, laterJumps}
 use Rattle.jumps.specs.Coding.{jumpsCoder}
 use Rattle.jumps.proofs.Adds.{second-size}
 use Rattle.jumps.proofs.Taken.{seconds-from, firsts-from}

@@ -17,7 +17,7 @@ use Rattle.parts.specs.Cursor.{add32, before, movedTo, entryOf, walkedAs}
 use Rattle.parts.proofs.Steps.{add32-small, upper, RanksFit, upper-next, ranks-rest, kept-walk}
 use Rattle.differences.specs.declared.walk.Reached.{Reached}
 use Rattle.differences.specs.Walk.{stepBy, stepped}
-use Rattle.differences.specs.Steps.{jumpFrom, jumpBy, nextAt}
+use Rattle.difference_rows.specs.Steps.{jumpFrom, jumpBy, nextAt}
 use Rattle.jumps.specs.Steps.{next}
 use Rattle.jumps.proofs.Held.{Held}
 use Rattle.jumps.proofs.Ahead.{Ahead, turned, there, ahead}

@@ -12,7 +12,7 @@ use Rattle.parts.proofs.Steps.{add32-small}
 use Rattle.parts.proofs.Sought.{sought-next}
 use Rattle.differences.specs.declared.walk.Reached.{Reached}
 use Rattle.differences.specs.Walk.{walked, Room}
-use Rattle.differences.proofs.Follows.{placed, reached, stepped-last, follows}
+use Rattle.difference_rows.proofs.Follows.{placed, reached, stepped-last, follows}
 use Rattle.jumps.specs.Steps.{next, OnWay}
 use Rattle.jumps.proofs.Walks.{next-at}
 use Rattle.jumps.proofs.Laws.{walks}

@@ -6,7 +6,7 @@ use Rattle.format.specs.declared.View.{View}
 use Rattle.parts.specs.declared.Cursor.{Cursor}
 use Rattle.parts.specs.Walks.{sought, Climbs}
 use Rattle.parts.specs.Cursor.{add32, entryOf}
-use Rattle.differences.specs.Steps.{jumpBy}
+use Rattle.difference_rows.specs.Steps.{jumpBy}
 
 -- by the difference of the next rank
 unfoldable pub next : List ℕ → View → Cursor → Cursor

@@ -1,7 +1,7 @@
 // Positions into the two parts: to measure, and to write.
-use differences::put::put_differences;
-use differences::put::put_jumps;
-use differences::put::stored_difference;
+use difference_rows::put::put_differences;
+use difference_rows::put::put_jumps;
+use difference_rows::put::stored_difference;
 use parts::Encoder;
 use parts::Sizes;
 use parts::encode::limit;

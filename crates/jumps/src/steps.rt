@@ -1,8 +1,8 @@
 // A walk along the stored positions.
-use differences::batch::all_there;
-use differences::batch::along_u8;
-use differences::batch::along_u16;
-use differences::batch::jump_by;
+use difference_rows::batch::all_there;
+use difference_rows::batch::along_u8;
+use difference_rows::batch::along_u16;
+use difference_rows::batch::jump_by;
 use differences::walk::Reached;
 use differences::walk::take_group;
 use format::Position;

@@ -4,8 +4,8 @@ use native.Mathlib.Omega.{arith}
 use lib.ListN.{length}
 use borrow.Author.Tests.{not-false}
 use Rattle.wire.proofs.Laws.{other-width}
-use Rattle.differences.specs.Steps.{nextAt}
-use Rattle.differences.proofs.Filled.{filled-batch, filled-length}
+use Rattle.difference_rows.specs.Steps.{nextAt}
+use Rattle.difference_rows.proofs.Filled.{filled-batch, filled-length}
 use Rattle.jumps.proofs.Walks.{next-at}
 use borrow.Author.Needs.{needs}
 use Rattle.jumps.proofs.steps.positions.Statement.{statement}
