@@ -16,8 +16,8 @@ use Rattle.format.specs.Opened.{viewOf}
 use Rattle.format.specs.Box.{boxAllowed, boxWords, boxNumber, Boxed}
 use Rattle.laws.proofs.Tools.{cases}
 use Rattle.laws.proofs.Acceptance.{accepted, header-right}
-use Rattle.box_rows.specs.Bounds.{boxCount}
-use Rattle.box_rows.proofs.Counted.{allowed-as, count-least}
+use Rattle.box_region.specs.Bounds.{boxCount}
+use Rattle.box_region.proofs.Counted.{allowed-as, count-least}
 use Rattle.box_rows.proofs.Whole.{length-box-words}
 
 pub box-refused : (b low high before : List ℕ) (n : ℕ) → n ≡ checkNumber b → (n ≡ 0 → ⊥) → Boxed b low high before n before

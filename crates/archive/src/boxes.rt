@@ -1,5 +1,5 @@
 // A box of a file's picture, to words in row order.
-use box_rows::count::box_count;
+use box_region::count::box_count;
 use box_rows::put_box;
 use checked::check;
 use format::Coordinates;

@@ -29,10 +29,10 @@ use Rattle.search.specs.Searched.{RankSearched}
 use Rattle.search.proofs.Cells.{cellBy, cell-searched}
 use Rattle.scatter.proofs.Blank.{range-filled}
 use Rattle.box_rows.specs.declared.Filled.{Filled}
-use Rattle.box_rows.specs.Ready.{Ready, Reached}
+use Rattle.row_seek.specs.Ready.{Ready, Reached}
 use Rattle.box_rows.specs.Filling.{wordsOn, RowFilled}
-use Rattle.box_rows.proofs.Resumed.{ready-later, sought-here, sought-empty}
-use Rattle.box_rows.proofs.Counted.{range-append}
+use Rattle.row_seek.proofs.Resumed.{ready-later, sought-here, sought-empty}
+use Rattle.box_region.proofs.Counted.{range-append}
 use Rattle.box_rows.proofs.Turns.{words-append, length-words-on}
 
 -- ---- the word of a cell, by the answer of the search

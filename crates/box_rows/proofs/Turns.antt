@@ -1,9 +1,9 @@
 -- A box dimension by dimension: what is left of it gives the whole. Assumes nothing.
-use Prim.Native.Nat.{ℕ, zero, suc, _+_, _-_, _*_, _≤_, _<_}
-use mathlib.Core.Path.{_≡_, refl, sym, ap, ap₂, _∙_}
+use Prim.Native.Nat.{ℕ, suc, _+_, _-_, _*_, _≤_, _<_}
+use mathlib.Core.Path.{_≡_, refl, sym, ap, _∙_}
 use mathlib.Core.Bool.{true}
 use mathlib.Core.List.{List, [], _∷_, _++_}
-use native.Mathlib.Nat.{mul-one, mul-assoc, suc-mul, mul-le-mul-right, one-le-mul, le-mul-of-pos-right, le-refl, add-zero}
+use native.Mathlib.Nat.{mul-one, mul-assoc, suc-mul, mul-le-mul-right, le-mul-of-pos-right, le-refl, add-zero}
 use native.Mathlib.Numerals.{add-one}
 use native.Mathlib.Omega.{arith}
 use lib.ListN.{length, getD, drop, length-append, length-map}
@@ -11,7 +11,7 @@ use lib.Seq.{drop-cons}
 use lib.Dec.{leb, ltb}
 use borrow.Author.Tests.{leb-true, ltb-true}
 use Rattle.format.specs.declared.View.{View}
-use Rattle.format.specs.Tools.{first, others, range, joined}
+use Rattle.format.specs.Tools.{range, joined}
 use Rattle.format.specs.Picture.{product, mostDimensions}
 use Rattle.format.specs.Accepted.{wordsOf}
 use Rattle.format.specs.Box.{boxFrom}
@@ -19,12 +19,13 @@ use Rattle.laws.proofs.Tools.{both-true, length-range}
 use Rattle.stores.specs.Put.{put}
 use Rattle.stores.proofs.Laws.{put-append, length-put}
 use Rattle.box_rows.specs.declared.Filled.{Filled}
-use Rattle.box_rows.specs.Bounds.{bounded}
-use Rattle.box_rows.specs.Ready.{Ready}
+use Rattle.box_region.specs.Bounds.{bounded}
+use Rattle.row_seek.specs.Ready.{Ready}
 use Rattle.box_rows.specs.Filling.{wordsOn, RowGoes, RowFilled, BoxGoes, BoxFilled}
 use Rattle.parts.proofs.Seen.{seen}
-use Rattle.box_rows.proofs.Resumed.{ready-later}
-use Rattle.box_rows.proofs.Counted.{Four}
+use Rattle.row_seek.proofs.Resumed.{ready-later}
+use Rattle.box_region.proofs.Counted.{Four}
+use Rattle.box_region.proofs.Joined.{joined-row, product-bounded}
 
 -- ---- lists
 
@@ -36,26 +37,6 @@ words-append b (x ∷ xs) ys = ap (λ (l : List ℕ). getD (wordsOf b) x 0 ∷ l
 pub length-words-on : (b ps : List ℕ) → length (wordsOn b ps) ≡ length ps
 unfolding wordsOn
 length-words-on b ps = length-map ps _
-
-pub joined-same : (f g : ℕ → List ℕ) (xs : List ℕ) → ((c : ℕ) → f c ≡ g c) → joined f xs ≡ joined g xs
-joined-same f g [] h = refl
-joined-same f g (x ∷ xs) h = ap₂ (λ (a b : List ℕ). a ++ b) (h x) (joined-same f g xs h)
-
--- one position for each coordinate: a row
-pub joined-row : (q a n : ℕ) → joined (λ c. (q + c) ∷ []) (range a n) ≡ range (q + a) n
-unfolding range
-joined-row q a zero = refl
-joined-row q a (suc n) = ap (λ (l : List ℕ). (q + a) ∷ l) (joined-row q (suc a) n ∙ ap (λ (x : ℕ). range x n) (omega arith))
-
--- extents with bounds inside them are at least 1
-pub product-bounded : (es low high : List ℕ) → bounded es low high ≡ true → 1 ≤ product es
-unfolding bounded product
-product-bounded [] low high h = le-refl 1
-product-bounded (e ∷ es) low high h =
-    let t = both-true (leb (first low) (first high)) _ h in
-    let u = both-true (ltb (first high) e) _ (t .1) in
-    let k = ltb-true (first high) e (u .0) in
-    one-le-mul (omega arith) (product-bounded es (others low) (others high) (u .1))
 
 -- ---- the first of the dimensions that are left
 

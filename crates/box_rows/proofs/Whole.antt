@@ -18,12 +18,12 @@ use Rattle.parts.proofs.Seen.{seen}
 use Rattle.parts.specs.declared.Cursor.{Cursor}
 use Rattle.kinds.specs.Steps.{startOf}
 use Rattle.box_rows.specs.declared.Filled.{Filled}
-use Rattle.box_rows.specs.declared.region.Region.{Region}
-use Rattle.box_rows.specs.Bounds.{boxCount}
+use Rattle.box_region.specs.declared.region.Region.{Region}
+use Rattle.box_region.specs.Bounds.{boxCount}
 use Rattle.box_rows.specs.Filling.{wordsOn, BoxGoes, BoxFilled}
-use Rattle.box_rows.specs.Region.{Placed, SameCells}
-use Rattle.box_rows.proofs.Counted.{allowed-as, length-box}
-use Rattle.box_rows.proofs.Resumed.{ready-start}
+use Rattle.box_region.specs.Region.{Placed, SameCells}
+use Rattle.box_region.proofs.Counted.{allowed-as, length-box}
+use Rattle.row_seek.proofs.Resumed.{ready-start}
 use Rattle.box_rows.proofs.Turns.{length-words-on}
 
 module _ (b : List ℕ) (v : View) (d : Dimensions) (low high : List ℕ) (o : ViewOf b v) (e : d ≡ dimensionsOf b) where

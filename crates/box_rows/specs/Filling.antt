@@ -12,8 +12,8 @@ use Rattle.format.specs.Box.{boxFrom}
 use Rattle.stores.specs.Put.{put}
 use Rattle.parts.specs.Holds.{ViewOf}
 use Rattle.box_rows.specs.declared.Filled.{Filled}
-use Rattle.box_rows.specs.Bounds.{bounded}
-use Rattle.box_rows.specs.Ready.{Ready}
+use Rattle.box_region.specs.Bounds.{bounded}
+use Rattle.row_seek.specs.Ready.{Ready}
 
 -- the words at positions
 unfoldable pub wordsOn : List ℕ → List ℕ → List ℕ

@@ -1,4 +1,1 @@
-pub mod Bounds
-pub mod Ready
 pub mod Filling
-pub mod Region

@@ -1,9 +1,6 @@
 // The words of a box of a picture in row order, from an accepted file. Positions never fall, so a cursor goes along the stored cells once.
-pub mod count;
-pub mod region;
-pub mod resume;
-pub mod seek;
-
+use box_region::region::Region;
+use box_region::region::long_rows;
 use format::Coordinates;
 use format::DIMS;
 use format::Dimensions;
@@ -12,10 +9,8 @@ use format::RankAnswer;
 use format::View;
 use kinds::steps::start;
 use parts::Cursor;
-use region::Region;
-use region::long_rows;
-use resume::empty_ahead;
-use resume::rank_from;
+use row_seek::resume::empty_ahead;
+use row_seek::resume::rank_from;
 use scatter::fill;
 use wire::load_u32;
 ghost use mathlib.Core.Path.{_≡_};
@@ -28,7 +23,7 @@ ghost use Rattle.format.specs.Box.{boxAllowed, boxWords};
 ghost use Rattle.format.specs.Picture.{mostDimensions};
 ghost use Rattle.stores.specs.Put.{put};
 ghost use Rattle.parts.specs.Holds.{ViewOf};
-ghost use Rattle.box_rows.specs.Bounds.{boxCount};
+ghost use Rattle.box_region.specs.Bounds.{boxCount};
 ghost use Rattle.box_rows.specs.Filling.{RowGoes, RowFilled, BoxGoes, BoxFilled};
 
 // How far a box is put out: the cursor, and the words that the destination has.

@@ -8,7 +8,7 @@ use lib.Arith.{lt-of-le-ne}
 use lib.ListN.{length, getD, drop, drop-of-length-le}
 use Rattle.format.specs.Picture.{mostDimensions}
 use Rattle.box_rows.specs.Filling.{BoxGoes}
-use Rattle.box_rows.proofs.Counted.{Four}
+use Rattle.box_region.proofs.Counted.{Four}
 use Rattle.box_rows.proofs.Turns.{first-goes, first-filled, in-order, cell-small, row-goes, row-filled, BoxLeft, box-start, box-down, box-turn, box-end}
 use borrow.Author.Needs.{needs}
 use Prim.Native.Nat.{ℕ, _<_}
