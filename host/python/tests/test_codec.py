@@ -56,7 +56,7 @@ class Alone(unittest.TestCase):
         self.assertEqual(odd.view("<u4").tolist(), list(range(6)))
         for size in (5, 7):
             out = np.full(size, 99, "<u4")
-            with self.assertRaises(ValueError):
+            with self.assertRaisesRegex(ValueError, f"out has {4 * size} bytes; the words of the chunk have 24"):
                 codec.decode(file, out)
             self.assertEqual(out.tolist(), [99] * size)
         out = np.full(6, 99, "<u4")

@@ -80,9 +80,12 @@ class Lookups(unittest.TestCase):
                 with self.assertRaises(Beyond) as caught:
                     call(at)
                 self.assertEqual(caught.exception.number, 8)
-        for call, number in [(archive.position, 4), (archive.position, -1), (archive.position, 1 << 32), (archive.coordinates, 12), (archive.coordinates, -1)]:
-            with self.assertRaises(IndexError):
-                call(number)
+        for number in (12, -1, 1 << 32):
+            for call in (archive.position, archive.coordinates):
+                with self.assertRaises(IndexError):
+                    call(number)
+        with self.assertRaises(IndexError):
+            archive.position(4)
 
     def test_sentences(self):
         archive, none = make(SAMPLE.reshape(3, 4), kind=2), make([0, 0], kind=2)

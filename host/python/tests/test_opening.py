@@ -13,6 +13,7 @@ from support import SAMPLE, SAMPLES
 
 import radar_archive
 from radar_archive import Kind, Refused
+from radar_archive.engine import engine
 
 M2 = (SAMPLES / "m2.radar").read_bytes()
 
@@ -75,6 +76,17 @@ class Opening(unittest.TestCase):
         with open(f"/proc/{os.getpid()}/maps") as maps:
             self.assertNotIn(str(self.path), maps.read())
 
+    def test_closed_during_a_call(self):
+        """What is lent to a call keeps the file until the call is done."""
+        archive = radar_archive.open(self.path)
+        lent = archive._lend()
+        archive.close()
+        self.assertEqual(engine().ra_check(*lent), 0)
+        del archive
+        gc.collect()
+        with open(f"/proc/{os.getpid()}/maps") as maps:
+            self.assertIn(str(self.path), maps.read())
+
     def test_many_closed(self):
         """As many as there are opened need no more descriptors than one."""
         before = len(os.listdir("/proc/self/fd"))
@@ -113,6 +125,7 @@ class Opening(unittest.TestCase):
                     radar_archive.open(source)
                 self.assertEqual((caught.exception.number, caught.exception.word), (number, word))
             self.assertTrue(str(caught.exception).startswith(f"{self.path}: refused, {number} {word}: "))
+            self.assertIn(f"radar-archive check {self.path}", caught.exception.__notes__[0])
 
     def test_every_shortening(self):
         for length in range(84):

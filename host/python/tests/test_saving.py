@@ -1,4 +1,5 @@
 """Files written whole or not at all."""
+import contextlib
 import errno
 import os
 import tempfile
@@ -43,6 +44,35 @@ class Saving(unittest.TestCase):
         self.archive.save(str(self.path), replace=True)
         self.assertEqual((self.path.read_bytes(), self.path.stat().st_mode & 0o777), (bytes(self.archive), 0o604))
         self.assertEqual(self.names(), ["a.radar"])
+
+    def test_folder_not_synced(self):
+        """The file is whole and in its place, and the error says so."""
+        sync = os.fsync
+
+        def only_files(descriptor):
+            if os.path.isdir(f"/proc/self/fd/{descriptor}"):
+                raise OSError(error, "no sync")
+            sync(descriptor)
+
+        with mock.patch("os.fsync", only_files):
+            for error, name in [(errno.EIO, "a"), (errno.EINVAL, "b")]:
+                expected = self.assertRaisesRegex(OSError, "is written, but") if error == errno.EIO else contextlib.nullcontext()
+                with expected:
+                    self.archive.save(self.folder / name)
+                self.assertEqual((self.folder / name).read_bytes(), bytes(self.archive))
+        self.assertEqual(self.names(), ["a", "b"])
+
+    def test_long_name(self):
+        path = self.folder / ("\N{RADIOACTIVE SIGN}" * 85)
+        self.archive.save(path)
+        self.assertEqual(path.read_bytes(), bytes(self.archive))
+
+    @unittest.skipUnless(os.geteuid() == 0, "only root can give a file away")
+    def test_owner(self):
+        self.path.write_bytes(b"before")
+        os.chown(self.path, 1234, 1234)
+        self.archive.save(self.path, replace=True)
+        self.assertEqual((self.path.stat().st_uid, self.path.stat().st_gid), (1234, 1234))
 
     def test_over_itself(self):
         """A mapped file can be replaced by what came of it; what was opened stays as it was."""

@@ -13,6 +13,7 @@ array([7, 9, 0, 5], dtype=uint32)
 <Archive 12, kind 3 base-offset, 4 of 12 cells stored, 76 bytes>
 """
 import os
+import shlex
 from typing import SupportsIndex
 
 from numpy.typing import ArrayLike
@@ -53,9 +54,14 @@ def open(source: str | os.PathLike[str] | Bytes) -> Archive:
     Traceback (most recent call last):
     radar_archive.refusal.Refused: refused, 1 short: the file is under 52 bytes
     """
-    if isinstance(source, (str, os.PathLike)):
-        return Archive(mapped(source), os.fsdecode(source))
-    return Archive(source)
+    if not isinstance(source, (str, os.PathLike)):
+        return Archive(source)
+    name = os.fsdecode(source)
+    try:
+        return Archive(mapped(source), name)
+    except Refused as refused:
+        refused.add_note(f"'radar-archive check {shlex.quote(name)}' says more, and names the byte")
+        raise
 
 
 def make(picture: ArrayLike, *, kind: KindLike, width: SupportsIndex = 0, step: SupportsIndex = 0, empty: SupportsIndex = 0) -> Archive:

@@ -1,4 +1,5 @@
 """An opened file."""
+import ctypes
 import os
 from collections.abc import Iterator, Sequence
 from typing import Any, SupportsIndex
@@ -11,7 +12,7 @@ from radar_archive.engine import engine
 from radar_archive.header import Dimensions, Header
 from radar_archive.indexing import Axis, axes, has_ellipsis, shape_of
 from radar_archive.making import put_out
-from radar_archive.numbers import lent, whole, word
+from radar_archive.numbers import lent, whole, word_of
 from radar_archive.opening import Bytes, bytes_of
 from radar_archive.refusal import accept, given, refusal, value
 from radar_archive.setting import HEADER_LENGTH, Kind, KindLike, Setting, explain_setting, longest_file, setting_numbers
@@ -47,12 +48,12 @@ class Archive:
 
     def __init__(self, data: Bytes, name: str | None = None) -> None:
         file = bytes_of(data)
-        lent_file = (file.ctypes.data, file.size)
+        lent_file = (file.ctypes.data_as(ctypes.c_void_p), file.size)
         number = engine().ra_check(*lent_file)
         if number:
             raise refusal(number, None, name)
         self._file: NDArray[np.uint8] = file
-        self._lent: tuple[int, int] | None = lent_file
+        self._lent: tuple[ctypes.c_void_p, int] | None = lent_file
         self._header = Header.of(file)
         self._dimensions = Dimensions.of(self._header.shape)
 
@@ -68,8 +69,8 @@ class Archive:
     def __exit__(self, *_: object) -> None:
         self.close()
 
-    def _lend(self) -> tuple[int, int]:
-        """The file as it is lent: pointer and length."""
+    def _lend(self) -> tuple[ctypes.c_void_p, int]:
+        """The file as it is lent: pointer and length. The pointer keeps the file until the call is done, also if it is closed meanwhile."""
         if self._lent is None:
             raise ValueError("the archive is closed")
         return self._lent
@@ -245,7 +246,7 @@ class Archive:
         for positions, words in self.chunks():
             yield from zip(positions.tolist(), words.tolist())
 
-    def write(self, at: Place, new_word: SupportsIndex) -> "Archive":
+    def write(self, at: Place, word: SupportsIndex) -> "Archive":
         """The archive after writing one cell, in the same setting; writing the empty word empties the cell. Refuses with 8, 9.
 
         >>> from radar_archive import make
@@ -253,7 +254,7 @@ class Archive:
         >>> a.write(1, 41).words
         array([ 0, 41,  7,  9], dtype=uint32)
         """
-        position, written = self._position_of(at), word(new_word, "the word")
+        position, written = self._position_of(at), word_of(word, "the word")
         longest = longest_file(self.setting, min(self.stored + 1, self.cells))
 
         def explain(number: int) -> str | None:

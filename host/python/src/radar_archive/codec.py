@@ -17,7 +17,7 @@ from numcodecs.registry import register_codec
 from numpy.typing import NDArray
 
 from radar_archive import Archive, best, make
-from radar_archive.numbers import whole, word
+from radar_archive.numbers import whole, word_of
 from radar_archive.setting import KindLike
 from radar_archive.words import integers
 
@@ -27,9 +27,9 @@ _WORDS = np.dtype("<u4")
 class RadarArchive(Codec):  # type: ignore[misc]
     """Chunks as picture files, in one setting or each in its shortest one (kind "best").
 
-    A chunk is an array of dtype uint32, lowest byte first ("<u4", the native one nearly everywhere), of 1 to 4 dimensions and at most 16,777,216
-    cells. A chunk in Fortran order is kept with its dimensions in reverse, so that its words stay in the order of memory; Zarr reads it back as it was.
-    `empty` is the empty word; it does not depend on the fill value of the store, but is well chosen as the same.
+    A chunk is an array of dtype uint32, lowest byte first ("<u4", the native one nearly everywhere), of 1 to 4 dimensions and at most
+    16,777,216 cells. A chunk in Fortran order is kept with its dimensions in reverse, so that its words stay in the order of memory; Zarr
+    reads it back as it was. `empty` is the empty word; it does not depend on the store's fill value, but is well chosen as the same.
     """
 
     codec_id = "radar_archive"
@@ -38,7 +38,7 @@ class RadarArchive(Codec):  # type: ignore[misc]
         self.kind: str | int = kind if isinstance(kind, str) else whole(kind, "kind")
         self.width = whole(width, "width")
         self.step = whole(step, "step")
-        self.empty = word(empty, "the empty word")
+        self.empty = word_of(empty, "the empty word")
         self._refuse_setting()
 
     def _refuse_setting(self) -> None:

@@ -7,7 +7,7 @@ from numpy.typing import ArrayLike, NDArray
 
 from radar_archive.engine import engine
 from radar_archive.header import Dimensions
-from radar_archive.numbers import word
+from radar_archive.numbers import word_of
 from radar_archive.refusal import Explain, accept
 from radar_archive.setting import MOST_CELLS, KindLike, explain_setting, longest_file, setting_numbers
 from radar_archive.words import integers, words_of
@@ -27,7 +27,7 @@ def put_out(longest: int, call: Callable[[int, int], int], explain: Explain) -> 
 def made_file(picture: ArrayLike, kind: KindLike, width: SupportsIndex, step: SupportsIndex, empty: SupportsIndex) -> bytes:
     """The file of a picture in a setting. Refuses with 2, 3, 4, 9."""
     numbers = setting_numbers(kind, width, step)
-    empty_word = word(empty, "the empty word")
+    empty_word = word_of(empty, "the empty word")
     array = integers(picture)
     dimensions = Dimensions.of(array.shape)
 

@@ -24,7 +24,7 @@ def lent(number: int) -> int:
     return number if 0 <= number <= LARGEST else LARGEST
 
 
-def word(number: SupportsIndex, what: str) -> int:
+def word_of(number: SupportsIndex, what: str) -> int:
     """A word: 0 to 4294967295."""
     given = whole(number, what)
     if not 0 <= given <= LARGEST:

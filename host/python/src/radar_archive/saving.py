@@ -1,5 +1,6 @@
 """Files that are written whole or not at all."""
 import builtins
+import contextlib
 import errno
 import os
 import secrets
@@ -9,22 +10,22 @@ import stat
 def save(data: memoryview, path: str | os.PathLike[str], replace: bool) -> None:
     """Puts bytes in a file by way of a temporary file beside it, synced before it takes the name."""
     target = os.path.realpath(path)
-    mode = _mode_there(target, os.fspath(path), replace)
-    folder, name = os.path.split(target)
-    temporary = os.path.join(folder, f".{name[:100]}.{secrets.token_hex(8)}.part")
+    there = _there(target, os.fspath(path), replace)
+    folder = os.path.dirname(target)
+    temporary = os.path.join(folder, f".radar-archive.{secrets.token_hex(8)}.part")
     try:
-        _write(data, temporary, mode)
+        _write(data, temporary, there)
         if replace:
             os.replace(temporary, target)
         else:
             _place(temporary, target, os.fspath(path))
     finally:
         _remove(temporary)
-    _sync_folder(folder)
+    _sync_folder(folder, os.fspath(path))
 
 
-def _mode_there(target: str, path: str, replace: bool) -> int | None:
-    """The permission bits of the file that is to be replaced, or None where there is none. What may not be replaced is refused."""
+def _there(target: str, path: str, replace: bool) -> os.stat_result | None:
+    """The file that is to be replaced, or None where there is none. What may not be replaced is refused."""
     try:
         status = os.stat(target)
     except FileNotFoundError:
@@ -33,19 +34,21 @@ def _mode_there(target: str, path: str, replace: bool) -> int | None:
         raise _exists(path)
     if not stat.S_ISREG(status.st_mode):
         raise OSError(errno.EINVAL, "is not a plain file, and is not replaced", path)
-    return stat.S_IMODE(status.st_mode)
+    return status
 
 
 def _exists(path: str) -> FileExistsError:
     return FileExistsError(errno.EEXIST, "exists; use replace=True to replace it", path)
 
 
-def _write(data: memoryview, temporary: str, mode: int | None) -> None:
-    """Writes and syncs a new file."""
+def _write(data: memoryview, temporary: str, there: os.stat_result | None) -> None:
+    """Writes and syncs a new file. It has the permission bits of the file that it replaces and, where the user may set them, owner and group."""
     descriptor = os.open(temporary, os.O_WRONLY | os.O_CREAT | os.O_EXCL | os.O_CLOEXEC, 0o666)
     with builtins.open(descriptor, "wb") as stream:
-        if mode is not None:
-            os.fchmod(descriptor, mode)
+        if there is not None:
+            with contextlib.suppress(PermissionError):
+                os.fchown(descriptor, there.st_uid, there.st_gid)
+            os.fchmod(descriptor, stat.S_IMODE(there.st_mode))
         stream.write(data)
         stream.flush()
         os.fsync(descriptor)
@@ -67,16 +70,20 @@ def _place(temporary: str, target: str, path: str) -> None:
 
 def _remove(temporary: str) -> None:
     """Removes the temporary file if it is still there."""
-    try:
+    with contextlib.suppress(FileNotFoundError):
         os.unlink(temporary)
-    except FileNotFoundError:
-        pass
 
 
-def _sync_folder(folder: str) -> None:
-    """Syncs the folder, so that the name lasts too."""
-    descriptor = os.open(folder, os.O_RDONLY | os.O_DIRECTORY | os.O_CLOEXEC)
+def _sync_folder(folder: str, path: str) -> None:
+    """Syncs the folder, so that the name lasts too. A folder that may not be read, or that has no sync, is left."""
+    try:
+        descriptor = os.open(folder, os.O_RDONLY | os.O_DIRECTORY | os.O_CLOEXEC)
+    except PermissionError:
+        return
     try:
         os.fsync(descriptor)
+    except OSError as error:
+        if error.errno != errno.EINVAL:
+            raise OSError(error.errno, f"is written, but its folder cannot be synced ({error.strerror})", path) from None
     finally:
         os.close(descriptor)

@@ -29,6 +29,7 @@ def _refuse_outside(array: NDArray[Any]) -> None:
     """Refuses values that are not 0 to 4294967295."""
     if array.size == 0 or (int(array.min()) >= 0 and int(array.max()) <= LARGEST):
         return
+    # Both bounds are numbers of the dtype.
     largest = min(LARGEST, int(np.iinfo(array.dtype).max))
     outside = (array < 0) | (array > largest)
     place = tuple(int(at) for at in np.unravel_index(int(outside.argmax()), array.shape))
