@@ -1,5 +1,6 @@
 """What the tests share: the sample picture, settings and pictures by chance."""
 import functools
+import importlib.metadata
 import importlib.util
 import os
 import subprocess
@@ -38,6 +39,16 @@ def needs(*modules):
     """Skips a test where a module is not installed, and says which."""
     missing = [module for module in modules if importlib.util.find_spec(module) is None]
     return unittest.skipIf(missing, f"not installed: {', '.join(missing)}")
+
+
+def needs_zarr(*modules):
+    """Skips a test where a module, numcodecs or Zarr 2 is not installed."""
+
+    def decorated(test):
+        other = importlib.util.find_spec("zarr") is not None and not importlib.metadata.version("zarr").startswith("2.")
+        return needs("numcodecs", "zarr", *modules)(unittest.skipIf(other, "not tested with another Zarr than 2")(test))
+
+    return decorated
 
 
 @functools.cache

@@ -5,7 +5,7 @@ import unittest
 from pathlib import Path
 
 import numpy as np
-from support import SETTINGS, SHAPES, keywords, needs, picture_by_chance
+from support import SETTINGS, SHAPES, keywords, needs, needs_zarr, picture_by_chance
 
 import radar_archive
 from radar_archive import Kind, Refused
@@ -92,7 +92,7 @@ class Alone(unittest.TestCase):
         self.assertEqual(numcodecs.get_codec(configuration), codec)
 
 
-@needs("numcodecs", "zarr")
+@needs_zarr()
 class InZarr(unittest.TestCase):
     def stored(self, words, **options):
         """The words written to a store on disk and read back, and the store's folder."""

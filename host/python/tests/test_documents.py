@@ -5,7 +5,7 @@ import os
 import tempfile
 import unittest
 
-from support import PACKAGE, needs, python
+from support import PACKAGE, needs, needs_zarr, python
 
 MODULES = ["radar_archive", "radar_archive.archive", "radar_archive.refusal", "radar_archive.setting"]
 
@@ -19,7 +19,7 @@ def load_tests(loader, tests, pattern):
 
 
 class Readme(unittest.TestCase):
-    @needs("numcodecs", "zarr")
+    @needs_zarr()
     def test_examples(self):
         """They run in a folder of their own, and write files there."""
         before = os.getcwd()
@@ -45,7 +45,7 @@ class Examples(unittest.TestCase):
         self.assertEqual(lines[1], "1000 files, 1 refused")
         self.assertEqual(len(lines), 8)
 
-    @needs("dask", "zarr")
+    @needs_zarr("dask")
     def test_zarr_store(self):
         lines = self.output("zarr_store.py")
         self.assertEqual(lines[0], "20971520 cells in 40 chunks; a picture has at most 16777216")
