@@ -75,6 +75,12 @@ class Archive:
             raise ValueError("the archive is closed")
         return self._lent
 
+    def _bytes(self) -> NDArray[np.uint8]:
+        """The bytes of the file."""
+        file = self._file
+        self._lend()  # after the line above: close() takes the pointer away before the bytes
+        return file
+
     @property
     def shape(self) -> tuple[int, ...]:
         """The extents of the picture."""
@@ -119,8 +125,7 @@ class Archive:
     @property
     def file(self) -> memoryview:
         """The bytes of the file, not copied; `bytes(a)` copies them."""
-        self._lend()
-        return self._file.data
+        return self._bytes().data
 
     def __bytes__(self) -> bytes:
         return self.file.tobytes()
@@ -147,7 +152,7 @@ class Archive:
 
     def __getitem__(self, key: Any) -> Any:
         """The words that an index names, as numpy has it: integers, slices and Ellipsis. An integer for each dimension gives a word, else it is
-        a new array. The engine reads the box around them alone; an array or a mask in the index is a TypeError.
+        a new array: the engine checks the file and puts out the box around what is named. An array or a mask in the index is a TypeError.
 
         >>> from radar_archive import make
         >>> a = make([[0, 0, 7, 9], [0, 5, 0, 0], [0, 0, 300, 0]], kind="runs")
@@ -220,15 +225,13 @@ class Archive:
     def stored_words(self) -> NDArray[np.uint32]:
         """The words of the stored cells by rank. On machines with the lowest byte first this is the file itself, not copied; it cannot be
         written, and in kinds 3 and 4 its items may stand at odd addresses (`flags.aligned`)."""
-        self._lend()
-        return self._numbers(self._file, self._header.words_at)
+        return self._numbers(self._bytes(), self._header.words_at)
 
     @property
     def positions(self) -> NDArray[np.uint32]:
         """The positions of the stored cells by rank, which rise. In kind 2 this is the file itself, not copied; in the other kinds the engine
         puts the file out in kind 2 in memory, each time."""
-        self._lend()
-        file = self._file if self.kind == Kind.POSITIONS else bytes_of(self._changed((2, 0, 0)))
+        file = self._bytes() if self.kind == Kind.POSITIONS else bytes_of(self._changed((2, 0, 0)))
         return self._numbers(file, HEADER_LENGTH)
 
     def _numbers(self, file: NDArray[np.uint8], start: int) -> NDArray[np.uint32]:
