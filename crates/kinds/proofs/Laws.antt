@@ -22,7 +22,7 @@ use Rattle.jumps.proofs.Laws as jumps
 use Rattle.paged_runs.proofs.Walk as paged
 use Rattle.paged_runs.proofs.Codes as paged-coder
 use Rattle.kinds.specs.Steps.{nextBy, nextOf, startOf, walked}
-use Rattle.runs.specs.Coding.{runsCoder}
+use Rattle.run_pairs.specs.Coding.{runsCoder}
 use Rattle.positions.specs.Coding as positions-spec
 use Rattle.base_offset.specs.Coding as based-spec
 use Rattle.jumps.specs.Coding as jumps-spec

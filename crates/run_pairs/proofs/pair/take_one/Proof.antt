@@ -1,9 +1,9 @@
--- `runs::coding::take_one` meets its contract. Assumes nothing.
+-- `run_pairs::pair::take_one` meets its contract. Assumes nothing.
 use mathlib.Core.Path.{sym, _∙_}
-use Rattle.runs.proofs.Adds.{taken-pair, taken-none}
+use Rattle.run_pairs.proofs.Adds.{taken-pair, taken-none}
 use borrow.Author.Needs.{needs}
-use Rattle.runs.proofs.coding.take_one.Statement.{statement}
-use Rattle.runs.proofs.coding.take_one.Tie as tie
+use Rattle.run_pairs.proofs.pair.take_one.Statement.{statement}
+use Rattle.run_pairs.proofs.pair.take_one.Tie as tie
 
 returns : tie.Need-returns
 returns c =

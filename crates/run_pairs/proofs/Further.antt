@@ -18,8 +18,8 @@ use Rattle.parts.specs.Falls.{fallen}
 use Rattle.parts.specs.Far.{farAfter, far}
 use Rattle.parts.proofs.Taking.{ends-later}
 use Rattle.parts.proofs.Taken.{along-head}
-use Rattle.runs.specs.Coding.{runsCoder, further}
-use Rattle.runs.proofs.Adds.{taken-pair, taken-none, keeps}
+use Rattle.run_pairs.specs.Coding.{runsCoder, further}
+use Rattle.run_pairs.proofs.Adds.{taken-pair, taken-none, keeps}
 
 -- ---- one more
 

@@ -1,4 +1,4 @@
--- `runs::coding::put_one` meets its contract. Assumes nothing.
+-- `run_pairs::pair::put_one` meets its contract. Assumes nothing.
 use mathlib.Core.Path.{_≡_, refl, sym, ap, _∙_}
 use mathlib.Core.Bool.{true, false}
 use native.Mathlib.Omega.{arith}
@@ -6,11 +6,11 @@ use lib.ListN.{length}
 use borrow.Author.Tests.{not-true, not-false}
 use Rattle.parts.specs.Encoder.{runEnds}
 use Rattle.parts.proofs.Taking.{put-first, put-none}
-use Rattle.runs.specs.Coding.{runPair, runsCoder}
-use Rattle.runs.proofs.Adds.{length-run, first-pair, taken-pair, first-none, taken-none}
+use Rattle.run_pairs.specs.Coding.{runPair, runsCoder}
+use Rattle.run_pairs.proofs.Adds.{length-run, first-pair, taken-pair, first-none, taken-none}
 use borrow.Author.Needs.{needs}
-use Rattle.runs.proofs.coding.put_one.Statement.{statement}
-use Rattle.runs.proofs.coding.put_one.Tie as tie
+use Rattle.run_pairs.proofs.pair.put_one.Statement.{statement}
+use Rattle.run_pairs.proofs.pair.put_one.Tie as tie
 
 returns : tie.Need-returns
 unfolding runsCoder

@@ -1,4 +1,4 @@
--- `runs::coding::put_ends` meets its contract. Assumes nothing.
+-- `run_pairs::batch::put_ends` meets its contract. Assumes nothing.
 use Prim.Native.Nat.{ℕ}
 use mathlib.Core.Path.{_≡_, sym, ap, _∙_}
 use mathlib.Core.List.{List}
@@ -8,11 +8,11 @@ use lib.Seq.{length-take-le}
 use Rattle.laws.proofs.Stored.{rising-weaken}
 use Rattle.stores.specs.Put.{put}
 use Rattle.parts.proofs.Ends.{length-ends}
-use Rattle.runs.specs.Coding.{endPairs}
-use Rattle.runs.proofs.Ends.{below-ends}
+use Rattle.run_pairs.specs.Coding.{endPairs}
+use Rattle.run_pairs.proofs.Ends.{below-ends}
 use borrow.Author.Needs.{needs}
-use Rattle.runs.proofs.coding.put_ends.Statement.{statement}
-use Rattle.runs.proofs.coding.put_ends.Tie as tie
+use Rattle.run_pairs.proofs.batch.put_ends.Statement.{statement}
+use Rattle.run_pairs.proofs.batch.put_ends.Tie as tie
 
 list-ends-requires : tie.Need-list-ends-requires
 list-ends-requires c κs =

@@ -1,4 +1,4 @@
--- `runs::coding::put_pairs` meets its contract. Assumes nothing.
+-- `run_pairs::batch::put_pairs` meets its contract. Assumes nothing.
 use Prim.Native.Nat.{ℕ, _+_, _-_, _*_, _≤_, _<_}
 use mathlib.Core.Path.{_≡_, refl, sym, ap, _∙_}
 use mathlib.Core.List.{List}
@@ -8,11 +8,11 @@ use Rattle.laws.proofs.Bounds.{below-getD}
 use Rattle.stores.specs.Put.{put}
 use Rattle.stores.proofs.Laws.{length-put}
 use Rattle.parts.proofs.Places.{rising-below}
-use Rattle.runs.specs.Coding.{endPairs}
-use Rattle.runs.proofs.Ends.{rising-far, ends-turn, ends-done}
+use Rattle.run_pairs.specs.Coding.{endPairs}
+use Rattle.run_pairs.proofs.Ends.{rising-far, ends-turn, ends-done}
 use borrow.Author.Needs.{needs}
-use Rattle.runs.proofs.coding.put_pairs.Statement.{statement}
-use Rattle.runs.proofs.coding.put_pairs.Tie as tie
+use Rattle.run_pairs.proofs.batch.put_pairs.Statement.{statement}
+use Rattle.run_pairs.proofs.batch.put_pairs.Tie as tie
 
 -- the pairs of the ends that are left, after those put out
 abbrev Inv-loop : tie.InvT-loop

@@ -14,7 +14,7 @@ use Rattle.parts.specs.Ready.{Keeps, moved}
 use Rattle.parts.proofs.Taking.{pick-most, taken-moved}
 use Rattle.parts.proofs.Sounds.{sound-by}
 use Rattle.parts.proofs.Grown.{Lengthens}
-use Rattle.runs.specs.Coding.{runPair, runsCoder}
+use Rattle.run_pairs.specs.Coding.{runPair, runsCoder}
 
 pub length-run : (e : Encoder) → length (runPair e) ≡ 8
 unfolding runPair

@@ -1,9 +1,9 @@
--- `runs::coding::further` meets its contract. Assumes nothing.
+-- `run_pairs::batch::further` meets its contract. Assumes nothing.
 use mathlib.Core.Path.{refl}
-use Rattle.runs.specs.Coding.{further}
+use Rattle.run_pairs.specs.Coding.{further}
 use borrow.Author.Needs.{needs}
-use Rattle.runs.proofs.coding.further.Statement.{statement}
-use Rattle.runs.proofs.coding.further.Tie as tie
+use Rattle.run_pairs.proofs.batch.further.Statement.{statement}
+use Rattle.run_pairs.proofs.batch.further.Tie as tie
 
 returns : tie.Need-returns
 unfolding further

@@ -20,9 +20,9 @@ use Rattle.parts.specs.Ready.{putBy}
 use Rattle.parts.specs.Batch.{addedFirstBy, addedSecondBy, putAllBy, Along, RoomAll}
 use Rattle.parts.specs.Far.{endsAfter, endsOf}
 use Rattle.parts.proofs.Taken.{room-tail, put-all-cons}
-use Rattle.runs.specs.Coding.{runPair, runsCoder, endPairs}
-use Rattle.runs.proofs.Adds.{run-pair, first-pair, first-none}
-use Rattle.runs.proofs.Further.{ends-far}
+use Rattle.run_pairs.specs.Coding.{runPair, runsCoder, endPairs}
+use Rattle.run_pairs.proofs.Adds.{run-pair, first-pair, first-none}
+use Rattle.run_pairs.proofs.Further.{ends-far}
 
 -- a position is not below its index
 pub rising-far : (a B : ℕ) (ls : List ℕ) (i : ℕ) → Rising a B ls → i < length ls → a + i ≤ getD ls i 0

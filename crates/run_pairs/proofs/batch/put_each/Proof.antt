@@ -1,13 +1,13 @@
--- `runs::coding::put_each` meets its contract. Assumes nothing.
+-- `run_pairs::batch::put_each` meets its contract. Assumes nothing.
 use Prim.Native.Nat.{_-_}
 use native.Mathlib.Omega.{arith}
 use lib.ListN.{length}
 use Rattle.parts.proofs.Taken.{Writing, write-begin, write-next, write-turn, write-end}
-use Rattle.runs.specs.Coding.{runsCoder}
-use Rattle.runs.proofs.Adds.{keeps}
+use Rattle.run_pairs.specs.Coding.{runsCoder}
+use Rattle.run_pairs.proofs.Adds.{keeps}
 use borrow.Author.Needs.{needs}
-use Rattle.runs.proofs.coding.put_each.Statement.{statement}
-use Rattle.runs.proofs.coding.put_each.Tie as tie
+use Rattle.run_pairs.proofs.batch.put_each.Statement.{statement}
+use Rattle.run_pairs.proofs.batch.put_each.Tie as tie
 
 abbrev Inv-loop : tie.InvT-loop
 Inv-loop dst₀ ps at₀ i₀ dst at i = Writing runsCoder ps at₀ dst₀ at dst i
