@@ -4,7 +4,7 @@ use format::PositionAnswer;
 use format::RankAnswer;
 ghost use mathlib.Core.Path.{_≡_};
 ghost use Rattle.format.specs.Answers.{cellSays, rankSays, positionSays};
-ghost use Rattle.exports.specs.Code.{coded, codeAndValue};
+ghost use Rattle.c_values.specs.Code.{coded, codeAndValue};
 
 pub fn code_and_value(code: u32, value: u32) -> u64
     ensures { λ r. ⌜ r ≡ codeAndValue code value ⌝ }

@@ -2,7 +2,7 @@
 use mathlib.Core.Path.{_≡_, refl, ap}
 use native.Mathlib.Omega.{arith}
 use Rattle.format.specs.Answers.{Answer, refused, empty, given}
-use Rattle.exports.specs.Code.{coded, FromLookup}
+use Rattle.c_values.specs.Code.{coded, FromLookup}
 
 pub same-answer : (a b : Answer) → FromLookup a → FromLookup b → coded a ≡ coded b → a ≡ b
 same-answer (refused n) (refused m) h k e = ap refused (omega arith)

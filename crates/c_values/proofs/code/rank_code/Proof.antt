@@ -1,10 +1,10 @@
 use mathlib.Core.Path.{sym, ap, _∙_}
 use Rattle.format.specs.declared.RankAnswer.{RankAnswer}
 use Rattle.format.specs.Answers.{rankSays}
-use Rattle.exports.specs.Code.{coded}
+use Rattle.c_values.specs.Code.{coded}
 use borrow.Author.Needs.{needs}
-use Rattle.exports.proofs.code.rank_code.Statement.{statement}
-use Rattle.exports.proofs.code.rank_code.Tie as tie
+use Rattle.c_values.proofs.code.rank_code.Statement.{statement}
+use Rattle.c_values.proofs.code.rank_code.Tie as tie
 
 returns : tie.Need-returns
 returns c = c .code-and-value .ensures ∙ ap (λ (a : RankAnswer). coded (rankSays a)) (sym (c .before .before .a .given .1))

@@ -4,10 +4,10 @@ use mathlib.Core.List.{List, _++_}
 use native.Mathlib.Omega.{arith}
 use lib.ListN.{length, getD, take, drop, set, length-set}
 use lib.Seq.{take-length}
-use Rattle.exports.proofs.CoordinateCalls.{copy-turn}
+use Rattle.c_values.proofs.CoordinateCalls.{copy-turn}
 use borrow.Author.Needs.{needs}
-use Rattle.exports.proofs.coordinates.put_numbers.Statement.{statement}
-use Rattle.exports.proofs.coordinates.put_numbers.Tie as tie
+use Rattle.c_values.proofs.coordinates.put_numbers.Statement.{statement}
+use Rattle.c_values.proofs.coordinates.put_numbers.Tie as tie
 
 abbrev Inv-loop : tie.InvT-loop
 Inv-loop numbers dst₀ i₀ dst i = (i ≤ length numbers) × (length dst ≡ length dst₀) × (dst ≡ take i numbers ++ drop i dst₀)

@@ -1,11 +1,11 @@
 -- What the coordinate calls answer, case by case, and the turn of a loop that copies numbers. Assumes nothing.
-use Prim.Native.Nat.{ℕ, suc, _+_, _≤_, _<_}
+use Prim.Native.Nat.{ℕ, zero, suc, _+_, _≤_, _<_}
 use mathlib.Core.Path.{_≡_, refl, sym, ap, _∙_, subst}
 use mathlib.Core.List.{List, _++_}
 use native.Mathlib.Numerals.{add-one}
 use native.Mathlib.Omega.{arith}
 use lib.ListN.{length, getD, take, drop, set}
-use lib.Seq.{drop-cons, take-suc, append-snoc, length-take-le}
+use lib.Seq.{drop-cons, take-suc, append-snoc, length-take-le, set-at}
 use borrow.Author.Tests.{lt-ltb, le-ltb}
 use Rattle.format.specs.declared.Dimensions.{Dimensions}
 use Rattle.format.specs.Signals.{BEYOND, SMALL}
@@ -14,15 +14,13 @@ use Rattle.format.specs.Picture.{coordinatesAt, mostDimensions}
 use Rattle.format.specs.Coordinates.{PositionOf, positionNumber, coordinatesNumber}
 use Rattle.header.proofs.CellCount.{count-some}
 use Rattle.header.proofs.CoordinateAnswers.{countOf, number-extent}
-use Rattle.checked.proofs.Number.{first-refused}
-use Rattle.scatter.proofs.Scattered.{set-seam}
-use Rattle.exports.specs.Extents.{dimensions, CoordinatesOut}
-use Rattle.exports.proofs.Four.{not-four, not-inside, unaltered}
+use Rattle.c_values.specs.Extents.{dimensions, CoordinatesOut}
+use Rattle.c_values.proofs.Four.{not-four, not-inside}
 
 -- one number copied
 pub copy-turn : (d s : List ℕ) (i : ℕ) → i < length d → i < length s → set (take i s ++ drop i d) i (getD s i 0) ≡ take (i + 1) s ++ drop (i + 1) d
 copy-turn d s i h k =
-    rw (drop-cons d i 0 h, set-seam (take i s) i (getD d i 0) (getD s i 0) (drop (suc i) d) (length-take-le i s (omega arith)), add-one i, take-suc s i 0 k)
+    rw (drop-cons d i 0 h, set-at (take i s) (getD d i 0) (drop (suc i) d) (getD s i 0) i (length-take-le i s (omega arith)), add-one i, take-suc s i 0 k)
     (sym (append-snoc (take i s) (getD s i 0) (drop (suc i) d)))
 
 -- ---- coordinates to position
@@ -48,7 +46,8 @@ module _ (c : ℕ) (es fs : List ℕ) (e : es ≡ fs) where
 
 module _ (d : Dimensions) (p : ℕ) (before : List ℕ) where
   pub out-refused : (n : ℕ) → n ≡ coordinatesNumber d p → (n ≡ 0 → ⊥) → CoordinatesOut d p before n before
-  out-refused n e h = record { number = first-refused n (coordinatesNumber d p) _ e h; left = unaltered n _ before h }
+  out-refused zero e h = absurd (h refl)
+  out-refused (suc n) e h = record { number = rw (← e); left = refl }
 
   pub out-extent : (length (d .extents) ≡ mostDimensions → ⊥) → CoordinatesOut d p before 4 before
   out-extent h = out-refused 4 (number-extent d p (no-count d h)) (λ z. omega arith)

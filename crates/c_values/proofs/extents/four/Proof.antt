@@ -1,7 +1,7 @@
-use Rattle.exports.proofs.Four.{four-numbers}
+use Rattle.c_values.proofs.Four.{four-numbers}
 use borrow.Author.Needs.{needs}
-use Rattle.exports.proofs.extents.four.Statement.{statement}
-use Rattle.exports.proofs.extents.four.Tie as tie
+use Rattle.c_values.proofs.extents.four.Statement.{statement}
+use Rattle.c_values.proofs.extents.four.Tie as tie
 
 returns : tie.Need-returns
 returns c = four-numbers _ (c .before .before .before .before .pre)
