@@ -13,9 +13,9 @@ use Rattle.parts.specs.Encoder.{ifZero}
 use Rattle.laws.proofs.Tools.{both-true}
 use Rattle.differences.specs.Walk.{plain, total, Room}
 use Rattle.differences.proofs.Sums.{entry-inside}
-use Rattle.jumps.specs.declared.check.Passed.{Passed}
-use Rattle.jumps.specs.Pass.{Laid, Readable, Goes, bothNear, passesOn}
-use Rattle.jumps.proofs.Turns.{turn-difference}
+use Rattle.jump_pass.specs.declared.check.Passed.{Passed}
+use Rattle.jump_pass.specs.Pass.{Laid, Readable, Goes, bothNear, passesOn}
+use Rattle.jump_pass.proofs.Turns.{turn-difference}
 
 module _ (w second : ℕ) (b : List ℕ) (r : ℕ) where
   -- a pass over differences without a jump adds their sum

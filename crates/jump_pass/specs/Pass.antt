@@ -9,7 +9,7 @@ use Rattle.format.specs.declared.View.{View}
 use Rattle.format.specs.Tools.{both, first}
 use Rattle.format.specs.Bytes.{field, numbersOf}
 use Rattle.parts.specs.Encoder.{ifZero}
-use Rattle.jumps.specs.declared.check.Passed.{Passed}
+use Rattle.jump_pass.specs.declared.check.Passed.{Passed}
 
 -- jumps of 4 bytes in the first part, and in front of the second part a difference of 1 or 2 bytes for each stored word
 pub record Laid (b : List ℕ) (v : View) : Type 0 where

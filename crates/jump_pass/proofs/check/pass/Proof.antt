@@ -5,12 +5,12 @@ use native.Mathlib.Nat.{pos-of-ne-zero}
 use native.Mathlib.Omega.{arith}
 use borrow.Author.Tests.{not-true, not-false}
 use Rattle.format.specs.Tools.{both}
-use Rattle.jumps.specs.Pass.{passesFrom, passesOn}
-use Rattle.jumps.proofs.Turns.{none, reach-most, over, over-jump, passes-whole}
-use Rattle.jumps.proofs.Groups.{readable}
+use Rattle.jump_pass.specs.Pass.{passesFrom, passesOn}
+use Rattle.jump_pass.proofs.Turns.{none, reach-most, over, over-jump, passes-whole}
+use Rattle.jump_pass.proofs.Groups.{readable}
 use borrow.Author.Needs.{needs}
-use Rattle.jumps.proofs.check.pass.Statement.{statement}
-use Rattle.jumps.proofs.check.pass.Tie as tie
+use Rattle.jump_pass.proofs.check.pass.Statement.{statement}
+use Rattle.jump_pass.proofs.check.pass.Tie as tie
 
 -- rank i is reached, and what is left tells the whole
 abbrev Inv-loop : tie.InvT-loop

@@ -3,10 +3,10 @@ use Prim.Native.Nat.{ℕ, _+_, _*_, _-_, _≤_, _<_}
 use native.Mathlib.Nat.{pos-of-ne-zero, le-refl}
 use native.Mathlib.Omega.{arith}
 use Rattle.differences.proofs.Sums.{entry-inside}
-use Rattle.jumps.proofs.Turns.{none, reach-most, turn-difference, turn-none, turn-near, turn-jump}
+use Rattle.jump_pass.proofs.Turns.{none, reach-most, turn-difference, turn-none, turn-near, turn-jump}
 use borrow.Author.Needs.{needs}
-use Rattle.jumps.proofs.check.pass_rank.Statement.{statement}
-use Rattle.jumps.proofs.check.pass_rank.Tie as tie
+use Rattle.jump_pass.proofs.check.pass_rank.Statement.{statement}
+use Rattle.jump_pass.proofs.check.pass_rank.Tie as tie
 
 jump-inside : {n second l : ℕ} (x : ℕ) → 0 < n → 4 * n ≤ second → second + x ≤ l → second - 4 * n + 4 ≤ l
 jump-inside x h k m = omega arith

@@ -5,10 +5,10 @@ use native.Mathlib.Omega.{arith}
 use borrow.Author.Tests.{eq-eqb}
 use Rattle.differences.specs.Walk.{Room}
 use Rattle.differences.proofs.Sums.{none-counted}
-use Rattle.jumps.proofs.Groups.{group-room, group-goes}
+use Rattle.jump_pass.proofs.Groups.{group-room, group-goes}
 use borrow.Author.Needs.{needs}
-use Rattle.jumps.proofs.check.pass_group.Statement.{statement}
-use Rattle.jumps.proofs.check.pass_group.Tie as tie
+use Rattle.jump_pass.proofs.check.pass_group.Statement.{statement}
+use Rattle.jump_pass.proofs.check.pass_group.Tie as tie
 
 -- 128 ranks after rank 0 have room
 room : (c : tie.Then2) → let a = c .before .before .before .args in Room (a .width) (a .second) (a .file .now) (a .i - 1 + 128)

@@ -2,10 +2,10 @@
 use mathlib.Core.Path.{refl, sym}
 use native.Mathlib.Nat.{pos-of-ne-zero}
 use native.Mathlib.Omega.{arith}
-use Rattle.jumps.proofs.Turns.{entry-room, starts-none, starts-some}
+use Rattle.jump_pass.proofs.Turns.{entry-room, starts-none, starts-some}
 use borrow.Author.Needs.{needs}
-use Rattle.jumps.proofs.check.starts_right.Statement.{statement}
-use Rattle.jumps.proofs.check.starts_right.Tie as tie
+use Rattle.jump_pass.proofs.check.starts_right.Statement.{statement}
+use Rattle.jump_pass.proofs.check.starts_right.Tie as tie
 
 returns : tie.Need-returns
 returns c = let a = c .before .before .before .args in sym (starts-none (a .v) (a .file .now) (omega arith))

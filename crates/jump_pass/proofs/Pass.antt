@@ -12,7 +12,7 @@ use Rattle.format.specs.Jumps.{difference, differencesFrom, differences, jumpsO
 use Rattle.laws.proofs.Tools.{cases, both-true}
 use Rattle.laws.proofs.Stored.{Rising}
 use Rattle.laws.proofs.Entries.{fitting, jump-is-zero}
-use Rattle.jumps.specs.Pass.{passes, passesAll}
+use Rattle.jump_pass.specs.Pass.{passes, passesAll}
 
 -- ---- what goes through is what the positions give
 

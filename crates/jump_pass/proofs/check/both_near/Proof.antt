@@ -5,10 +5,10 @@ use native.Mathlib.Nat.{pos-of-ne-zero}
 use native.Mathlib.Omega.{arith}
 use Rattle.format.specs.Bytes.{field}
 use Rattle.parts.specs.Encoder.{ifZero}
-use Rattle.jumps.specs.Pass.{bothNear}
+use Rattle.jump_pass.specs.Pass.{bothNear}
 use borrow.Author.Needs.{needs}
-use Rattle.jumps.proofs.check.both_near.Statement.{statement}
-use Rattle.jumps.proofs.check.both_near.Tie as tie
+use Rattle.jump_pass.proofs.check.both_near.Statement.{statement}
+use Rattle.jump_pass.proofs.check.both_near.Tie as tie
 
 -- the sum of two differences, or 0 where one is 0
 abbrev near : ℕ → ℕ → ℕ

@@ -7,12 +7,12 @@ use native.Mathlib.Nat.{pos-of-ne-zero, le-refl}
 use native.Mathlib.Omega.{arith}
 use borrow.Author.Tests.{not-true, not-false}
 use Rattle.differences.proofs.Sums.{entry-inside}
-use Rattle.jumps.specs.declared.check.Passed.{Passed}
-use Rattle.jumps.specs.Pass.{Goes}
-use Rattle.jumps.proofs.Groups.{goes-on, goes-wrong, goes-nowhere, goes-two, readable-part}
+use Rattle.jump_pass.specs.declared.check.Passed.{Passed}
+use Rattle.jump_pass.specs.Pass.{Goes}
+use Rattle.jump_pass.proofs.Groups.{goes-on, goes-wrong, goes-nowhere, goes-two, readable-part}
 use borrow.Author.Needs.{needs}
-use Rattle.jumps.proofs.check.pass_ranks.Statement.{statement}
-use Rattle.jumps.proofs.check.pass_ranks.Tie as tie
+use Rattle.jump_pass.proofs.check.pass_ranks.Statement.{statement}
+use Rattle.jump_pass.proofs.check.pass_ranks.Tie as tie
 
 -- rank k is reached, and all was right
 abbrev Inv-loop : tie.InvT-loop
