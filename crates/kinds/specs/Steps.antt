@@ -12,7 +12,7 @@ use Rattle.parts.specs.Cursor.{before, walkedAs, steppedAs}
 use Rattle.parts.specs.Walks.{sought}
 use Rattle.runs.specs.Steps as runs
 use Rattle.positions.specs.Steps as positions
-use Rattle.base_offset.specs.Steps as based
+use Rattle.base_groups.specs.Steps as based
 use Rattle.jumps.specs.Steps as jumps
 use Rattle.paged_runs.specs.Steps as paged
 
