@@ -19,7 +19,7 @@ use Rattle.positions.proofs.Laws as positions
 use Rattle.base_offset.proofs.Walk as based
 use Rattle.base_offset.proofs.Encoded as based-coder
 use Rattle.jumps.proofs.Laws as jumps
-use Rattle.paged_runs.proofs.Walk as paged
+use Rattle.page_walk.proofs.Walk as paged
 use Rattle.paged_runs.proofs.Codes as paged-coder
 use Rattle.kinds.specs.Steps.{nextBy, nextOf, startOf, walked}
 use Rattle.runs.specs.Coding.{runsCoder}
