@@ -28,7 +28,7 @@ use Rattle.run_pairs.specs.Coding.{runsCoder}
 use Rattle.runs.proofs.Walk as run-walk
 use Rattle.positions.specs.Coding as positions
 use Rattle.page_entries.specs.Coding as paged
-use Rattle.paged_runs.proofs.Walk as page-walk
+use Rattle.page_walk.proofs.Walk as page-walk
 use Rattle.kinds.specs.Steps.{nextBy, nextOf, storesRuns, runsOf}
 use Rattle.kinds.specs.Coding.{coder, sizedByRanks, countedBy}
 

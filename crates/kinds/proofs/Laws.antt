@@ -18,7 +18,7 @@ use Rattle.runs.proofs.Laws as runs-coder
 use Rattle.positions.proofs.Laws as positions
 use Rattle.base_offset.proofs.Laws as based
 use Rattle.jumps.proofs.Laws as jumps
-use Rattle.paged_runs.proofs.Walk as paged
+use Rattle.page_walk.proofs.Walk as paged
 use Rattle.paged_runs.proofs.Codes as paged-coder
 use Rattle.kinds.specs.Steps.{nextBy, nextOf, startOf, walked}
 use Rattle.run_pairs.specs.Coding.{runsCoder}

@@ -2,8 +2,8 @@ use mathlib.Core.Path.{sym}
 use mathlib.Core.Bool.{true≢false}
 use borrow.Author.Tests.{leb-true}
 use borrow.Author.Needs.{needs}
-use Rattle.paged_runs.proofs.steps.all_there.Statement.{statement}
-use Rattle.paged_runs.proofs.steps.all_there.Tie as tie
+use Rattle.page_walk.proofs.steps.all_there.Statement.{statement}
+use Rattle.page_walk.proofs.steps.all_there.Tie as tie
 
 pub all-there-spec : {M : Type 1} → statement M
 all-there-spec =

@@ -1,8 +1,8 @@
 -- `past_page` meets its contract. Assumes nothing.
 use borrow.Author.Needs.{needs}
-use Rattle.paged_runs.proofs.Along.{past-path}
-use Rattle.paged_runs.proofs.check.past_page.Statement.{statement}
-use Rattle.paged_runs.proofs.check.past_page.Tie as tie
+use Rattle.page_walk.proofs.Along.{past-path}
+use Rattle.page_walk.proofs.check.past_page.Statement.{statement}
+use Rattle.page_walk.proofs.check.past_page.Tie as tie
 
 returns : tie.Need-returns
 returns c =

@@ -1,10 +1,10 @@
 -- `runs_right` meets its contract. The loop's invariant is `Going`. Assumes nothing.
 use Prim.Native.Nat.{_+_, _*_}
 use native.Mathlib.Omega.{arith}
-use Rattle.paged_runs.proofs.Along.{Going, going-none, going-first, going-on, going-done, levelRight}
+use Rattle.page_walk.proofs.Along.{Going, going-none, going-first, going-on, going-done, levelRight}
 use borrow.Author.Needs.{needs}
-use Rattle.paged_runs.proofs.check.runs_right.Statement.{statement}
-use Rattle.paged_runs.proofs.check.runs_right.Tie as tie
+use Rattle.page_walk.proofs.check.runs_right.Statement.{statement}
+use Rattle.page_walk.proofs.check.runs_right.Tie as tie
 
 abbrev Inv-loop : tie.InvT-loop
 Inv-loop file v step left₀ at₀ falls s₀ left at s =

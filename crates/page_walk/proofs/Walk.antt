@@ -23,9 +23,9 @@ use Rattle.parts.specs.Walks.{Walks, GoesAlong, StepsAlong}
 use Rattle.parts.proofs.Entries.{Entries, first-pair, rest-pairs, all-entries}
 use Rattle.parts.proofs.Steps.{add32-small, add32-back, upper, kept-walk}
 use Rattle.parts.proofs.RunWalk.{Fit, Along, along-run, none-left, enter-run, all-fit, all-along}
-use Rattle.paged_runs.specs.Steps.{pageOf, enteredBy, entered, nextIn, next}
-use Rattle.paged_runs.proofs.Allowed.{page-step}
-use Rattle.paged_runs.proofs.GoodPairs.{Good, good-runs}
+use Rattle.page_walk.specs.Steps.{pageOf, enteredBy, entered, nextIn, next}
+use Rattle.page_walk.proofs.Allowed.{page-step}
+use Rattle.page_walk.proofs.GoodPairs.{Good, good-runs}
 
 pub in-along : (b : List ℕ) (second step : ℕ) → GoesAlong (nextIn b second step)
 unfolding nextIn

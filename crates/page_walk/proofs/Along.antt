@@ -24,9 +24,9 @@ use Rattle.levels.specs.Levels.{spanOf, entries}
 use Rattle.levels.specs.Comparing.{Inside}
 use Rattle.levels.proofs.Reading.{pairsIn, pairs-none, pairs-cons, entries-next}
 use Rattle.levels.proofs.Bounded.{cellsOf, emptyOf}
-use Rattle.paged_runs.specs.declared.check.Pages.{Pages}
-use Rattle.paged_runs.specs.Passing.{pairOf, begins, endsRight, pagesRight, runsRight, pastPage}
-use Rattle.paged_runs.proofs.GoodPairs.{Good, good-moved}
+use Rattle.page_walk.specs.declared.check.Pages.{Pages}
+use Rattle.page_walk.specs.Passing.{pairOf, begins, endsRight, pagesRight, runsRight, pastPage}
+use Rattle.page_walk.proofs.GoodPairs.{Good, good-moved}
 
 -- ---- one entry, at the start of a page and within it
 

@@ -18,8 +18,8 @@ use Rattle.parts.specs.Walks.{GoesAlong}
 use Rattle.parts.proofs.Steps.{add32-small}
 use Rattle.parts.proofs.Along.{walked-along, past-along}
 use Rattle.parts.proofs.Batches.{walked-as-add, stepped-as-add}
-use Rattle.paged_runs.specs.Steps.{pageOf, enteredBy, entered, nextIn, There, Filled}
-use Rattle.paged_runs.proofs.Walk.{in-along, page-next}
+use Rattle.page_walk.specs.Steps.{pageOf, enteredBy, entered, nextIn, There, Filled}
+use Rattle.page_walk.proofs.Walk.{in-along, page-next}
 
 -- ---- elements filled by any step
 

@@ -5,12 +5,12 @@ use native.Mathlib.Omega.{arith}
 use lib.ListN.{length}
 use Rattle.wire.proofs.Laws.{pair-there}
 use Rattle.parts.specs.Cursor.{add32}
-use Rattle.paged_runs.specs.Steps.{nextIn, Filled}
-use Rattle.paged_runs.proofs.Walk.{in-along}
-use Rattle.paged_runs.proofs.Pages.{filled-none, filled-then, filled-run, still-there, in-run, in-page}
+use Rattle.page_walk.specs.Steps.{nextIn, Filled}
+use Rattle.page_walk.proofs.Walk.{in-along}
+use Rattle.page_walk.proofs.Pages.{filled-none, filled-then, filled-run, still-there, in-run, in-page}
 use borrow.Author.Needs.{needs}
-use Rattle.paged_runs.proofs.steps.along_page.Statement.{statement}
-use Rattle.paged_runs.proofs.steps.along_page.Tie as tie
+use Rattle.page_walk.proofs.steps.along_page.Statement.{statement}
+use Rattle.page_walk.proofs.steps.along_page.Tie as tie
 
 abbrev Inv-loop : tie.InvT-loop
 Inv-loop file second step c₀ out₀ from i₀ c out i = Filled (nextIn file second step) c₀ from i out₀ c out

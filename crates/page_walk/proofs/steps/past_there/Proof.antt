@@ -4,11 +4,11 @@ use native.Mathlib.Omega.{arith}
 use Rattle.wire.proofs.Laws.{pair-there}
 use Rattle.parts.specs.Cursor.{add32, alongRun, alongBy, steppedAs}
 use Rattle.parts.proofs.Along.{past-along}
-use Rattle.paged_runs.specs.Steps.{next}
-use Rattle.paged_runs.proofs.Walk.{next-along, page-next, next-entered}
+use Rattle.page_walk.specs.Steps.{next}
+use Rattle.page_walk.proofs.Walk.{next-along, page-next, next-entered}
 use borrow.Author.Needs.{needs}
-use Rattle.paged_runs.proofs.steps.past_there.Statement.{statement}
-use Rattle.paged_runs.proofs.steps.past_there.Tie as tie
+use Rattle.page_walk.proofs.steps.past_there.Statement.{statement}
+use Rattle.page_walk.proofs.steps.past_there.Tie as tie
 
 -- the step from the cell that is k further
 stepped : (c : tie.After-along-run)

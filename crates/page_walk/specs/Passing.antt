@@ -8,7 +8,7 @@ use Rattle.format.specs.Runs.{Span}
 use Rattle.wire.specs.declared.Pair.{Pair}
 use Rattle.parts.specs.Falls.{fallen, follows}
 use Rattle.levels.specs.Levels.{spanOf}
-use Rattle.paged_runs.specs.declared.check.Pages.{Pages}
+use Rattle.page_walk.specs.declared.check.Pages.{Pages}
 
 abbrev pub pairOf : Span → Pair
 pairOf x = record { first = x .cells; second = x .empty }

@@ -2,12 +2,12 @@
 use Prim.Native.Nat.{_+_, _-_}
 use native.Mathlib.Omega.{arith}
 use lib.ListN.{length}
-use Rattle.paged_runs.specs.Steps.{nextIn, next, Filled}
-use Rattle.paged_runs.proofs.Walk.{in-along}
-use Rattle.paged_runs.proofs.Pages.{filled-none, filled-then, filled-run, filled-all, still-there}
+use Rattle.page_walk.specs.Steps.{nextIn, next, Filled}
+use Rattle.page_walk.proofs.Walk.{in-along}
+use Rattle.page_walk.proofs.Pages.{filled-none, filled-then, filled-run, filled-all, still-there}
 use borrow.Author.Needs.{needs}
-use Rattle.paged_runs.proofs.steps.along.Statement.{statement}
-use Rattle.paged_runs.proofs.steps.along.Tie as tie
+use Rattle.page_walk.proofs.steps.along.Statement.{statement}
+use Rattle.page_walk.proofs.steps.along.Tie as tie
 
 abbrev Inv-loop : tie.InvT-loop
 Inv-loop file v c₀ out₀ i₀ c out i = Filled (nextIn file (v .second) (v .step)) c₀ 0 i out₀ c out

@@ -1,8 +1,8 @@
 use Rattle.parts.specs.Cursor.{add32}
-use Rattle.paged_runs.specs.Steps.{enteredBy}
+use Rattle.page_walk.specs.Steps.{enteredBy}
 use borrow.Author.Needs.{needs}
-use Rattle.paged_runs.proofs.steps.enter.Statement.{statement}
-use Rattle.paged_runs.proofs.steps.enter.Tie as tie
+use Rattle.page_walk.proofs.steps.enter.Statement.{statement}
+use Rattle.page_walk.proofs.steps.enter.Tie as tie
 
 returns : tie.Need-returns
 unfolding enteredBy add32

@@ -2,10 +2,10 @@ use Prim.Native.Nat.{_-_}
 use mathlib.Core.Path.{_≡_}
 use native.Mathlib.Omega.{arith}
 use borrow.Author.Tests.{lt-ltb, le-ltb}
-use Rattle.paged_runs.specs.Steps.{pageOf}
+use Rattle.page_walk.specs.Steps.{pageOf}
 use borrow.Author.Needs.{needs}
-use Rattle.paged_runs.proofs.steps.page_of.Statement.{statement}
-use Rattle.paged_runs.proofs.steps.page_of.Tie as tie
+use Rattle.page_walk.proofs.steps.page_of.Statement.{statement}
+use Rattle.page_walk.proofs.steps.page_of.Tie as tie
 
 returns : tie.Need-returns
 unfolding pageOf
