@@ -41,18 +41,22 @@ fn the_version_is_the_headers_and_its_build_is_told() {
     let folder = Folder::new();
     let told = folder.run("--version");
     let commit = known(
-        "[ \"$(git rev-parse --show-toplevel)\" = \"$(pwd -P)\" ] && \
-         changed=$(git --no-optional-locks status --porcelain --untracked-files=no) && \
-         printf '%s%s' \"$(git rev-parse --verify HEAD)\" \"${changed:+-dirty}\"",
+        "[ \"$(git rev-parse --show-toplevel)\" = \"$(pwd -P)\" ] && git rev-parse --verify HEAD",
     );
     let toolchain = known(
         "cd \"${RADAR_ARCHIVE_LIB_DIR:-target/staticlib}\" && \
          sha256sum --check --status libexports.toolchain && head -n 1 libexports.toolchain",
     );
-    let version = version();
-    let expected = format!("radar-archive {version}\ncommit: {commit}\ntoolchain: {toolchain}\n");
-    told.printed(&expected).quiet();
-    folder.run("-V").printed(&expected).quiet();
+    let expected = |dirty: &str| {
+        format!(
+            "radar-archive {}\ncommit: {commit}{dirty}\ntoolchain: {toolchain}\n",
+            version()
+        )
+    };
+    let text = told.quiet().text();
+    // A file may have changed since the build; .ci/package_test builds and looks at once.
+    assert!(text == expected("") || text == expected("-dirty"), "{text}");
+    folder.run("-V").printed(&text).quiet();
 }
 
 #[test]
