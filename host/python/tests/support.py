@@ -1,0 +1,53 @@
+"""What the tests share: the sample picture, settings and pictures by chance."""
+import functools
+import importlib.util
+import os
+import subprocess
+import sys
+import unittest
+from pathlib import Path
+
+import numpy as np
+
+PACKAGE = Path(__file__).resolve().parent.parent
+ROOT = PACKAGE.parent.parent
+SAMPLES = ROOT / "samples"
+
+#: The sample picture of docs/FORMAT.md.
+SAMPLE = np.array([0, 0, 7, 9, 0, 5, 0, 0, 0, 0, 300, 0], np.uint32)
+
+#: Some settings of each kind, those at the bounds among them, that fit every picture of at most 256 cells.
+SETTINGS = [(1, 0, 0), (2, 0, 0), (3, 1, 1), (3, 1, 3), (3, 2, 255), (4, 1, 0), (4, 2, 0), (5, 0, 2), (5, 0, 64)]
+
+SHAPES = [(1,), (12,), (256,), (3, 4), (1, 7), (2, 3, 5), (4, 1, 6), (2, 3, 4, 5), (1, 1, 1, 1)]
+
+
+def keywords(setting):
+    """A setting as the arguments of a call."""
+    return dict(zip(("kind", "width", "step"), setting))
+
+
+def picture_by_chance(random, shape):
+    """A picture with runs of some words, and its empty word."""
+    empty = int(random.choice([0, 7, 0xFFFFFFFF]))
+    words = random.choice(np.array([0, 1, 7, 300, 0xFFFFFFFF], np.uint32), shape)
+    return np.where(random.random(shape) < random.random(), np.uint32(empty), words), empty
+
+
+def needs(*modules):
+    """Skips a test where a module is not installed, and says which."""
+    missing = [module for module in modules if importlib.util.find_spec(module) is None]
+    return unittest.skipIf(missing, f"not installed: {', '.join(missing)}")
+
+
+@functools.cache
+def environment():
+    """The environment of a program that uses the package from its sources."""
+    return {**os.environ, "PYTHONPATH": str(PACKAGE / "src"), "PYTHONDONTWRITEBYTECODE": "1"}
+
+
+def python(*arguments, **changed):
+    """Runs a Python program; a variable that is changed to None is taken out."""
+    variables = {**environment(), **changed}
+    variables = {name: value for name, value in variables.items() if value is not None}
+    return subprocess.run([sys.executable, *map(str, arguments)], env=variables, capture_output=True, text=True, timeout=120)
