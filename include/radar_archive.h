@@ -35,6 +35,12 @@
  * A lookup's answer is 64 bits: the low 32 the value, the high 32 the code: 0 given, 1 to 11 refused with that number (the value is then
  * 0), 255 empty.
  *
+ * To link: radar_archive.pc has the flags of the installed library. The loader finds the shared one by its soname libradar_archive.so.1,
+ * whose number is RA_VERSION_MAJOR; the static one needs nothing but the C library.
+ *
+ *    cc program.c $(pkg-config --cflags --libs radar_archive)
+ *    cc program.c $(pkg-config --cflags radar_archive) $(pkg-config --variable=libdir radar_archive)/libradar_archive.a
+ *
  * The examples are C11. Each stands on its own beside this sample, a picture of 12 cells with E = 0 and its file of kind 2:
  *
  * Sample:
@@ -54,8 +60,30 @@
 extern "C" {
 #endif
 
+/* The version. The package, radar_archive.pc and the command have it from here. */
+#define RA_VERSION_MAJOR 1
+#define RA_VERSION_MINOR 0
+#define RA_VERSION_PATCH 0
+#define RA_VERSION "1.0.0"
+
 /* The last change request that this interface has: 0 is document 01 alone. A program can test it. */
 #define RA_REQUEST 0
+
+/* The bytes of the longest file. */
+#define RA_LONGEST_FILE 167772212u
+
+/* The numbers of refusals, by their words. */
+#define RA_SHORT 1u
+#define RA_KIND 2u
+#define RA_SETTING 3u
+#define RA_EXTENT 4u
+#define RA_COUNTS 5u
+#define RA_BODY 6u
+#define RA_PICTURE 7u
+#define RA_BEYOND 8u
+#define RA_UNFIT 9u
+#define RA_SMALL 10u
+#define RA_OTHER 11u
 
 /* The code of a lookup's answer that says the cell is empty. */
 #define RA_EMPTY 255u

@@ -8,6 +8,9 @@
 
 int main(void)
 {
+    version_macros();
+    numbers_by_their_words();
+    longest_file();
     sample_files();
     sample_full();
     sample_bounds();

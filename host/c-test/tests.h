@@ -2,6 +2,11 @@
 #ifndef TESTS_H
 #define TESTS_H
 
+/* macros.c */
+void version_macros(void);
+void numbers_by_their_words(void);
+void longest_file(void);
+
 /* sample.c */
 void sample_files(void);
 void sample_full(void);

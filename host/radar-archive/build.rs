@@ -1,4 +1,5 @@
-//! Finds the engine's static library: in RADAR_ARCHIVE_LIB_DIR, else in the repository's target/staticlib.
+//! Finds the engine's static library: in RADAR_ARCHIVE_LIB_DIR, else in the repository's target/staticlib. The build script of a
+//! dependent has the folder in DEP_EXPORTS_FOLDER.
 
 use std::env;
 use std::path::PathBuf;
@@ -22,6 +23,7 @@ fn main() {
         eprintln!("Run 'rt staticlib exports' at the repository's root, or set {VARIABLE} to the folder of libexports.a.");
         exit(1);
     }
+    println!("cargo:folder={}", folder.display());
     println!("cargo:rustc-link-search=native={}", folder.display());
     println!("cargo:rustc-link-lib=static=exports");
 }

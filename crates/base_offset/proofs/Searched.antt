@@ -19,8 +19,8 @@ use Rattle.parts.specs.Found.{FoundIn, PositionIn}
 use Rattle.parts.specs.Holds.{Holds}
 use Rattle.parts.specs.Last.{LastAtMost}
 use Rattle.parts.proofs.Places.{rising-lt, found-here, found-gap}
-use Rattle.base_offset.proofs.Known.{kind, Known, held, bases-are, offsets-are}
-use Rattle.base_offset.proofs.Turn.{firsts-some}
+use Rattle.base_groups.proofs.Known.{kind, Known, held, bases-are, offsets-are}
+use Rattle.base_groups.proofs.Turn.{firsts-some}
 use Rattle.base_offset.proofs.TwoLevel.{Bases, below-first, at-most, above}
 
 -- the product of two 32-bit numbers

@@ -1,34 +1,16 @@
 // The searches in the two parts. Any bytes and any view are safe.
+use base_groups::search::last_offset;
 use format::Position;
 use format::Rank;
 use format::View;
-use offsets::last::last_u8;
-use offsets::last::last_u16;
 use parts::Found;
 use parts::search::last_at_most;
 use parts::walk::entry_of;
 use wire::load_u32;
 use wire::numbers::lesser;
-ghost use Prim.Native.Nat.{_+_, _<_};
+ghost use Prim.Native.Nat.{_<_};
 ghost use Rattle.format.specs.BaseOffset.{basedKind};
-ghost use Rattle.parts.specs.Cursor.{entryOf};
 ghost use Rattle.parts.specs.Found.{FoundIn, PositionIn};
-ghost use Rattle.parts.specs.Last.{LastAtMost};
-
-// The index of the last of the n offsets from a rank on that is at most x, where they rise; 0 where none is.
-fn last_offset(file: &[u8], v: View, rank: u32, n: u32, x: u32) -> u32
-    ensures { λ r. ⌜ LastAtMost (λ i. entryOf (now (file .entry)) v (rank + i)) n x r ⌝ }
-{
-    if n == 0 {
-        return 0;
-    }
-    let width = v.width;
-    match width {
-        1 => last_u8(file, v.second, rank, n, x),
-        2 => last_u16(file, v.second, rank, n, x),
-        _ => 0,
-    }
-}
 
 // Where a position stands: the last base that is at most it, then the last such offset of that base's group.
 pub fn find(file: &[u8], v: View, p: Position) -> Found

@@ -1,6 +1,5 @@
 // The positions from a cursor on, a batch at a time.
 use differences::groups::difference;
-use differences::groups::zeros_u8;
 use parts::Cursor;
 use std::num::wrapping_add_u32;
 use wire::load_u32;
@@ -8,7 +7,7 @@ ghost use mathlib.Core.Path.{_≡_};
 ghost use mathlib.Core.Bool.{true};
 ghost use Prim.Native.Nat.{_+_, _-_, _≤_};
 ghost use lib.ListN.{length};
-ghost use Rattle.differences.specs.Walk.{Room};
+ghost use Rattle.differences.specs.Walk.{plain, Room};
 ghost use Rattle.difference_rows.specs.Steps.{jumpBy, nextAt, Filled};
 
 // By a difference: 0 is the next jump; the jumps begin at `start`.
@@ -83,6 +82,20 @@ fn each_u8(
     c
 }
 
+// Whether no jump is among the 16 differences after rank r, of one byte each. Nothing is counted, so that one comparison tells of all.
+fn no_jump(file: &[u8], second: usize, r: usize) -> bool
+    requires { ⌜ Room 1 second (now file) (r + 16) ⌝ }
+    ensures { λ g. ⌜ g ≡ plain 1 second (now (file .entry)) r 16 ⌝ }
+{
+    let mut near = true;
+    let mut k: usize = 0;
+    while k < 16 {
+        k += 1;
+        near = (difference(file, second, r + k, 1) != 0) & near;
+    }
+    near
+}
+
 // The same for 16 elements. Where no jump is among the differences they are only added.
 fn block_u8(
     file: &[u8],
@@ -96,7 +109,7 @@ fn block_u8(
     ensures { λ r. ⌜ Filled (nextAt 1 start second (now (file .entry))) c from 16 (now (out .entry)) r (now (out .exit)) ⌝ }
 {
     let rank = c.rank as usize;
-    if zeros_u8(file, second, rank, 16) != 0 {
+    if !no_jump(file, second, rank) {
         return each_u8(file, start, second, c, out, from, from + 16);
     }
     let mut at = c.at;

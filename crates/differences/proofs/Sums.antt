@@ -1,7 +1,7 @@
 -- The differences after a rank: where they lie, how many are 0, and their sum. Assumes nothing.
 use Prim.Native.Nat.{ℕ, zero, suc, _+_, _-_, _*_, _≤_, _<_}
 use mathlib.Core.Path.{_≡_, refl}
-use mathlib.Core.Bool.{false, not}
+use mathlib.Core.Bool.{Bool, true, false, not}
 use mathlib.Core.List.{List}
 use native.Mathlib.Nat.{add-zero, mul-suc, mul-le-mul-left, le-refl}
 use native.Mathlib.Numerals.{add-one}
@@ -44,6 +44,10 @@ module _ (w second : ℕ) (b : List ℕ) where
     unfolding zeros
     zeros-start = refl
 
+    pub plain-start : true ≡ plain w second b r 0
+    unfolding plain
+    plain-start = refl
+
     pub total-start : 0 ≡ total w second b r 0
     unfolding total
     total-start = refl
@@ -52,6 +56,10 @@ module _ (w second : ℕ) (b : List ℕ) where
       pub zeros-next : {x y : ℕ} → x ≡ zeros w second b r k → y ≡ ifZero d 1 0 → x + y ≡ zeros w second b r (k + 1)
       unfolding zeros
       zeros-next e g = let q = rw (add-one k) at f in rw (add-one k, ← e, ← q, g)
+
+      pub plain-next : {x : Bool} → x ≡ plain w second b r k → both (not (eqb d 0)) x ≡ plain w second b r (k + 1)
+      unfolding plain
+      plain-next e = let q = rw (add-one k) at f in rw (add-one k, ← e, ← q)
 
       pub total-next : {x : ℕ} → x ≡ total w second b r k → x + d ≡ total w second b r (k + 1)
       unfolding total

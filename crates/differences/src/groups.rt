@@ -26,21 +26,21 @@ fn zero(d: u32) -> u8
     if d == 0 { 1 } else { 0 }
 }
 
-// How many of the n differences after rank r are 0, for differences of one byte. At most 128 are counted in a byte, so that as many are compared at once.
-pub fn zeros_u8(file: &[u8], second: usize, r: usize, n: usize) -> u8
-    requires { ⌜ Room 1 second (now file) (r + n) × (n ≤ 128) ⌝ }
-    ensures { λ x. ⌜ x ≡ zeros 1 second (now (file .entry)) r n ⌝ }
+// How many of the 128 differences after rank r are 0, for differences of one byte. They are counted in a byte, so that as many are compared at once.
+fn zeros_u8(file: &[u8], second: usize, r: usize) -> u8
+    requires { ⌜ Room 1 second (now file) (r + 128) ⌝ }
+    ensures { λ n. ⌜ n ≡ zeros 1 second (now (file .entry)) r 128 ⌝ }
 {
     let mut count: u8 = 0;
     let mut k: usize = 0;
-    while k < n {
+    while k < 128 {
         k += 1;
         count += zero(difference(file, second, r + k, 1));
     }
     count
 }
 
-// How many of the 128 differences after rank r are 0, for differences of two bytes.
+// The same for differences of two bytes.
 fn zeros_u16(file: &[u8], second: usize, r: usize) -> u16
     requires { ⌜ Room 2 second (now file) (r + 128) ⌝ }
     ensures { λ n. ⌜ n ≡ zeros 2 second (now (file .entry)) r 128 ⌝ }
@@ -60,7 +60,7 @@ pub fn zeros(file: &[u8], second: usize, width: u32, r: usize) -> usize
     ensures { λ n. ⌜ (n ≡ zeros width second (now (file .entry)) r 128) × (n ≤ 128) ⌝ }
 {
     if width == 1 {
-        return zeros_u8(file, second, r, 128) as usize;
+        return zeros_u8(file, second, r) as usize;
     }
     zeros_u16(file, second, r) as usize
 }

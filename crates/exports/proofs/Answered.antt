@@ -20,14 +20,15 @@ pub short-refused : (b : List ℕ) (direct : Answer) (InRange : Answer → Type 
 short-refused b direct InRange s r =
     record { right = λ h. absurd (s (header-right b (accepted b h .header) .long)); short = λ l. refl; free = r }
 
-module _ (b : List ℕ) (v : View) (e : v ≡ viewOf b) (l : WholeHeader b) (p : ℕ) (a : Answer) where
-  judged : Judged b (checkNumber b) v
-  judged = record { number = refl; view = λ h. record { accepted = h; view = e } }
+-- the check's verdict over the header's own counts
+pub judged : (b : List ℕ) (v : View) → v ≡ viewOf b → Judged b (checkNumber b) v
+judged b v e = record { number = refl; view = λ h. record { accepted = h; view = e } }
 
+module _ (b : List ℕ) (v : View) (e : v ≡ viewOf b) (l : WholeHeader b) (p : ℕ) (a : Answer) where
   pub cell-unchecked : CellSearched b v p a → cellUnchecked b p a
   cell-unchecked c =
       record {
-        right = λ h. cell-found b (checkNumber b) v judged p h a c .said;
+        right = λ h. cell-found b (checkNumber b) v (judged b v e) p h a c .said;
         short = λ s. absurd (s l);
         free = c .free;
       }
@@ -36,7 +37,7 @@ module _ (b : List ℕ) (v : View) (e : v ≡ viewOf b) (l : WholeHeader b) (p :
   unfolding viewOf
   rank-unchecked c =
       record {
-        right = λ h. rank-found b (checkNumber b) v judged p h a c .said;
+        right = λ h. rank-found b (checkNumber b) v (judged b v e) p h a c .said;
         short = λ s. absurd (s l);
         free = rw e at (c .free);
       }
@@ -44,7 +45,7 @@ module _ (b : List ℕ) (v : View) (e : v ≡ viewOf b) (l : WholeHeader b) (p :
   pub position-unchecked : PositionSearched b v p a → positionUnchecked b p a
   position-unchecked c =
       record {
-        right = λ h. position-found b (checkNumber b) v judged p h a c .said;
+        right = λ h. position-found b (checkNumber b) v (judged b v e) p h a c .said;
         short = λ s. absurd (s l);
         free = rw e at (c .free);
       }

@@ -1,17 +1,18 @@
 -- What a box answers to corners that have not four numbers. Assumes nothing.
-use Prim.Native.Nat.{ℕ}
-use mathlib.Core.Path.{_≡_, sym, _∙_, subst}
+use Prim.Native.Nat.{ℕ, zero, suc}
+use mathlib.Core.Path.{_≡_, refl, sym, _∙_, subst}
 use mathlib.Core.Bool.{false}
 use mathlib.Core.List.{List}
 use native.Mathlib.Omega.{arith}
 use lib.ListN.{length}
 use Rattle.format.specs.declared.Dimensions.{Dimensions}
 use Rattle.format.specs.Signals.{BEYOND, orElse}
+use Rattle.format.specs.Answers.{leaves}
 use Rattle.format.specs.Picture.{inside, mostDimensions}
 use Rattle.format.specs.Accepted.{dimensionsOf, checkNumber}
 use Rattle.format.specs.Box.{boxAllowed, boxNumber, Boxed}
 use Rattle.laws.proofs.Tools.{cases, orElse-zero}
-use Rattle.exports.proofs.Four.{not-inside, unaltered}
+use Rattle.c_values.proofs.Four.{not-inside}
 
 module _ (d : Dimensions) (low high : List ℕ) where
   low-not-four : (length low ≡ mostDimensions → ⊥) → boxAllowed d low high ≡ false
@@ -21,6 +22,11 @@ module _ (d : Dimensions) (low high : List ℕ) where
   high-not-four : (length high ≡ mostDimensions → ⊥) → boxAllowed d low high ≡ false
   unfolding boxAllowed
   high-not-four h = cases (inside d low) (λ t. rw (t, not-inside d high h)) (λ t. rw t)
+
+-- a refusal alters nothing
+unaltered : (n : ℕ) (out before : List ℕ) → (n ≡ 0 → ⊥) → before ≡ leaves n out before
+unaltered zero out before h = absurd (h refl)
+unaltered (suc n) out before h = refl
 
 module _ (b low high before : List ℕ) (n : ℕ) (e : n ≡ orElse (checkNumber b) BEYOND) where
   some : n ≡ 0 → ⊥

@@ -1,6 +1,4 @@
 pub mod Answered
-pub mod Decoded
-pub mod Four
-pub mod CoordinateCalls
+pub mod MakeCalls
 pub mod PartCalls
 pub mod BoxCalls

@@ -16,10 +16,10 @@ use Rattle.laws.proofs.Bytes.{below-drop, number-small}
 use Rattle.laws.proofs.Check.{counts-by}
 use Rattle.laws.proofs.Acceptance.{accepted, header-right}
 use Rattle.parts.proofs.Seen.{seen}
-use Rattle.checked.specs.Verdict.{Judged}
 use Rattle.lent_parts.proofs.Range.{Ranged, range-file, ranged}
-use Rattle.exports.specs.Code.{coded, codeAndValue}
+use Rattle.c_values.specs.Code.{coded, codeAndValue}
 use Rattle.exports.specs.Handed.{ranksAnswer, shorterAnswer}
+use Rattle.exports.proofs.Answered.{judged}
 
 refused-code : (n m : ℕ) (a : Answer) → n ≡ m → (n ≡ 0 → ⊥) → codeAndValue n 0 ≡ coded (answered m a)
 refused-code zero m a e h = absurd (h refl)
@@ -45,11 +45,8 @@ module _ (b : List ℕ) (a c n : ℕ) (number : n ≡ ranksNumber b a c) where
   ranks-refused h = refused-code n (ranksNumber b a c) _ number h
 
   module _ (z : n ≡ 0) where
-    own : Judged b (checkNumber b) (viewOf b)
-    own = record { number = refl; view = λ h. record { accepted = h; view = refl } }
-
     pub there : Ranged b (viewOf b) a c
-    there = ranged b (checkNumber b) (viewOf b) own a c (range-file b (checkNumber b) (viewOf b) own a c ∙ sym number ∙ z)
+    there = let own = judged b (viewOf b) refl in ranged b (checkNumber b) (viewOf b) own a c (range-file b (checkNumber b) (viewOf b) own a c ∙ sym number ∙ z)
 
     pub ranks-small : Below 256 b → viewOf b .place + 4 * a < 2 ^ 32
     ranks-small small =

@@ -1,4 +1,2 @@
-pub mod Code
-pub mod Extents
 pub mod Handed
 pub mod Unchecked

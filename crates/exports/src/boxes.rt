@@ -1,8 +1,8 @@
 // A box of a picture, to words in row order.
-use crate::extents::four;
 use archive::boxes::box_words;
 use archive::check::check;
-use format::DIMS;
+use c_values::extents::are_four;
+use c_values::extents::four;
 use format::signals::BEYOND;
 ghost use mathlib.Core.Path.{_≡_};
 ghost use Rattle.format.specs.Signals.{BEYOND, orElse};
@@ -25,10 +25,10 @@ fn corner_number(file: &[u8]) -> u32
 pub extern "C" fn ra_box(file: &[u8], low: &[u32], high: &[u32], dst: &mut [u32]) -> u32
     ensures { λ r. ⌜ Boxed (now (file .entry)) (now (low .entry)) (now (high .entry)) (now (dst .entry)) r (now (dst .exit)) ⌝ }
 {
-    if low.len() != DIMS {
+    if !are_four(low) {
         return corner_number(file);
     }
-    if high.len() != DIMS {
+    if !are_four(high) {
         return corner_number(file);
     }
     box_words(file, four(low), four(high), dst)

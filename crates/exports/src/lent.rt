@@ -1,11 +1,11 @@
 // The calls that hand back a part of the caller's bytes: for C, where the part stands.
-use crate::code::code_and_value;
+use c_values::code::code_and_value;
 use format::Rank;
 use header::view::read_view;
 use lent_parts::ranks::ranks_number;
 use lent_parts::shorter::shorter_number;
 ghost use mathlib.Core.Path.{_≡_};
-ghost use Rattle.exports.specs.Code.{coded};
+ghost use Rattle.c_values.specs.Code.{coded};
 ghost use Rattle.exports.specs.Handed.{ranksAnswer, shorterAnswer};
 
 // The offset of the stored bytes of ranks `from` up to but not including `to`.

@@ -1,8 +1,6 @@
 // The C interface: each call on lent buffers under the name that include/radar_archive.h declares. A slice is a pointer and then a length in elements.
 pub mod boxes;
-mod code;
 pub mod coordinates;
-mod extents;
 pub mod lent;
 pub mod opened;
 pub mod reading;

@@ -1,9 +1,9 @@
 // The lookups over the header's own counts, nothing checked: for a file that was accepted once and is asked many times. Bytes shorter than a header
 // open nothing: 8.
-use crate::code::cell_code;
-use crate::code::code_and_value;
-use crate::code::position_code;
-use crate::code::rank_code;
+use c_values::code::cell_code;
+use c_values::code::code_and_value;
+use c_values::code::position_code;
+use c_values::code::rank_code;
 use format::Position;
 use format::Rank;
 use format::signals::BEYOND;
@@ -14,7 +14,7 @@ use search::cell_in;
 use search::placed_in;
 use search::position_in;
 use search::rank_in;
-ghost use Rattle.exports.specs.Code.{Coded};
+ghost use Rattle.c_values.specs.Code.{Coded};
 ghost use Rattle.exports.specs.Unchecked.{cellUnchecked, rankUnchecked, positionUnchecked};
 
 // The word at a position.

@@ -1,18 +1,18 @@
 // Check, expand and the three lookups, each with the complete check first.
-use crate::code::cell_code;
-use crate::code::position_code;
-use crate::code::rank_code;
 use archive::check::check;
 use archive::expand::expand;
 use archive::lookup::cell;
 use archive::lookup::position;
 use archive::lookup::rank;
+use c_values::code::cell_code;
+use c_values::code::position_code;
+use c_values::code::rank_code;
 use format::Position;
 use format::Rank;
 ghost use Rattle.format.specs.Accepted.{Checked};
 ghost use Rattle.format.specs.Calls.{Expanded};
 ghost use Rattle.format.specs.Lookups.{CellFound, RankFound, PositionFound};
-ghost use Rattle.exports.specs.Code.{Coded};
+ghost use Rattle.c_values.specs.Code.{Coded};
 
 // 0, or the first of 1 to 6 that applies.
 #[no_mangle]

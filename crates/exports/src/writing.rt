@@ -1,16 +1,15 @@
 // Make, write and change: each puts a file into a destination.
-use crate::extents::four;
 use archive::change::change;
 use archive::make::make;
 use archive::write::write;
-use format::DIMS;
+use c_values::extents::extents_number;
+use c_values::extents::four;
 use format::Dimensions;
 use format::Position;
 use format::Setting;
-use format::signals::EXTENT;
 use kinds::setting::setting_number;
 ghost use Rattle.format.specs.Calls.{Made, Wrote, Changed};
-ghost use Rattle.exports.specs.Extents.{dimensions, setting};
+ghost use Rattle.c_values.specs.Extents.{dimensions, setting};
 
 // The file of a picture. Extents that are not four numbers are no picture's.
 #[no_mangle]
@@ -27,12 +26,13 @@ pub extern "C" fn ra_make(
     ensures { λ r. ⌜ Made (setting kind width step) (dimensions dims (now (extents .entry))) empty (now (words .entry)) (now (dst .entry)) r (now (dst .exit)) ⌝ }
 {
     let s = Setting { kind, width, step };
-    if extents.len() != DIMS {
+    let unfit = extents_number(extents);
+    if unfit != 0 {
         let number = setting_number(s);
         if number != 0 {
             return number;
         }
-        return EXTENT;
+        return unfit;
     }
     let d = Dimensions {
         count: dims,

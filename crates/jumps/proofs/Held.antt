@@ -15,7 +15,7 @@ use Rattle.laws.proofs.Stored.{Rising}
 use Rattle.laws.proofs.Bounds.{below-rising, below-widen, below-differences, below-jumpsOf}
 use Rattle.parts.specs.Holds.{Counted, Holds}
 use Rattle.parts.proofs.Entries.{Entries, all-entries}
-use Rattle.jumps.specs.Pass.{Laid}
+use Rattle.jump_pass.specs.Pass.{Laid}
 
 -- the jumps and differences of the positions ls
 pub record Held (b : List ℕ) (v : View) (ls : List ℕ) : Type 0 where

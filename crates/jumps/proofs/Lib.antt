@@ -1,7 +1,4 @@
 -- The check.
-pub mod Pass
-pub mod Turns
-pub mod Groups
 pub mod Held
 pub mod Parts
 -- The walks.

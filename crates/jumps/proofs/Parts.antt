@@ -17,9 +17,9 @@ use Rattle.laws.proofs.Bounds.{length-differences}
 use Rattle.laws.proofs.Check.{bytesOf-numbersOf, length-numbersOf}
 use Rattle.parts.specs.Holds.{Counted, said, partsRight, Holds}
 use Rattle.parts.proofs.Seen.{right-holds, holds-right}
-use Rattle.jumps.specs.Pass.{entriesFrom, passesAll, jumpsLeft, differencesLeft, passesFrom, starts}
-use Rattle.jumps.proofs.Pass.{made, through-all}
-use Rattle.jumps.proofs.Turns.{entries-all}
+use Rattle.jump_pass.specs.Pass.{entriesFrom, passesAll, jumpsLeft, differencesLeft, passesFrom, starts}
+use Rattle.jump_pass.proofs.Pass.{made, through-all}
+use Rattle.jump_pass.proofs.Turns.{entries-all}
 use Rattle.jumps.proofs.Held.{Held, laid, seconds, held}
 
 module _ (b : List ℕ) (v : View) where

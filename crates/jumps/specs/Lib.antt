@@ -1,4 +1,3 @@
-pub mod Pass
 pub mod Width
 pub mod Steps
 pub mod Coding

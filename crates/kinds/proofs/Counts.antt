@@ -24,11 +24,11 @@ use Rattle.parts.specs.declared.Sizes.{Sizes}
 use Rattle.parts.specs.Walks.{GoesAlong}
 use Rattle.parts.specs.Codes.{sizesIn}
 use Rattle.parts.specs.Holds.{Holds, kindOf}
-use Rattle.runs.specs.Coding.{runsCoder}
+use Rattle.run_pairs.specs.Coding.{runsCoder}
 use Rattle.runs.proofs.Walk as run-walk
 use Rattle.positions.specs.Coding as positions
 use Rattle.page_entries.specs.Coding as paged
-use Rattle.paged_runs.proofs.Walk as page-walk
+use Rattle.page_walk.proofs.Walk as page-walk
 use Rattle.kinds.specs.Steps.{nextBy, nextOf, storesRuns, runsOf}
 use Rattle.kinds.specs.Coding.{coder, sizedByRanks, countedBy}
 

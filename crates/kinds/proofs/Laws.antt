@@ -16,15 +16,14 @@ use Rattle.parts.specs.Codes.{Codes}
 use Rattle.runs.proofs.Walk as runs
 use Rattle.runs.proofs.Laws as runs-coder
 use Rattle.positions.proofs.Laws as positions
-use Rattle.base_offset.proofs.Walk as based
-use Rattle.base_offset.proofs.Encoded as based-coder
+use Rattle.base_offset.proofs.Laws as based
 use Rattle.jumps.proofs.Laws as jumps
-use Rattle.paged_runs.proofs.Walk as paged
+use Rattle.page_walk.proofs.Walk as paged
 use Rattle.paged_runs.proofs.Codes as paged-coder
 use Rattle.kinds.specs.Steps.{nextBy, nextOf, startOf, walked}
-use Rattle.runs.specs.Coding.{runsCoder}
+use Rattle.run_pairs.specs.Coding.{runsCoder}
 use Rattle.positions.specs.Coding as positions-spec
-use Rattle.base_offset.specs.Coding as based-spec
+use Rattle.base_groups.specs.Coding as based-spec
 use Rattle.jumps.specs.Coding as jumps-spec
 use Rattle.jumps.specs.Coding.{jumpsCoder}
 use Rattle.kinds.specs.Coding.{noCoder, coderOf, coder, derived}
@@ -52,7 +51,7 @@ codes-by : (k w l : ℕ) → codecOf k w l .allowed ≡ true → Codes (coderOf 
 codes-by zero w l a = absurd (never a)
 codes-by (suc zero) w l a = runs-coder.codes w l a
 codes-by (suc (suc zero)) w l a = positions.codes w l a
-codes-by (suc (suc (suc zero))) w l a = based-coder.codes w l a
+codes-by (suc (suc (suc zero))) w l a = based.codes w l a
 codes-by (suc (suc (suc (suc zero)))) w l a = jumps.codes w l a
 codes-by (suc (suc (suc (suc (suc zero))))) w l a = paged-coder.codes w l a
 codes-by (suc (suc (suc (suc (suc (suc k)))))) w l a = absurd (never a)

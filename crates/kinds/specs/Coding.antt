@@ -11,9 +11,9 @@ use Rattle.parts.specs.declared.Encoder.{Encoder}
 use Rattle.parts.specs.declared.Sizes.{Sizes}
 use Rattle.parts.specs.Encoder.{Coder, unchanged, sizesAs, firstsBy, secondsBy, takenAllBy}
 use Rattle.parts.specs.Batch.{addedFirstBy, addedSecondBy}
-use Rattle.runs.specs.Coding as runs
+use Rattle.run_pairs.specs.Coding as runs
 use Rattle.positions.specs.Coding as positions
-use Rattle.base_offset.specs.Coding as based
+use Rattle.base_groups.specs.Coding as based
 use Rattle.jumps.specs.Coding as jumps
 use Rattle.page_entries.specs.Coding as paged
 

@@ -12,9 +12,9 @@ use Rattle.parts.specs.Cursor.{before, walkedAs, steppedAs}
 use Rattle.parts.specs.Walks.{sought}
 use Rattle.runs.specs.Steps as runs
 use Rattle.positions.specs.Steps as positions
-use Rattle.base_offset.specs.Steps as based
+use Rattle.base_groups.specs.Steps as based
 use Rattle.jumps.specs.Steps as jumps
-use Rattle.paged_runs.specs.Steps as paged
+use Rattle.page_walk.specs.Steps as paged
 
 abbrev pub nextBy : ℕ → List ℕ → View → Cursor → Cursor
 nextBy zero b v c = c

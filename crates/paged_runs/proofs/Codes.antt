@@ -26,7 +26,7 @@ use Rattle.parts.specs.Encoder.{ifZero, begun, leftAfter, unchanged, runEnds, t
 use Rattle.parts.specs.Codes.{Codes, PutOut, sizesIn, outIn}
 use Rattle.parts.proofs.Taking.{if-suc, run-ends, no-firsts, same-fit, rank-all, second-all}
 use Rattle.page_entries.specs.Coding.{pageEntry, paged, pageSizes, pagesCoder, coder}
-use Rattle.paged_runs.proofs.Allowed.{page-step}
+use Rattle.page_walk.proofs.Allowed.{page-step}
 use Rattle.page_entries.proofs.OneEntry.{pages-fit, keeps-pages}
 use Rattle.levels.proofs.LevelBytes.{flat-cons, length-entries}
 use Rattle.paged_runs.proofs.FirstPart.{levels-made}

@@ -17,7 +17,7 @@ use Rattle.parts.specs.declared.Sizes.{Sizes}
 use Rattle.parts.specs.Codes.{sizesIn}
 use Rattle.parts.proofs.Outright.{seconds-in, first-in, second-in}
 use Rattle.levels.specs.LevelZero.{levelIn, pairSum, LevelZero}
-use Rattle.paged_runs.proofs.Allowed.{page-step}
+use Rattle.page_walk.proofs.Allowed.{page-step}
 use Rattle.levels.proofs.LevelSums.{level-sum, runs-sum}
 use Rattle.levels.proofs.LevelBytes.{length-entries, put-back, level-back}
 

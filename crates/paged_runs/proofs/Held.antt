@@ -15,7 +15,7 @@ use Rattle.laws.proofs.Bounds.{length-level}
 use Rattle.parts.specs.Holds.{Counted, Holds}
 use Rattle.levels.specs.Levels.{entries}
 use Rattle.levels.specs.Comparing.{Inside}
-use Rattle.paged_runs.proofs.Allowed.{page-step}
+use Rattle.page_walk.proofs.Allowed.{page-step}
 use Rattle.levels.proofs.Reading.{pairs-back, entries-take, entries-next}
 use Rattle.levels.proofs.Bounded.{cellsOf, emptyOf, level-below, upper-below, cells-runs, empty-runs}
 

@@ -23,12 +23,12 @@ use Rattle.parts.specs.Holds.{Counted, Holds, said, partsRight}
 use Rattle.parts.proofs.Seen.{right-holds, holds-right}
 use Rattle.levels.specs.Levels.{entries}
 use Rattle.levels.specs.Comparing.{sameSpans}
-use Rattle.paged_runs.specs.Passing.{runsRight}
+use Rattle.page_walk.specs.Passing.{runsRight}
 use Rattle.levels.proofs.Reading.{pairsIn, pairs-none, pairs-cons, length-pairs, entries-take, entries-next}
 use Rattle.levels.proofs.Bounded.{cellsOf, emptyOf, cells-runs}
 use Rattle.paged_runs.proofs.Held.{inside, upper-held, level-held}
-use Rattle.paged_runs.proofs.GoodPairs.{good-runs, pairs-again, pairs-rising, pairs-length}
-use Rattle.paged_runs.proofs.Along.{right-level, passed-good}
+use Rattle.page_walk.proofs.GoodPairs.{good-runs, pairs-again, pairs-rising, pairs-length}
+use Rattle.page_walk.proofs.Along.{right-level, passed-good}
 use Rattle.levels.proofs.Above.{same-spans}
 
 -- ---- the bytes of entries that were read

@@ -19,11 +19,11 @@ use Rattle.parts.specs.Carried.{Reached}
 use Rattle.parts.proofs.Batches.{stepped-as-add}
 use Rattle.parts.proofs.Entries.{Entries, first-pair, rest-pairs}
 use Rattle.parts.proofs.RunWalk.{Fit}
-use Rattle.paged_runs.specs.Steps.{next}
-use Rattle.paged_runs.proofs.GoodPairs.{Good}
-use Rattle.paged_runs.proofs.Along.{least-one}
+use Rattle.page_walk.specs.Steps.{next}
+use Rattle.page_walk.proofs.GoodPairs.{Good}
+use Rattle.page_walk.proofs.Along.{least-one}
 use Rattle.paged_runs.proofs.Held.{inside}
-use Rattle.paged_runs.proofs.Walk.{Ahead, turn, held-ahead, walks}
+use Rattle.page_walk.proofs.Walk.{Ahead, turn, held-ahead, walks}
 
 -- ---- the entries of a page
 

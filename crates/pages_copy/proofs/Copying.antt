@@ -16,9 +16,9 @@ use Rattle.parts.specs.Copied.{copied}
 use Rattle.parts.proofs.Copied.{shifted}
 use Rattle.parts.proofs.Taking.{left-next}
 use Rattle.parts.proofs.Carried.{Written, written-begin, written-turn}
-use Rattle.paged_runs.specs.Steps.{next}
+use Rattle.page_walk.specs.Steps.{next}
 use Rattle.page_entries.specs.Coding.{pageEntry, pagesCoder}
-use Rattle.paged_runs.proofs.Walk.{next-along}
+use Rattle.page_walk.proofs.Walk.{next-along}
 use Rattle.page_entries.proofs.OneEntry.{keeps-pages}
 use Rattle.pages_copy.specs.Page.{encoderOn}
 use Rattle.pages_copy.proofs.Behind.{pairOn, Behind, pair-on}

@@ -21,9 +21,9 @@ use Rattle.parts.proofs.Along.{past-along}
 use Rattle.parts.proofs.Taking.{if-more, put-second}
 use Rattle.parts.proofs.Grown.{taken-range, put-range}
 use Rattle.parts.proofs.Carried.{Cells}
-use Rattle.paged_runs.specs.Steps.{pageOf, enteredBy, entered, nextIn, next}
+use Rattle.page_walk.specs.Steps.{pageOf, enteredBy, entered, nextIn, next}
 use Rattle.page_entries.specs.Coding.{pageEntry, pagesCoder}
-use Rattle.paged_runs.proofs.Walk.{next-along}
+use Rattle.page_walk.proofs.Walk.{next-along}
 use Rattle.page_entries.proofs.OneEntry.{pages-entry, pages-turn, lengthens-pages}
 use Rattle.page_entries.proofs.RunEnds.{breaks-off}
 use Rattle.pages_copy.specs.Page.{cursorOn, encoderOn}

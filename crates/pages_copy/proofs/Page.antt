@@ -16,7 +16,7 @@ use Rattle.parts.specs.Batch.{Along, RoomAll}
 use Rattle.parts.specs.Copied.{copied}
 use Rattle.parts.proofs.Taking.{if-more}
 use Rattle.parts.proofs.Carried.{Written, written-end, put-as, end-put, turn-now, turn-room-now}
-use Rattle.paged_runs.specs.Steps.{next}
+use Rattle.page_walk.specs.Steps.{next}
 use Rattle.page_entries.specs.Coding.{pagesCoder}
 use Rattle.pages_copy.specs.Page.{cursorOn, encoderOn, Fits, Further}
 use Rattle.pages_copy.proofs.Behind.{pairOn, Behind, pair-on, pair-here}

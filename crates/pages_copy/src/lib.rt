@@ -20,7 +20,7 @@ ghost use Rattle.parts.specs.Cursor.{walkedAs};
 ghost use Rattle.parts.specs.Holds.{Holds, said};
 ghost use Rattle.parts.specs.Batch.{Along, RoomAll};
 ghost use Rattle.parts.specs.Carried.{PutAs, Reached};
-ghost use Rattle.paged_runs.specs.Steps.{next};
+ghost use Rattle.page_walk.specs.Steps.{next};
 ghost use Rattle.page_entries.specs.Coding.{pagesCoder, coder};
 ghost use Rattle.pages_copy.specs.Page.{cursorOn, encoderOn, Fits, Further};
 

@@ -18,8 +18,8 @@ use Rattle.parts.specs.Encoder.{begun, unchanged, runEnds, takenBy, takenAllBy,
 use Rattle.parts.specs.Codes.{Codes, sizesIn}
 use Rattle.parts.proofs.Outright.{outright}
 use Rattle.parts.proofs.Taking.{if-suc, run-ends, no-seconds, same-fit, rank-all, first-all, second-all}
-use Rattle.runs.specs.Coding.{runPair, runsCoder, coder}
-use Rattle.runs.proofs.Adds.{run-pair, keeps}
+use Rattle.run_pairs.specs.Coding.{runPair, runsCoder, coder}
+use Rattle.run_pairs.proofs.Adds.{run-pair, keeps}
 
 -- a run's pair where it ends
 flat-unless : (t : Bool) (x : Run) (xs : List Run)

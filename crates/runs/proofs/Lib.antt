@@ -5,7 +5,4 @@ pub mod Body
 pub mod Lookup
 pub mod Walk
 pub mod Passing
-pub mod Adds
-pub mod Further
-pub mod Ends
 pub mod Laws

@@ -28,11 +28,11 @@ use Rattle.parts.proofs.Grown.{taken-range, put-range}
 use Rattle.parts.proofs.Carried.{Written, written-begin, Cells, written-turn}
 use Rattle.run_search.specs.Before.{lastAt, emptyAt, ranksBefore}
 use Rattle.runs.specs.Steps.{next}
-use Rattle.runs.specs.Coding.{runPair, runsCoder}
+use Rattle.run_pairs.specs.Coding.{runPair, runsCoder}
 use Rattle.runs_copy.specs.Copy.{atRun, ranOn}
 use Rattle.runs.proofs.Body.{inside}
 use Rattle.runs.proofs.Walk.{next-along}
-use Rattle.runs.proofs.Adds.{first-pair, taken-pair, lengthens, keeps}
+use Rattle.run_pairs.proofs.Adds.{first-pair, taken-pair, lengthens, keeps}
 use Rattle.runs_copy.proofs.Whole.{whole-run, ranks-next, InRunAt, to-next, at-first}
 
 -- ---- one run of n cells, which ends at l, into an encoder that has another open

@@ -28,11 +28,11 @@ use Rattle.parts.proofs.Grown.{taken-range}
 use Rattle.parts.proofs.Carried.{Written}
 use Rattle.run_search.specs.Before.{lastAt, emptyAt, ranksBefore}
 use Rattle.runs.specs.Steps.{next}
-use Rattle.runs.specs.Coding.{runsCoder}
+use Rattle.run_pairs.specs.Coding.{runsCoder}
 use Rattle.runs_copy.specs.Copy.{atRun, atEnd, ranOn, BetweenRuns}
 use Rattle.runs.proofs.Body.{inside}
 use Rattle.runs.proofs.Walk.{next-along}
-use Rattle.runs.proofs.Adds.{lengthens}
+use Rattle.run_pairs.proofs.Adds.{lengthens}
 use Rattle.runs.proofs.Lookup.{FirstWith}
 use Rattle.runs_copy.proofs.Whole.{whole-run, words-before, at-rank-before, step-on, to-next, at-first, Stands, stands}
 use Rattle.runs_copy.proofs.Copying.{ranks-from, gone}

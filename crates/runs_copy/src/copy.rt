@@ -22,7 +22,7 @@ ghost use Rattle.parts.specs.Batch.{Along, RoomAll};
 ghost use Rattle.parts.specs.Carried.{PutAs, Reached};
 ghost use Rattle.run_search.specs.Before.{ranksBefore};
 ghost use Rattle.runs.specs.Steps.{next};
-ghost use Rattle.runs.specs.Coding.{runsCoder};
+ghost use Rattle.run_pairs.specs.Coding.{runsCoder};
 ghost use Rattle.runs_copy.specs.Copy.{atRun, atEnd, ranOn, BetweenRuns};
 
 // The next n ranks, all in the cursor's run.

@@ -59,7 +59,7 @@ _radar_archive() {
         shorter) options="--json" ;;
         best) options="--output -o --force -f --max-length" ;;
         completion)
-            COMPREPLY=($(compgen -W "bash --help" -- "$word"))
+            COMPREPLY=($(compgen -W "bash zsh fish --help" -- "$word"))
             return
             ;;
         help)

@@ -21,7 +21,7 @@ mod shorter;
 mod walk;
 
 #[cfg(test)]
-pub(crate) use completion::BASH;
+pub(crate) use completion::{BASH, FISH, ZSH};
 #[cfg(test)]
 pub(crate) use man::PAGE;
 
@@ -31,7 +31,7 @@ use crate::arguments::{nearest, parse, Command, Request};
 use crate::failure::{Failure, DONE};
 use crate::help::PROGRAM;
 use crate::output::Results;
-use crate::shown;
+use crate::{shown, version};
 
 /// All commands, in the order of the program's help.
 pub static ALL: [&Command; 16] = [
@@ -60,7 +60,7 @@ pub fn run(mut arguments: impl Iterator<Item = OsString>) -> Result<u8, Failure>
     };
     match first.to_str() {
         Some("--help" | "-h") => return tell(PROGRAM),
-        Some("--version" | "-V") => return tell(&version()),
+        Some("--version" | "-V") => return tell(&version::told()),
         Some(word) if word.starts_with('-') => return Err(unknown_option(word)),
         _ => {}
     }
@@ -102,11 +102,6 @@ fn usage(message: String) -> Failure {
         command: None,
         message,
     }
-}
-
-/// The program's name and version.
-fn version() -> String {
-    format!("radar-archive {}\n", env!("CARGO_PKG_VERSION"))
 }
 
 /// Puts a text on standard output.

@@ -7,7 +7,8 @@ pub const PROGRAM: &str = include_str!("help/program.txt");
 mod tests {
     use super::PROGRAM;
     use crate::arguments::Command;
-    use crate::commands::{ALL, BASH, PAGE};
+    use crate::commands::{ALL, BASH, FISH, PAGE, ZSH};
+    use crate::version::VERSION;
 
     /// All ways to write a command's options.
     fn written(command: &Command) -> Vec<String> {
@@ -64,24 +65,65 @@ mod tests {
                 assert!(has(&page, &option), "{option}");
             }
         }
-        let version = format!("\"radar-archive {}\"", env!("CARGO_PKG_VERSION"));
+        let version = format!("\"radar-archive {VERSION}\"");
         assert!(page.contains(&version));
     }
 
-    #[test]
-    fn the_completion_offers_each_command_and_option() {
+    /// Wants a line that starts with the command's name for each command, and its options in that line.
+    fn offers(script: &str, start: impl Fn(&str) -> String) {
         for command in ALL {
             let name = command.name;
-            let first = BASH.lines().find(|line| line.contains("local commands="));
-            assert!(first.is_some_and(|line| has(line, name)), "{name}");
-            let start = format!("        {name}) options=");
-            let Some(line) = BASH.lines().find(|line| line.starts_with(&start)) else {
+            let start = start(name);
+            let Some(line) = script.lines().find(|line| line.starts_with(&start)) else {
                 assert!(command.options.is_empty(), "{name}");
                 continue;
             };
             for option in written(command) {
                 let help = option == "--help" || option == "-h";
                 assert!(help || has(line, &option), "{name}: {option}");
+            }
+        }
+    }
+
+    #[test]
+    fn the_completion_of_bash_offers_each_command_and_option() {
+        let first = BASH.lines().find(|line| line.contains("local commands="));
+        for command in ALL {
+            let name = command.name;
+            assert!(first.is_some_and(|line| has(line, name)), "{name}");
+        }
+        offers(BASH, |name| format!("        {name}) options="));
+    }
+
+    #[test]
+    fn the_completion_of_zsh_offers_each_command_and_option() {
+        for command in ALL {
+            let name = command.name;
+            assert!(ZSH.contains(&format!("\n        '{name}:")), "{name}");
+            assert!(ZSH.contains(&format!("\n        {name}) ")), "{name}");
+            for option in written(command) {
+                let key = format!("\n        {option} ");
+                assert!(ZSH.contains(&key), "{name}: {option}");
+            }
+        }
+        offers(ZSH, |name| format!("        {name}) options="));
+    }
+
+    #[test]
+    fn the_completion_of_fish_offers_each_command_and_option() {
+        let lines = || FISH.lines().filter(|line| !line.starts_with('#'));
+        for command in ALL {
+            let name = command.name;
+            let first = format!("_no_command -a {name} -d ");
+            assert!(lines().any(|line| line.contains(&first)), "{name}");
+            for option in command.all_options() {
+                let mut written = format!("-l {}", option.long);
+                if let Some(letter) = option.short {
+                    written = format!("-s {letter} {written}");
+                }
+                let mut offers = lines().filter_map(|line| line.split_once(&written));
+                let found = offers.any(|(before, _)| has(before, name));
+                assert!(found, "{name}: {written}");
             }
         }
     }

@@ -21,6 +21,7 @@ pub mod refused;
 pub mod shown;
 #[allow(unsafe_code)]
 pub mod signals;
+pub mod version;
 
 use std::ffi::OsString;
 

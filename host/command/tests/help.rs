@@ -36,16 +36,6 @@ fn the_programs_help_names_every_command() {
 }
 
 #[test]
-fn the_version() {
-    let folder = Folder::new();
-    let version = folder.run("--version");
-    version
-        .printed(concat!("radar-archive ", env!("CARGO_PKG_VERSION"), "\n"))
-        .quiet();
-    folder.run("-V").printed(&version.text()).quiet();
-}
-
-#[test]
 fn each_commands_help_names_each_of_its_options() {
     let folder = Folder::new();
     for (name, options) in COMMANDS {
@@ -212,12 +202,14 @@ fn the_completion_completes_the_options_of_each_command() {
 #[test]
 fn the_completion_names_every_command_and_option() {
     let folder = Folder::new();
-    let script = folder.run("completion bash");
-    script.quiet();
-    for (name, options) in COMMANDS {
-        assert!(has_word(&script.text(), name), "{name}");
-        for option in options.iter() {
-            assert!(has_word(&script.text(), option), "{name} {option}");
+    for shell in ["bash", "zsh"] {
+        let script = folder.run(&format!("completion {shell}"));
+        script.quiet();
+        for (name, options) in COMMANDS {
+            assert!(has_word(&script.text(), name), "{shell}: {name}");
+            for option in options.iter() {
+                assert!(has_word(&script.text(), option), "{shell}: {name} {option}");
+            }
         }
     }
     let kinds = completed(&folder, "radar-archive change --kind ''");
@@ -237,4 +229,51 @@ fn the_completion_completes_file_names() {
         offers == ["m1.radar"] || by_bash.contains("default"),
         "{offers:?}, {by_bash}"
     );
+}
+
+/// Whether a shell is installed; where not, what is not tested is told.
+fn installed(folder: &Folder, shell: &str) -> bool {
+    let found = folder.bash(&format!("command -v {shell}")).status.success();
+    if !found {
+        eprintln!("no {shell} here: not tested");
+    }
+    found
+}
+
+/// What fish offers for a command line.
+fn offered_by_fish(folder: &Folder, line: &str) -> Vec<String> {
+    let script = format!("radar-archive completion fish | source; complete -C '{line}'");
+    let run = folder.bash(&format!("HOME=$PWD fish --no-config -c \"{script}\""));
+    let text = run.quiet().text();
+    let offer = |line: &str| line.split('\t').next().unwrap_or("").to_string();
+    text.lines().map(offer).collect()
+}
+
+#[test]
+fn fish_completes_commands_and_options() {
+    let folder = Folder::with_samples();
+    if !installed(&folder, "fish") {
+        return;
+    }
+    let offers = offered_by_fish(&folder, "radar-archive ch");
+    assert_eq!(offers, ["change", "check"]);
+    for (name, options) in COMMANDS {
+        let offers = offered_by_fish(&folder, &format!("radar-archive {name} --"));
+        let long = options.iter().chain(&["--help"]);
+        let mut long: Vec<_> = long.filter(|option| option.starts_with("--")).collect();
+        long.sort_unstable();
+        assert_eq!(offers.iter().collect::<Vec<_>>(), long, "{name}");
+    }
+    let offers = offered_by_fish(&folder, "radar-archive info m1");
+    assert_eq!(offers, ["m1.radar"]);
+}
+
+#[test]
+fn zsh_reads_its_completion() {
+    let folder = Folder::new();
+    if installed(&folder, "zsh") {
+        folder
+            .bash("radar-archive completion zsh > _radar-archive && zsh -f -n _radar-archive")
+            .quiet();
+    }
 }

@@ -121,7 +121,10 @@ fn a_missing_operand_and_one_too_many() {
     }
     folder.run("shorter m1.radar").usage("shorter");
     folder.run("completion").usage("completion");
-    folder.run("completion zsh").usage("completion");
+    let notes = folder.run("completion tcsh").usage("completion");
+    for shell in ["tcsh", "bash", "zsh", "fish"] {
+        assert!(notes.contains(shell), "{notes}");
+    }
     folder.run("man m1.radar").usage("man");
     folder.run("help frobnicate").ended(2);
 }

@@ -8,10 +8,10 @@ use Rattle.parts.specs.Cursor.{steppedAs}
 use Rattle.parts.specs.Carried.{carried, Reached}
 use Rattle.parts.proofs.Batches.{stepped-as-add}
 use Rattle.parts.proofs.Carried.{Written, written-begin, Cells, cells, run-asked, run-room, written-turn, written-then, written-end}
-use Rattle.paged_runs.specs.Steps.{next}
+use Rattle.page_walk.specs.Steps.{next}
 use Rattle.page_entries.specs.Coding.{pagesCoder, coder}
-use Rattle.paged_runs.proofs.Allowed.{page-step}
-use Rattle.paged_runs.proofs.Walk.{next-along}
+use Rattle.page_walk.proofs.Allowed.{page-step}
+use Rattle.page_walk.proofs.Walk.{next-along}
 use Rattle.page_entries.proofs.OneEntry.{keeps-pages}
 use Rattle.pages_copy.proofs.Turn.{reached-on, past-last, reached-last, some-last, same-last}
 use borrow.Author.Needs.{needs}

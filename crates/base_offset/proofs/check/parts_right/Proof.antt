@@ -1,9 +1,9 @@
 use mathlib.Core.Path.{sym, _∙_}
 use native.Mathlib.Omega.{arith}
 use Rattle.format.specs.Tools.{Below}
-use Rattle.base_offset.proofs.Known.{known}
+use Rattle.base_groups.proofs.Known.{known}
 use Rattle.laws.proofs.Bounds.{below-elements}
-use Rattle.base_offset.proofs.Turn.{no-ranks, firsts-some, falls-other, falls-same}
+use Rattle.base_groups.proofs.Turn.{no-ranks, firsts-some, falls-other, falls-same}
 use borrow.Author.Needs.{needs}
 use Rattle.base_offset.proofs.check.parts_right.Statement.{statement}
 use Rattle.base_offset.proofs.check.parts_right.Tie as tie

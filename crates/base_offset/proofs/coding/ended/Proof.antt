@@ -1,6 +1,6 @@
 use native.Mathlib.Nat.{add-zero}
 use Rattle.parts.specs.Encoder.{endedBy}
-use Rattle.base_offset.specs.Coding.{coder}
+use Rattle.base_groups.specs.Coding.{coder}
 use Rattle.base_offset.proofs.coding.ended.Statement.{statement}
 use Rattle.base_offset.proofs.coding.ended.Tie as tie
 

@@ -1,6 +1,6 @@
 use mathlib.Core.Path.{sym}
 use Rattle.stores.proofs.Laws.{put-nil}
-use Rattle.base_offset.specs.Coding.{coder}
+use Rattle.base_groups.specs.Coding.{coder}
 use Rattle.base_offset.proofs.coding.finish.Statement.{statement}
 use Rattle.base_offset.proofs.coding.finish.Tie as tie
 

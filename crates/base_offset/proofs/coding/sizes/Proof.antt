@@ -1,5 +1,5 @@
 use mathlib.Core.Path.{refl}
-use Rattle.base_offset.specs.Coding.{coder}
+use Rattle.base_groups.specs.Coding.{coder}
 use borrow.Author.Needs.{needs}
 use Rattle.base_offset.proofs.coding.sizes.Statement.{statement}
 use Rattle.base_offset.proofs.coding.sizes.Tie as tie

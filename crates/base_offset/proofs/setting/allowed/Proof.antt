@@ -1,5 +1,5 @@
 use native.Mathlib.Omega.{arith}
-use Rattle.base_offset.proofs.Rule.{is-allowed, not-allowed}
+use Rattle.base_groups.proofs.Rule.{is-allowed, not-allowed}
 use Rattle.base_offset.proofs.setting.allowed.Statement.{statement}
 use Rattle.base_offset.proofs.setting.allowed.Tie as tie
 

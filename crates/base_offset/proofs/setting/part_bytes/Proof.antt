@@ -2,7 +2,7 @@ use mathlib.Core.Path.{refl}
 use native.Mathlib.Omega.{arith}
 use Rattle.format.specs.BaseOffset.{basedKind}
 use Rattle.offsets.proofs.Widths.{entries-fit}
-use Rattle.base_offset.proofs.Rule.{allows}
+use Rattle.base_groups.proofs.Rule.{allows}
 use borrow.Author.Needs.{needs}
 use Rattle.base_offset.proofs.setting.part_bytes.Statement.{statement}
 use Rattle.base_offset.proofs.setting.part_bytes.Tie as tie

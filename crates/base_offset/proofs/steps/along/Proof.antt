@@ -10,7 +10,7 @@ use Rattle.laws.proofs.Tools.{cases}
 use Rattle.wire.specs.Wire.{entrySize}
 use Rattle.offsets.specs.Sums.{sums}
 use Rattle.offsets.proofs.Summing.{length-sums}
-use Rattle.base_offset.proofs.Batched.{along-batch}
+use Rattle.base_groups.proofs.Batched.{along-batch}
 use borrow.Author.Needs.{needs}
 use Rattle.base_offset.proofs.steps.along.Statement.{statement}
 use Rattle.base_offset.proofs.steps.along.Tie as tie

@@ -1,4 +1,4 @@
-use Rattle.base_offset.specs.Steps.{next}
+use Rattle.base_groups.specs.Steps.{next}
 use borrow.Author.Needs.{needs}
 use Rattle.base_offset.proofs.steps.next.Statement.{statement}
 use Rattle.base_offset.proofs.steps.next.Tie as tie

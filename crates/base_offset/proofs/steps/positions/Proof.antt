@@ -5,9 +5,9 @@ use native.Mathlib.Omega.{arith}
 use lib.ListN.{length}
 use Rattle.parts.proofs.Batches.{Partly, batch-start, batch-end, length-walked-as}
 use Rattle.offsets.specs.Sums.{There}
-use Rattle.base_offset.specs.Steps.{next, aheadOf}
-use Rattle.base_offset.proofs.Cuts.{Cut, cut, part, length-part}
-use Rattle.base_offset.proofs.Batched.{ahead-some, same-base, there-rest, length-whole, part-turn}
+use Rattle.base_groups.specs.Steps.{next, aheadOf}
+use Rattle.base_groups.proofs.Cuts.{Cut, cut, part, length-part}
+use Rattle.base_groups.proofs.Batched.{ahead-some, same-base, there-rest, length-whole, part-turn}
 use borrow.Author.Needs.{needs}
 use Rattle.base_offset.proofs.steps.positions.Statement.{statement}
 use Rattle.base_offset.proofs.steps.positions.Tie as tie

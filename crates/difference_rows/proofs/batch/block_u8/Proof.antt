@@ -4,10 +4,10 @@ use mathlib.Core.Path.{_≡_, sym, _∙_}
 use mathlib.Core.Bool.{true}
 use native.Mathlib.Nat.{add-zero}
 use native.Mathlib.Omega.{arith}
-use borrow.Author.Tests.{eq-eqb}
+use borrow.Author.Tests.{not-false}
 use Rattle.parts.specs.Cursor.{add32}
 use Rattle.differences.specs.Walk.{Room, plain}
-use Rattle.differences.proofs.Sums.{earlier, none-counted}
+use Rattle.differences.proofs.Sums.{earlier}
 use Rattle.parts.proofs.Batches.{stand, stand-first}
 use Rattle.difference_rows.specs.Steps.{nextAt}
 use Rattle.difference_rows.proofs.Filled.{Left, fill-begin, fill-turn, fill-end, filled-length, stand-next}
@@ -23,8 +23,8 @@ Inv-loop file start second c out₀ from rank at₀ k₀ out at k =
 abbrev μ-loop : tie.MeasureT-loop
 μ-loop file start second c out₀ from rank at₀ k₀ out at k = 16 - k
 
-zeros-u8-requires : tie.Need-zeros-u8-requires Inv-loop μ-loop
-zeros-u8-requires c κs = (c .before .before .before .pre .0, omega arith)
+no-jump-requires : tie.Need-no-jump-requires Inv-loop μ-loop
+no-jump-requires c κs = c .before .before .before .pre .0
 
 each-u8-requires : tie.Need-each-u8-requires Inv-loop μ-loop
 each-u8-requires c κs =
@@ -68,9 +68,7 @@ difference-requires c κs = (omega arith, omega arith, room c .inside)
 -- no jump is among the differences
 no-jump : (c : tie.Else1 Inv-loop μ-loop)
     → let a = c .before .before .before .before .before .args in plain 1 (a .second) (a .file .now) (a .c .rank) 16 ≡ true
-no-jump c =
-    let a = c .before .before .before .before .before .args in
-    sym (none-counted 1 (a .second) (a .file .now) (a .c .rank) 16 (c .before .zeros-u8 .ensures)) ∙ eq-eqb _ 0 (c .if1 .left)
+no-jump c = sym (c .before .no-jump .ensures) ∙ not-false (c .before .no-jump .result) (c .if1 .left)
 
 loop-again : tie.Need-loop-again Inv-loop μ-loop
 loop-again c =
@@ -109,7 +107,7 @@ block-u8-spec =
     Inv-loop
     μ-loop
     (λ c. search needs)
-    zeros-u8-requires
+    no-jump-requires
     (λ c. search needs)
     each-u8-requires
     same-length

@@ -11,7 +11,7 @@ two : (c : tie.Else1) → c .before .before .args .width ≡ 2
 two c = let z = c .before .before .pre in other-width _ (z .narrow) (z .wide) (c .if1 .left)
 
 zeros-u8-requires : tie.Need-zeros-u8-requires
-zeros-u8-requires c κs = (rw (c .if1 .taken) at (c .before .before .pre), omega arith)
+zeros-u8-requires c κs = rw (c .if1 .taken) at (c .before .before .pre)
 
 returns : tie.Need-returns
 returns c =

@@ -10,15 +10,15 @@ use Rattle.differences.proofs.groups.zeros_u8.Tie as tie
 
 -- k differences are counted
 abbrev Inv-loop : tie.InvT-loop
-Inv-loop file second r n count₀ k₀ count k = (k ≤ n) × (count ≤ k) × (count ≡ zeros 1 second file r k)
+Inv-loop file second r count₀ k₀ count k = (k ≤ 128) × (count ≤ k) × (count ≡ zeros 1 second file r k)
 
 abbrev μ-loop : tie.MeasureT-loop
-μ-loop file second r n count₀ k₀ count k = n - k
+μ-loop file second r count₀ k₀ count k = 128 - k
 
 -- the next difference lies in the file
 room : (c : tie.In-loop Inv-loop μ-loop)
     → let a = c .before .before .before .args in Room 1 (a .second) (a .file .now) (a .r + (c .before .loop .k + 1))
-room c = earlier _ _ _ (c .before .before .before .pre .0) (omega arith)
+room c = earlier _ _ _ (c .before .before .before .pre) (omega arith)
 
 loop-holds : tie.Need-loop-holds Inv-loop μ-loop
 loop-holds c = let a = c .before .args in (omega arith, omega arith, zeros-start 1 (a .second) (a .file .now) (a .r))
@@ -40,7 +40,8 @@ loop-again c =
 returns : tie.Need-returns Inv-loop μ-loop
 returns c =
     let l = c .before .loop in
-    let e : l .k ≡ c .before .before .before .args .n = omega arith in
+    let h = c .loop-test .left in
+    let e : l .k ≡ 128 = omega arith in
     rw e at (l .inv .2)
 
 pub zeros-u8-spec : {M : Type 1} → statement M

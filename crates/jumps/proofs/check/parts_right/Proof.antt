@@ -6,7 +6,7 @@ use Rattle.format.specs.Tools.{both}
 use Rattle.format.specs.Jumps.{jumpsKind}
 use Rattle.wire.proofs.Laws.{other-width}
 use Rattle.parts.specs.Holds.{partsRight}
-use Rattle.jumps.specs.Pass.{passesFrom}
+use Rattle.jump_pass.specs.Pass.{passesFrom}
 use Rattle.jumps.proofs.Held.{laid}
 use Rattle.laws.proofs.Bounds.{below-elements}
 use Rattle.jumps.proofs.Parts.{parts-split}

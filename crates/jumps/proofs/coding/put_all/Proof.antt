@@ -14,7 +14,7 @@ use Rattle.parts.proofs.Taken.{Writing, write-begin, write-next, write-end}
 use Rattle.difference_rows.specs.Later.{laterDifferences, laterJumps}
 use Rattle.jumps.specs.Coding.{jumpsCoder, coder}
 use Rattle.jumps.proofs.Held.{widths}
-use Rattle.jumps.proofs.Turns.{none}
+use Rattle.jump_pass.proofs.Turns.{none}
 use Rattle.jumps.proofs.Batch.{along-rising}
 use Rattle.jumps.proofs.PutBatch.{batch-put, batch-room, batch-none}
 use borrow.Author.Needs.{needs}

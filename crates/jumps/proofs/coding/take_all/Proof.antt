@@ -7,7 +7,7 @@ use Rattle.parts.specs.Ready.{Sound}
 use Rattle.parts.proofs.Taken.{measure-begin, measure-next, measure-end}
 use Rattle.jumps.specs.Coding.{jumpsCoder, coder}
 use Rattle.jumps.proofs.Held.{widths}
-use Rattle.jumps.proofs.Turns.{none}
+use Rattle.jump_pass.proofs.Turns.{none}
 use Rattle.jumps.proofs.Batch.{along-rising, taken-batch, batch-fits}
 use borrow.Author.Needs.{needs}
 use Rattle.jumps.proofs.coding.take_all.Statement.{statement}

@@ -1,7 +1,7 @@
 use native.Mathlib.Omega.{arith}
 use Rattle.parts.proofs.Taken.{write-begin, write-end}
 use Rattle.page_entries.specs.Coding.{pagesCoder, coder}
-use Rattle.paged_runs.proofs.Allowed.{page-step}
+use Rattle.page_walk.proofs.Allowed.{page-step}
 use borrow.Author.Needs.{needs}
 use Rattle.paged_runs.proofs.coding.put_all.Statement.{statement}
 use Rattle.paged_runs.proofs.coding.put_all.Tie as tie

@@ -4,7 +4,7 @@ use native.Mathlib.Omega.{arith}
 use lib.ListN.{length}
 use Rattle.parts.proofs.Grown.{grow-fits, grown-range, room-range, put-range}
 use Rattle.page_entries.specs.Coding.{pagesCoder, coder}
-use Rattle.paged_runs.proofs.Allowed.{page-step}
+use Rattle.page_walk.proofs.Allowed.{page-step}
 use Rattle.page_entries.proofs.OneEntry.{lengthens-pages}
 use borrow.Author.Needs.{needs}
 use Rattle.paged_runs.proofs.coding.put_run.Statement.{statement}

@@ -1,6 +1,6 @@
 use native.Mathlib.Omega.{arith}
 use Rattle.page_entries.specs.Coding.{pagesCoder, coder}
-use Rattle.paged_runs.proofs.Allowed.{page-step}
+use Rattle.page_walk.proofs.Allowed.{page-step}
 use borrow.Author.Needs.{needs}
 use Rattle.paged_runs.proofs.coding.sizes.Statement.{statement}
 use Rattle.paged_runs.proofs.coding.sizes.Tie as tie

@@ -3,7 +3,7 @@ use native.Mathlib.Omega.{arith}
 use lib.ListN.{length}
 use Rattle.parts.proofs.Taken.{Measuring, measure-begin, measure-next, measure-turn, measure-end}
 use Rattle.page_entries.specs.Coding.{pagesCoder, coder}
-use Rattle.paged_runs.proofs.Allowed.{page-step}
+use Rattle.page_walk.proofs.Allowed.{page-step}
 use Rattle.page_entries.proofs.OneEntry.{keeps-pages}
 use borrow.Author.Needs.{needs}
 use Rattle.paged_runs.proofs.coding.take_all.Statement.{statement}

@@ -2,7 +2,7 @@
 use native.Mathlib.Omega.{arith}
 use borrow.Author.Needs.{needs}
 use Rattle.format.specs.PagedRuns.{pagesKind}
-use Rattle.paged_runs.proofs.Allowed.{page-step}
+use Rattle.page_walk.proofs.Allowed.{page-step}
 use Rattle.paged_runs.proofs.setting.part_bytes.Statement.{statement}
 use Rattle.paged_runs.proofs.setting.part_bytes.Tie as tie
 

@@ -2,8 +2,8 @@ use mathlib.Core.Path.{_∙_}
 use borrow.Author.Tests.{lt-ltb}
 use borrow.Author.Needs.{needs}
 use Rattle.parts.specs.Cursor.{add32, alongRun}
-use Rattle.paged_runs.specs.Steps.{nextIn, next}
-use Rattle.paged_runs.proofs.Walk.{next-entered}
+use Rattle.page_walk.specs.Steps.{nextIn, next}
+use Rattle.page_walk.proofs.Walk.{next-entered}
 use Rattle.paged_runs.proofs.steps.next.Statement.{statement}
 use Rattle.paged_runs.proofs.steps.next.Tie as tie
 

@@ -1,8 +1,8 @@
 use mathlib.Core.Path.{_∙_, ap}
 use native.Mathlib.Omega.{arith}
 use Rattle.parts.proofs.Along.{past-along}
-use Rattle.paged_runs.specs.Steps.{next}
-use Rattle.paged_runs.proofs.Walk.{next-along}
+use Rattle.page_walk.specs.Steps.{next}
+use Rattle.page_walk.proofs.Walk.{next-along}
 use borrow.Author.Needs.{needs}
 use Rattle.paged_runs.proofs.steps.past.Statement.{statement}
 use Rattle.paged_runs.proofs.steps.past.Tie as tie

@@ -4,8 +4,8 @@ use native.Mathlib.Omega.{arith}
 use lib.ListN.{length}
 use Rattle.parts.proofs.Batches.{Partly, batch-start, batch-end, length-walked-as}
 use Rattle.parts.proofs.Fills.{stretch-turn}
-use Rattle.paged_runs.specs.Steps.{next}
-use Rattle.paged_runs.proofs.Walk.{next-along}
+use Rattle.page_walk.specs.Steps.{next}
+use Rattle.page_walk.proofs.Walk.{next-along}
 use borrow.Author.Needs.{needs}
 use Rattle.paged_runs.proofs.steps.positions.Statement.{statement}
 use Rattle.paged_runs.proofs.steps.positions.Tie as tie

@@ -3,8 +3,8 @@ use mathlib.Core.List.{[]}
 use native.Mathlib.Nat.{add-zero}
 use Rattle.parts.specs.Encoder.{endedBy}
 use Rattle.parts.proofs.Taking.{if-zero, if-more}
-use Rattle.runs.specs.Coding.{runPair, runsCoder}
-use Rattle.runs.proofs.Adds.{length-run}
+use Rattle.run_pairs.specs.Coding.{runPair, runsCoder}
+use Rattle.run_pairs.proofs.Adds.{length-run}
 use borrow.Author.Needs.{needs}
 use Rattle.runs.proofs.coding.ended.Statement.{statement}
 use Rattle.runs.proofs.coding.ended.Tie as tie

@@ -7,8 +7,8 @@ use Rattle.stores.specs.Put.{put}
 use Rattle.stores.proofs.Laws.{put-nil}
 use Rattle.parts.specs.Encoder.{ifZero}
 use Rattle.parts.proofs.Taking.{if-zero, if-more}
-use Rattle.runs.specs.Coding.{runPair, runsCoder}
-use Rattle.runs.proofs.Adds.{length-run}
+use Rattle.run_pairs.specs.Coding.{runPair, runsCoder}
+use Rattle.run_pairs.proofs.Adds.{length-run}
 use borrow.Author.Needs.{needs}
 use Rattle.runs.proofs.coding.finish.Statement.{statement}
 use Rattle.runs.proofs.coding.finish.Tie as tie

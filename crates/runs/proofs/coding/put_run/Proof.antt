@@ -4,8 +4,8 @@ use mathlib.Core.Path.{_∙_}
 use native.Mathlib.Omega.{arith}
 use lib.ListN.{length}
 use Rattle.parts.proofs.Grown.{grow-fits, grown-range, room-range, put-range}
-use Rattle.runs.specs.Coding.{runsCoder}
-use Rattle.runs.proofs.Adds.{lengthens}
+use Rattle.run_pairs.specs.Coding.{runsCoder}
+use Rattle.run_pairs.proofs.Adds.{lengthens}
 use borrow.Author.Needs.{needs}
 use Rattle.runs.proofs.coding.put_run.Statement.{statement}
 use Rattle.runs.proofs.coding.put_run.Tie as tie

@@ -1,6 +1,6 @@
 -- `runs::coding::sizes` meets its contract. Assumes nothing.
 use mathlib.Core.Path.{refl}
-use Rattle.runs.specs.Coding.{runsCoder}
+use Rattle.run_pairs.specs.Coding.{runsCoder}
 use borrow.Author.Needs.{needs}
 use Rattle.runs.proofs.coding.sizes.Statement.{statement}
 use Rattle.runs.proofs.coding.sizes.Tie as tie

@@ -7,8 +7,8 @@ use Rattle.parts.specs.declared.Cursor.{Cursor}
 use Rattle.parts.proofs.Carried.{Written, written-begin, written-then, written-end, turn-now, turn-room-now}
 use Rattle.run_search.specs.Before.{ranksBefore}
 use Rattle.runs.specs.Steps.{next}
-use Rattle.runs.specs.Coding.{runsCoder}
-use Rattle.runs.proofs.Adds.{keeps}
+use Rattle.run_pairs.specs.Coding.{runsCoder}
+use Rattle.run_pairs.proofs.Adds.{keeps}
 use Rattle.runs.proofs.Lookup.{FirstWith, first-with}
 use Rattle.runs_copy.proofs.Whole.{at-rank-before}
 use Rattle.runs_copy.proofs.FromRun.{not-before, last-part, ahead}

@@ -4,8 +4,8 @@ use native.Mathlib.Omega.{arith}
 use lib.ListN.{length}
 use Rattle.parts.proofs.Carried.{Written, written-begin, written-then, written-end, turn-now, turn-room-now}
 use Rattle.runs.specs.Steps.{next}
-use Rattle.runs.specs.Coding.{runsCoder}
-use Rattle.runs.proofs.Adds.{keeps}
+use Rattle.run_pairs.specs.Coding.{runsCoder}
+use Rattle.run_pairs.proofs.Adds.{keeps}
 use Rattle.runs_copy.proofs.FromRun.{in-order, between-runs, ranks-fit}
 use borrow.Author.Needs.{needs}
 use Rattle.runs_copy.proofs.copy.put_runs.Statement.{statement}

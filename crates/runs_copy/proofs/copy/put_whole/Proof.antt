@@ -7,7 +7,7 @@ use Rattle.parts.specs.Copied.{copied}
 use Rattle.parts.proofs.Carried.{Written, written-end}
 use Rattle.run_search.specs.Before.{lastAt, emptyAt, ranksBefore}
 use Rattle.runs.specs.Steps.{next}
-use Rattle.runs.specs.Coding.{runsCoder}
+use Rattle.run_pairs.specs.Coding.{runsCoder}
 use Rattle.runs_copy.specs.Copy.{atRun, ranOn}
 use Rattle.runs_copy.proofs.FromRun.{Ahead, ahead, ran, stepped, ran-room}
 use borrow.Author.Needs.{needs}

@@ -1,0 +1,3 @@
+pub mod Decoded
+pub mod Four
+pub mod CoordinateCalls

@@ -1,0 +1,41 @@
+// A lookup's answer in 64 bits: the low 32 the value, the high 32 the code: 0 given, the number of a refusal, 255 "empty".
+use format::CellAnswer;
+use format::PositionAnswer;
+use format::RankAnswer;
+ghost use mathlib.Core.Path.{_≡_};
+ghost use Rattle.format.specs.Answers.{cellSays, rankSays, positionSays};
+ghost use Rattle.c_values.specs.Code.{coded, codeAndValue};
+
+pub fn code_and_value(code: u32, value: u32) -> u64
+    ensures { λ r. ⌜ r ≡ codeAndValue code value ⌝ }
+{
+    code as u64 * 4294967296 + value as u64
+}
+
+pub fn cell_code(a: CellAnswer) -> u64
+    ensures { λ r. ⌜ r ≡ coded (cellSays a) ⌝ }
+{
+    match a {
+        CellAnswer::Word(x) => code_and_value(0, x),
+        CellAnswer::Refused(number) => code_and_value(number, 0),
+    }
+}
+
+pub fn rank_code(a: RankAnswer) -> u64
+    ensures { λ r. ⌜ r ≡ coded (rankSays a) ⌝ }
+{
+    match a {
+        RankAnswer::Rank(rank) => code_and_value(0, rank.0),
+        RankAnswer::Empty => code_and_value(255, 0),
+        RankAnswer::Refused(number) => code_and_value(number, 0),
+    }
+}
+
+pub fn position_code(a: PositionAnswer) -> u64
+    ensures { λ r. ⌜ r ≡ coded (positionSays a) ⌝ }
+{
+    match a {
+        PositionAnswer::Position(p) => code_and_value(0, p.0),
+        PositionAnswer::Refused(number) => code_and_value(number, 0),
+    }
+}

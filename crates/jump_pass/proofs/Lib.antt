@@ -1,0 +1,3 @@
+pub mod Pass
+pub mod Turns
+pub mod Groups

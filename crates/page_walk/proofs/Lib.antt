@@ -1,0 +1,7 @@
+pub mod Allowed
+-- The check.
+pub mod GoodPairs
+pub mod Along
+-- The cursor.
+pub mod Walk
+pub mod Pages

@@ -1,0 +1,101 @@
+#compdef radar-archive
+# Completion of radar-archive for zsh: save this file as _radar-archive in a folder of fpath, or source it after compinit.
+
+# Offers the commands.
+_radar-archive_commands() {
+    local -a commands=(
+        'check:which files are accepted, and what is wrong with the others'
+        'info:what a file holds, and how long it would be in each kind'
+        'list:all stored cells\: rank, position and word'
+        'cell:the word at a place'
+        'rank:the rank of the cell at a place'
+        'position:the position of a rank'
+        'box:the words of a box'
+        'expand:all words, raw'
+        'make:the file of raw words'
+        'set:a file with one cell written'
+        'change:a file in another kind, width or step'
+        'shorter:the shorter of two files of one picture'
+        'best:a file in the kind, width and step that make it shortest'
+        'completion:the completion script of a shell'
+        'man:the man page'
+        'help:the help of a command'
+    )
+    _describe -t commands command commands
+}
+
+# Offers the options of these names, and then the operands that the other words specify.
+_radar-archive_command() { # NAMES -- OPERANDS
+    local -A option=(
+        -h         '(- *)-h[show the help]'
+        --help     '(- *)--help[show the help]'
+        --json     '--json[put JSON]'
+        -q         '(-q --quiet)-q[tell only the files that are not accepted]'
+        --quiet    '(-q --quiet)--quiet[tell only the files that are not accepted]'
+        --all      '--all[check files whose names begin with a dot, too]'
+        --no-progress '--no-progress[draw no progress bar]'
+        --hex      '--hex[words in hexadecimal]'
+        -f         '(-f --force)-f[replace an existing file]'
+        --force    '(-f --force)--force[replace an existing file]'
+        -o         '(-o --output)-o+[the file to write]:file:_files'
+        --output   '(-o --output)--output=[the file to write]:file:_files'
+        --at       '--at=[the place]:place, as 3,17,200 or @3163336: '
+        --low      '--low=[the low corner]:place, as 3,17,200 or @3163336: '
+        --high     '--high=[the high corner, which belongs to the box]:place, as 3,17,200 or @3163336: '
+        --rank     '--rank=[the rank]:rank: '
+        --word     '--word=[the word]:word:(empty)'
+        --dims     '--dims=[the extents]:extents, as 16x1024x1024: '
+        --empty    '--empty=[the empty word]:word: '
+        --kind     '--kind=[the kind]:kind:(runs positions base-offset jumps paged-runs)'
+        --width    '--width=[bytes of an offset or difference]:bytes:(1 2)'
+        --step     '--step=[the step of kinds 3 and 5]:step: '
+        --max-length '--max-length=[refuse a longer file]:bytes: '
+    )
+    local -a specifications
+    while [[ $1 != -- ]]; do
+        specifications+=("$option[$1]")
+        shift
+    done
+    shift
+    _arguments -s "$specifications[@]" "$option[-h]" "$option[--help]" "$@"
+}
+
+_radar-archive() {
+    local context state state_descr line
+    local -A opt_args
+    local -a options=() operands=('1:file:_files')
+    _arguments -C \
+        '(- *)'{-h,--help}'[show the help]' \
+        '(- *)'{-V,--version}'[show the version, and what the program was built from]' \
+        '1:command:_radar-archive_commands' \
+        '*::words:->command' && return
+    [[ $state == command ]] || return
+
+    case $words[1] in
+        check) options=(--json -q --quiet --all --no-progress) operands=('*:file or folder:_files') ;;
+        info) options=(--json) ;;
+        list) options=() ;;
+        cell) options=(--at --hex --json) ;;
+        rank) options=(--at --json) ;;
+        position) options=(--rank --json) ;;
+        box) options=(--low --high --hex --json -o --output -f --force) ;;
+        expand) options=(-o --output -f --force) ;;
+        make) options=(--dims --empty --kind --width --step -o --output -f --force --max-length) ;;
+        set) options=(--at --word -o --output -f --force --max-length) ;;
+        change) options=(--kind --width --step -o --output -f --force --max-length) ;;
+        shorter) options=(--json) operands=('1:file:_files' '2:file:_files') ;;
+        best) options=(-o --output -f --force --max-length) ;;
+        completion) operands=('1:shell:(bash zsh fish)') ;;
+        man) operands=() ;;
+        help) operands=('1:command:_radar-archive_commands') ;;
+        *) return 1 ;;
+    esac
+    _radar-archive_command "$options[@]" -- "$operands[@]"
+}
+
+# Loaded by its name this file is the function itself; sourced, it binds it.
+if [[ $funcstack[1] == _radar-archive ]]; then
+    _radar-archive "$@"
+else
+    compdef _radar-archive radar-archive
+fi
