@@ -1,3 +1,5 @@
 pub mod Decoded
 pub mod Four
 pub mod CoordinateCalls
+pub mod InfoCalls
+pub mod InfoRows

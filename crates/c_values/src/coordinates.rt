@@ -44,7 +44,7 @@ pub fn coordinates_position(dims: u32, extents: &[u32], at: &[u32]) -> u64
 }
 
 // Numbers into a destination's first elements.
-fn put_numbers(numbers: &[u32], dst: &mut [u32])
+pub fn put_numbers(numbers: &[u32], dst: &mut [u32])
     requires { ⌜ length (now numbers) ≤ length (now dst) ⌝ }
     ensures { λ _. ⌜ now (dst .exit) ≡ now (numbers .entry) ++ drop (length (now (numbers .entry))) (now (dst .entry)) ⌝ }
 {

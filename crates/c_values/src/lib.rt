@@ -2,3 +2,4 @@
 pub mod code;
 pub mod coordinates;
 pub mod extents;
+pub mod info;

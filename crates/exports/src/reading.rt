@@ -7,12 +7,14 @@ use archive::lookup::rank;
 use c_values::code::cell_code;
 use c_values::code::position_code;
 use c_values::code::rank_code;
+use c_values::info::put_info;
 use format::Position;
 use format::Rank;
 ghost use Rattle.format.specs.Accepted.{Checked};
 ghost use Rattle.format.specs.Calls.{Expanded};
 ghost use Rattle.format.specs.Lookups.{CellFound, RankFound, PositionFound};
 ghost use Rattle.c_values.specs.Code.{Coded};
+ghost use Rattle.c_values.specs.Info.{InfoOut};
 
 // 0, or the first of 1 to 6 that applies.
 #[no_mangle]
@@ -20,6 +22,18 @@ pub extern "C" fn ra_check(file: &[u8]) -> u32
     ensures { λ r. ⌜ Checked (now (file .entry)) r ⌝ }
 {
     check(file)
+}
+
+// What the header says: kind, width, step, dimension count, cells, E, N, and the four extents. A destination shorter than these eleven is 10.
+#[no_mangle]
+pub extern "C" fn ra_info(file: &[u8], dst: &mut [u32]) -> u32
+    ensures { λ r. ⌜ InfoOut (now (file .entry)) (now (dst .entry)) r (now (dst .exit)) ⌝ }
+{
+    let number = check(file);
+    if number != 0 {
+        return number;
+    }
+    put_info(file, dst)
 }
 
 // The words of all cells into dst, in row order.
