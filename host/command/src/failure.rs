@@ -3,10 +3,9 @@
 use std::ffi::{OsStr, OsString};
 use std::io::{self, IsTerminal, Write};
 
-use radar_archive::Refusal;
+use radar_archive::{Fault, Refusal};
 
-use crate::diagnosis::Finding;
-use crate::{refused, shown};
+use crate::shown;
 
 /// All done.
 pub const DONE: u8 = 0;
@@ -31,10 +30,8 @@ pub enum Failure {
     Refused {
         /// The file concerned, as it was given.
         path: OsString,
-        /// The number.
-        refusal: Refusal,
-        /// What is wrong, and at which byte.
-        finding: Finding,
+        /// The number, what is wrong, and at which byte.
+        fault: Fault,
     },
     /// A file could not be read or written.
     File {
@@ -50,14 +47,14 @@ pub enum Failure {
 impl Failure {
     /// A refusal that is not about a byte of a file.
     pub fn refused(path: &OsStr, refusal: Refusal, message: String) -> Failure {
-        let finding = Finding {
+        let fault = Fault {
+            refusal,
             message,
             byte: None,
         };
         Failure::Refused {
             path: path.to_owned(),
-            refusal,
-            finding,
+            fault,
         }
     }
 
@@ -83,11 +80,7 @@ impl Failure {
     pub fn lines(&self, terminal: bool) -> Vec<u8> {
         let (path, message) = match self {
             Failure::Usage { command, message } => return usage(*command, message).into_bytes(),
-            Failure::Refused {
-                path,
-                refusal,
-                finding,
-            } => (path, refused::sentence(*refusal, finding)),
+            Failure::Refused { path, fault } => (path, format!("refused, {fault}")),
             Failure::File { path, message } => (path, message.clone()),
             Failure::Pipe => return Vec::new(),
         };

@@ -4,9 +4,8 @@ use std::ffi::{OsStr, OsString};
 use std::fs::File;
 use std::io::{self, Read};
 
-use radar_archive::{Archive, Refusal, MOST_CELLS};
+use radar_archive::{Archive, Fault, MOST_CELLS};
 
-use crate::diagnosis;
 use crate::failure::{reason, Failure};
 use crate::numbers::grouped;
 
@@ -56,16 +55,15 @@ impl Input {
     }
 
     /// Opens the picture file: the complete check.
-    pub fn open(&self) -> Result<Archive<'_>, Failure> {
-        Archive::open(&self.bytes).map_err(|refusal| self.refused(refusal))
+    pub fn open(&self) -> Result<Archive<&[u8]>, Failure> {
+        Archive::open(&self.bytes[..]).map_err(|fault| self.refused(fault))
     }
 
     /// The failure that the file is refused with 1 to 6.
-    pub fn refused(&self, refusal: Refusal) -> Failure {
+    pub fn refused(&self, fault: Fault) -> Failure {
         Failure::Refused {
             path: self.path.clone(),
-            refusal,
-            finding: diagnosis::of(&self.bytes, refusal),
+            fault,
         }
     }
 }

@@ -2,17 +2,14 @@
 //!
 //! [`run`] is the whole program. A command of [`commands`] reads its files by [`input`], asks the engine through the crate
 //! `radar_archive`, and puts results on standard output or, by [`output`], in a file. What goes wrong is a [`failure::Failure`].
-#![deny(warnings, missing_docs, unsafe_code)]
+#![deny(missing_docs, unsafe_code)]
 
 pub mod arguments;
 pub mod commands;
-pub mod diagnosis;
 pub mod failure;
 pub mod help;
 pub mod input;
 pub mod json;
-pub mod kinds;
-pub mod lengths;
 pub mod numbers;
 pub mod output;
 pub mod place;

@@ -1,5 +1,5 @@
 //! The program `radar-archive`.
-#![deny(warnings, unsafe_code)]
+#![deny(unsafe_code)]
 
 use std::process::ExitCode;
 

@@ -60,13 +60,13 @@ impl Place {
         Ok(Place::Coordinates(coordinates?))
     }
 
-    /// The four coordinates in a picture of these dimensions.
-    pub fn coordinates(&self, dimensions: Dimensions) -> Result<[u32; 4], Outside> {
+    /// The coordinates in a picture of these dimensions, as many as it has.
+    pub fn coordinates(&self, dimensions: Dimensions) -> Result<Vec<u32>, Outside> {
         let at = match self {
             Place::At(position) => return coordinates_of(*position, dimensions),
             Place::Coordinates(coordinates) => coordinates,
         };
-        let extents = &dimensions.extents[..dimensions.count as usize];
+        let extents = dimensions.extents();
         if at.len() != extents.len() {
             let message = format!(
                 "{} has {}, but the picture has {} ({})",
@@ -77,32 +77,33 @@ impl Place {
             );
             return Err(Outside::Count(message));
         }
-        let mut four = [0; 4];
-        four[..at.len()].copy_from_slice(at);
-        match dimensions.position(four) {
-            Ok(_) => Ok(four),
-            Err(refusal) => Err(Outside::Refused(
-                refusal,
-                refused::coordinates(at, dimensions),
-            )),
-        }
+        position_of(at, dimensions)?;
+        Ok(at.clone())
     }
 
     /// The position in a picture of these dimensions.
     pub fn position(&self, dimensions: Dimensions) -> Result<Position, Outside> {
-        let at = self.coordinates(dimensions)?;
-        dimensions
-            .position(at)
-            .map_err(|refusal| Outside::Refused(refusal, refused::coordinates(&at, dimensions)))
+        position_of(&self.coordinates(dimensions)?, dimensions)
     }
 }
 
-/// The coordinates of a position.
-fn coordinates_of(position: u32, dimensions: Dimensions) -> Result<[u32; 4], Outside> {
-    let cells = dimensions.extents.iter().product();
+/// The position of coordinates.
+fn position_of(at: &[u32], dimensions: Dimensions) -> Result<Position, Outside> {
     dimensions
-        .coordinates(Position(position))
-        .map_err(|refusal| Outside::Refused(refusal, refused::position(position, cells)))
+        .position(at)
+        .map_err(|refusal| Outside::Refused(refusal, refused::coordinates(at, dimensions)))
+}
+
+/// The coordinates of a position.
+fn coordinates_of(position: u32, dimensions: Dimensions) -> Result<Vec<u32>, Outside> {
+    let cells = dimensions.extents().iter().product();
+    match dimensions.coordinates(Position(position)) {
+        Ok(at) => Ok(at.to_vec()),
+        Err(refusal) => Err(Outside::Refused(
+            refusal,
+            refused::position(position, cells),
+        )),
+    }
 }
 
 /// A number of things.

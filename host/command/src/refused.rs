@@ -1,30 +1,16 @@
-//! Refusals in plain English: of files, and of the values that were handed to a call.
+//! Refusals in plain English of the values that were handed to a call.
 
-use radar_archive::{Dimensions, Refusal, Setting, MOST_CELLS};
+use radar_archive::{Dimensions, Kind, Refusal, Setting, MOST_CELLS};
 
-use crate::diagnosis::Finding;
-use crate::{kinds, numbers};
+use crate::numbers;
 
-/// A refusal as it is told after the path: `refused, 5 counts: ... (byte 24)`.
-///
-/// ```
-/// # use command::{diagnosis::Finding, refused};
-/// # use radar_archive::Refusal;
-/// let finding = Finding { message: "the header says 13 stored cells of 12 cells".into(), byte: Some(24) };
-/// assert_eq!(
-///     refused::sentence(Refusal::Counts, &finding),
-///     "refused, 5 counts: the header says 13 stored cells of 12 cells (byte 24)"
-/// );
-/// ```
-pub fn sentence(refusal: Refusal, finding: &Finding) -> String {
-    let (number, word, message) = (refusal.number(), refusal.word(), &finding.message);
-    match finding.byte {
-        Some(byte) => format!("refused, {number} {word}: {message} (byte {byte})"),
-        None => format!("refused, {number} {word}: {message}"),
-    }
+/// Why a kind that was asked for by its number is refused with 2, and what to do.
+pub fn kind(number: u32) -> String {
+    let known = Kind::listed();
+    format!("there is no kind {number}; use --kind with one of {known}")
 }
 
-/// Why a setting that was asked for is refused with 2, 3 or 9, and what to do.
+/// Why a setting that was asked for is refused with 3 or 9, and what to do.
 ///
 /// ```
 /// # use command::refused;
@@ -36,26 +22,22 @@ pub fn sentence(refusal: Refusal, finding: &Finding) -> String {
 /// ```
 pub fn setting(refusal: Refusal, setting: Setting) -> String {
     match refusal {
-        Refusal::Kind => {
-            let (kind, known) = (setting.kind, kinds::listed());
-            format!("there is no kind {kind}; use --kind with one of {known}")
-        }
         Refusal::Setting => disallowed(setting),
         _ => unfit(setting),
     }
 }
 
-/// Why the width or step of a kind 1 to 5 is not allowed.
+/// Why the width or step of a kind is not allowed.
 fn disallowed(setting: Setting) -> String {
     let Setting { kind, width, step } = setting;
     let wanted = match kind {
-        1 | 2 => "no --width and no --step",
-        3 => "--width 1 or 2 and --step 1 to 255",
-        4 => "--width 1 or 2 and no --step",
-        _ => "--step 2 to 64 and no --width",
+        Kind::Runs | Kind::Positions => "no --width and no --step",
+        Kind::BaseOffset => "--width 1 or 2 and --step 1 to 255",
+        Kind::Jumps => "--width 1 or 2 and no --step",
+        Kind::PagedRuns => "--step 2 to 64 and no --width",
     };
-    let name = kinds::name(kind).unwrap_or("");
-    format!("kind {kind} {name} does not go with width {width} and step {step}; use {wanted}")
+    let number = kind.number();
+    format!("kind {number} {kind} does not go with width {width} and step {step}; use {wanted}")
 }
 
 /// Why a picture does not fit a setting of kind 3.
@@ -105,11 +87,12 @@ const ORDINALS: [&str; 4] = ["first", "second", "third", "fourth"];
 /// Why coordinates, as many as the picture has dimensions, are refused with 8, after the option that gave them.
 pub fn coordinates(at: &[u32], dimensions: Dimensions) -> String {
     let text = numbers::joined(at, ",");
-    let picture = numbers::joined(&dimensions.extents[..dimensions.count as usize], "x");
+    let extents = dimensions.extents();
+    let picture = numbers::joined(extents, "x");
     let outside = |(&at, &extent): (&u32, &u32)| at >= extent;
-    match at.iter().zip(&dimensions.extents).position(outside) {
+    match at.iter().zip(extents).position(outside) {
         Some(index) => {
-            let last = dimensions.extents[index].saturating_sub(1);
+            let last = extents[index].saturating_sub(1);
             let ordinal = ORDINALS[index];
             format!(
                 "{text} is outside the picture {picture}: the {ordinal} coordinate is 0 to {last}"
@@ -120,8 +103,8 @@ pub fn coordinates(at: &[u32], dimensions: Dimensions) -> String {
 }
 
 /// Why a box with both corners inside is refused with 8.
-pub fn corners(low: [u32; 4], high: [u32; 4]) -> String {
-    let above = (0..4).find(|&index| low[index] > high[index]);
+pub fn corners(low: &[u32], high: &[u32]) -> String {
+    let above = low.iter().zip(high).position(|(low, high)| low > high);
     let Some(index) = above else {
         return "the box is outside the picture".to_string();
     };

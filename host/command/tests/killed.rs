@@ -28,6 +28,7 @@ fn start(folder: &Folder, call: &str) -> Child {
     let mut command = folder.command();
     command.args(call.split(' ')).stdin(Stdio::null());
     command.stdout(Stdio::piped()).stderr(Stdio::piped());
+    let command = process::ended_by_signals(&mut command);
     command.spawn().expect("the program")
 }
 
@@ -197,6 +198,7 @@ fn a_signal_while_the_input_is_awaited() {
             .stdin(Stdio::piped())
             .stdout(Stdio::piped())
             .stderr(Stdio::piped());
+        let command = process::ended_by_signals(&mut command);
         let mut child = command.spawn().expect("the program");
         let input = child.stdin.take();
         sleep(Duration::from_millis(100));
@@ -213,7 +215,8 @@ fn a_signal_while_the_input_is_awaited() {
 fn an_ignored_hangup_stays_ignored() {
     let (folder, _, new) = folder();
     let script = format!("trap '' HUP; radar-archive {CALL} & kill -s HUP $!; wait $!");
-    folder.bash(&script).printed("");
+    let mut command = folder.bash_command(&script);
+    process::run(process::ended_by_signals(&mut command), None).printed("");
     assert!(folder.read("target") == new);
 }
 
@@ -221,7 +224,9 @@ fn an_ignored_hangup_stays_ignored() {
 fn killed_by_the_limit_of_a_files_size() {
     let (folder, old, _) = folder();
     for kilobytes in [1, 10, 100, 1000, 2500] {
-        let run = folder.bash(&format!("ulimit -f {kilobytes}; exec radar-archive {CALL}"));
+        let script = format!("ulimit -f {kilobytes}; exec radar-archive {CALL}");
+        let mut command = folder.bash_command(&script);
+        let run = process::run(process::ended_by_signals(&mut command), None);
         assert_eq!(run.signal(), Some(25), "{}", run.story());
         assert!(folder.read("target") == old, "{kilobytes} kB");
         for name in folder.names() {

@@ -184,7 +184,7 @@ fn changed(sides: &mut Sides, accepted: &Accepted, setting: [u32; 3]) -> Option<
         let wanted = reader::change(file, settings::reader(setting), usize::MAX);
         let wanted = wanted.map_err(|refusal| refusal.number());
         let engine = |dst: &mut [u8]| {
-            let answer = calls::change(file, settings::engine(setting), dst);
+            let answer = calls::change(file, setting, dst);
             answer.map_or_else(|refusal| refusal.number(), |_| 0)
         };
         let room = 2 * file.len() + 64;

@@ -3,7 +3,6 @@
 use radar_archive::{calls, Position};
 use reader::Parsed;
 use side_by_side::forge::field;
-use side_by_side::settings;
 use side_by_side::sides::{Sides, Wanted};
 
 use crate::control::{so_many, Control};
@@ -62,9 +61,8 @@ fn destinations(sides: &mut Sides, file: &[u8], number: u32, control: &Control) 
     sides.put_out_in("write", &wanted, room, write, || {
         format!("{control:?} {file:?}")
     });
-    let setting = settings::engine(control.setting);
     let change = |dst: &mut [u8]| {
-        let answer = calls::change(file, setting, dst);
+        let answer = calls::change(file, control.setting, dst);
         answer.map_or_else(|refusal| refusal.number(), |_| 0)
     };
     sides.put_out_in("change", &wanted, room, change, || {

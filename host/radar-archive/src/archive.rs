@@ -1,11 +1,18 @@
 //! An opened file.
 
-use crate::buffers::{accepted, put_out};
+mod files;
+
+use alloc::vec;
+use alloc::vec::Vec;
+
+use crate::buffers::accepted;
+use crate::diagnosis::{self, Fault};
 use crate::header::Header;
 use crate::stored::StoredCells;
 use crate::{calls, Dimensions, Picture, Position, Rank, Refusal, Setting};
 
-/// An accepted file, opened: it refers to the caller's bytes.
+/// An accepted file, opened, with its bytes: owned (`Archive<Vec<u8>>`), borrowed (`Archive<&[u8]>`, which is `Copy`), or behind anything
+/// else that gives the same bytes each time, such as an `Arc<[u8]>`.
 ///
 /// [`Archive::open`] makes the complete check once; [`cell`](Archive::cell), [`rank`](Archive::rank) and
 /// [`position`](Archive::position) search without repeating it. The other calls check again as part of the engine's call.
@@ -17,7 +24,7 @@ use crate::{calls, Dimensions, Picture, Position, Rank, Refusal, Setting};
 /// picture.words[6] = 41;
 /// let file = picture.make(Setting::paged_runs(8))?;
 ///
-/// let archive = Archive::open(&file)?;
+/// let archive = Archive::open(file)?;
 /// assert_eq!(archive.cell(Position(6)), Ok(41));
 /// assert_eq!(archive.rank(Position(6)), Ok(Some(Rank(0))));
 /// assert_eq!(archive.rank(Position(7)), Ok(None));
@@ -29,35 +36,68 @@ use crate::{calls, Dimensions, Picture, Position, Rank, Refusal, Setting};
 /// # Ok::<(), radar_archive::Refusal>(())
 /// ```
 #[derive(Clone, Copy, Debug)]
-pub struct Archive<'a> {
-    file: &'a [u8],
+pub struct Archive<B = Vec<u8>> {
+    file: B,
     header: Header,
 }
 
-impl<'a> Archive<'a> {
-    /// Opens a file: the complete check, 1 to 6.
+impl<B: AsRef<[u8]>> Archive<B> {
+    /// Opens a file: the complete check, 1 to 6. A refused file is told with what is wrong and where.
     ///
     /// ```
     /// # use radar_archive::{Archive, Dimensions, Picture, Refusal, Setting};
     /// let mut file = Picture::all_empty(Dimensions::of(&[12])?, 0)?.make(Setting::runs())?;
     /// assert!(Archive::open(&file).is_ok());
     /// file.push(0);
-    /// assert_eq!(Archive::open(&file).unwrap_err(), Refusal::Counts);
+    /// let fault = Archive::open(&file).unwrap_err();
+    /// assert_eq!(fault.refusal, Refusal::Counts);
+    /// assert_eq!(fault.byte, Some(48));
+    /// assert_eq!(fault.to_string(), "5 counts: the length in the header is 52, the file has 53 bytes (byte 48)");
     /// file[0] = 6;
-    /// assert_eq!(Archive::open(&file).unwrap_err(), Refusal::Kind);
+    /// assert_eq!(Archive::open(file).unwrap_err().to_string(), "2 kind: kind 6; the kinds are 1 to 5 (byte 0)");
     /// # Ok::<(), Refusal>(())
     /// ```
-    pub fn open(file: &'a [u8]) -> Result<Archive<'a>, Refusal> {
-        calls::check(file)?;
-        Ok(Archive {
-            file,
-            header: Header::of(file),
-        })
+    pub fn open(file: B) -> Result<Archive<B>, Fault> {
+        let bytes = file.as_ref();
+        calls::check(bytes).map_err(|refusal| diagnosis::of(bytes, refusal))?;
+        let header = Header::of(bytes);
+        Ok(Archive { file, header })
     }
 
-    /// The caller's bytes.
-    pub fn bytes(&self) -> &'a [u8] {
+    /// The file's bytes.
+    pub fn bytes(&self) -> &[u8] {
+        self.file.as_ref()
+    }
+
+    /// The file's bytes, handed back as they were given.
+    pub fn into_bytes(self) -> B {
         self.file
+    }
+
+    /// The same file, opened, over borrowed bytes; nothing is checked again.
+    pub fn borrowed(&self) -> Archive<&[u8]> {
+        Archive {
+            file: self.bytes(),
+            header: self.header,
+        }
+    }
+
+    /// The same file, opened, over a copy of its bytes; nothing is checked again.
+    ///
+    /// ```
+    /// # use radar_archive::{Archive, Dimensions, Picture, Position, Setting};
+    /// # let mut file = Picture::all_empty(Dimensions::of(&[12])?, 0)?.make(Setting::runs())?;
+    /// let borrowed = Archive::open(&file)?;
+    /// let owned: Archive = borrowed.owned();
+    /// file.clear();
+    /// assert_eq!(owned.cell(Position(11)), Ok(0));
+    /// # Ok::<(), radar_archive::Refusal>(())
+    /// ```
+    pub fn owned(&self) -> Archive {
+        Archive {
+            file: self.bytes().to_vec(),
+            header: self.header,
+        }
     }
 
     /// The file's kind, width and step.
@@ -77,7 +117,7 @@ impl<'a> Archive<'a> {
 
     /// The number of cells.
     pub fn cells(&self) -> u32 {
-        self.header.dimensions.extents.iter().product()
+        self.header.dimensions.four().iter().product()
     }
 
     /// The number of stored cells, N.
@@ -87,17 +127,17 @@ impl<'a> Archive<'a> {
 
     /// The word at a position, or 8.
     pub fn cell(&self, position: Position) -> Result<u32, Refusal> {
-        calls::opened_cell(self.file, position)
+        calls::opened_cell(self.bytes(), position)
     }
 
     /// The rank at a position, nothing for an empty cell, or 8.
     pub fn rank(&self, position: Position) -> Result<Option<Rank>, Refusal> {
-        calls::opened_rank(self.file, position)
+        calls::opened_rank(self.bytes(), position)
     }
 
     /// The position of a rank, or 8.
     pub fn position(&self, rank: Rank) -> Result<Position, Refusal> {
-        calls::opened_position(self.file, rank)
+        calls::opened_position(self.bytes(), rank)
     }
 
     /// The stored cells in rising order: rank, position and word.
@@ -109,13 +149,14 @@ impl<'a> Archive<'a> {
     /// let words = vec![0, 0, 7, 9, 0, 5, 0, 0, 0, 0, 300, 0];
     /// let picture = Picture { dimensions: Dimensions::of(&[12])?, empty: 0, words };
     /// let file = picture.make(Setting::jumps(1))?;
-    /// let cells = Archive::open(&file)?.stored_cells();
+    /// let archive = Archive::open(file)?;
+    /// let cells = archive.stored_cells();
     /// assert_eq!(cells.len(), 4);
     /// let lines: Vec<_> = cells.map(|(Rank(r), Position(p), word)| (r, p, word)).collect();
     /// assert_eq!(lines, [(0, 2, 7), (1, 3, 9), (2, 5, 5), (3, 10, 300)]);
     /// # Ok::<(), radar_archive::Refusal>(())
     /// ```
-    pub fn stored_cells(&self) -> StoredCells<'a> {
+    pub fn stored_cells(&self) -> StoredCells<'_> {
         StoredCells::of(self)
     }
 
@@ -128,7 +169,7 @@ impl<'a> Archive<'a> {
 
     /// Puts all words of the picture in the first elements of a destination, or 10.
     pub fn expand_into(&self, destination: &mut [u32]) -> Result<(), Refusal> {
-        calls::expand(self.file, destination)
+        calls::expand(self.bytes(), destination)
     }
 
     /// The picture.
@@ -140,82 +181,28 @@ impl<'a> Archive<'a> {
         }
     }
 
-    /// The file after writing one cell, in the same setting. Writing the empty word empties the cell. Tests 8, 9.
-    ///
-    /// ```
-    /// # use radar_archive::{Archive, Dimensions, Picture, Position, Refusal, Setting};
-    /// let file = Picture::all_empty(Dimensions::of(&[12])?, 0)?.make(Setting::runs())?;
-    /// let archive = Archive::open(&file)?;
-    /// let written = archive.write(Position(3), 7)?;
-    /// assert_eq!(Archive::open(&written)?.cell(Position(3)), Ok(7));
-    /// assert_eq!(Archive::open(&written)?.write(Position(3), 0), Ok(file.clone()));
-    /// assert_eq!(archive.write(Position(12), 7), Err(Refusal::Beyond));
-    /// # Ok::<(), Refusal>(())
-    /// ```
-    pub fn write(&self, position: Position, word: u32) -> Result<Vec<u8>, Refusal> {
-        let longest = self.setting().longest_file(self.most_stored());
-        put_out(longest, |file| self.write_into(position, word, file))
-    }
-
-    /// The most stored cells after writing one cell.
-    fn most_stored(&self) -> usize {
-        self.stored_count().saturating_add(1).min(self.cells()) as usize
-    }
-
-    /// Puts the file after writing one cell in the first bytes of a destination and gives its length. Tests 8, 9, 10.
-    pub fn write_into(
-        &self,
-        position: Position,
-        word: u32,
-        destination: &mut [u8],
-    ) -> Result<usize, Refusal> {
-        calls::write(self.file, position, word, destination)
-    }
-
-    /// The file in another setting. Tests 2, 3, 9.
-    ///
-    /// ```
-    /// # use radar_archive::{Archive, Dimensions, Picture, Refusal, Setting};
-    /// let words = vec![0, 0, 7, 9, 0, 5, 0, 0, 0, 0, 300, 0];
-    /// let picture = Picture { dimensions: Dimensions::of(&[12])?, empty: 0, words };
-    /// let file = picture.make(Setting::runs())?;
-    /// let archive = Archive::open(&file)?;
-    /// assert_eq!(archive.change(Setting::jumps(1))?.len(), 76);
-    /// assert_eq!(archive.change(Setting::paged_runs(65)), Err(Refusal::Setting));
-    /// # Ok::<(), Refusal>(())
-    /// ```
-    pub fn change(&self, setting: Setting) -> Result<Vec<u8>, Refusal> {
-        let longest = setting.longest_file(self.stored_count() as usize);
-        put_out(longest, |file| self.change_into(setting, file))
-    }
-
-    /// Puts the file in another setting in the first bytes of a destination and gives its length. Tests 2, 3, 9, 10.
-    pub fn change_into(&self, setting: Setting, destination: &mut [u8]) -> Result<usize, Refusal> {
-        calls::change(self.file, setting, destination)
-    }
-
-    /// The words of a box, both corners inclusive, in row order, or 8.
+    /// The words of a box, both corners inclusive, in row order, or 8. A corner has as many coordinates as the picture has dimensions.
     ///
     /// ```
     /// # use radar_archive::{Archive, Dimensions, Picture, Refusal, Setting};
     /// let words = (0..12).collect();
     /// let picture = Picture { dimensions: Dimensions::of(&[3, 4])?, empty: 0, words };
-    /// let file = picture.make(Setting::runs())?;
-    /// let archive = Archive::open(&file)?;
-    /// assert_eq!(archive.box_words([1, 1, 0, 0], [2, 2, 0, 0])?, [5, 6, 9, 10]);
-    /// assert_eq!(archive.box_words([1, 1, 0, 0], [0, 2, 0, 0]), Err(Refusal::Beyond));
-    /// assert_eq!(archive.box_words([1, 1, 0, 0], [2, 4, 0, 0]), Err(Refusal::Beyond));
+    /// let archive = Archive::open(picture.make(Setting::runs())?)?;
+    /// assert_eq!(archive.box_words(&[1, 1], &[2, 2])?, [5, 6, 9, 10]);
+    /// assert_eq!(archive.box_words(&[1, 1], &[0, 2]), Err(Refusal::Beyond));
+    /// assert_eq!(archive.box_words(&[1, 1], &[2, 4]), Err(Refusal::Beyond));
+    /// assert_eq!(archive.box_words(&[1], &[2, 2]), Err(Refusal::Beyond));
     /// # Ok::<(), Refusal>(())
     /// ```
-    pub fn box_words(&self, low: [u32; 4], high: [u32; 4]) -> Result<Vec<u32>, Refusal> {
+    pub fn box_words(&self, low: &[u32], high: &[u32]) -> Result<Vec<u32>, Refusal> {
         let mut words = vec![0; self.box_size(low, high)];
         self.box_into(low, high, &mut words)?;
         Ok(words)
     }
 
     /// The number of cells of a box that lies inside; any number for another one.
-    fn box_size(&self, low: [u32; 4], high: [u32; 4]) -> usize {
-        let size = low.iter().zip(&high).try_fold(1u32, |size, (&low, &high)| {
+    fn box_size(&self, low: &[u32], high: &[u32]) -> usize {
+        let size = low.iter().zip(high).try_fold(1u32, |size, (&low, &high)| {
             size.checked_mul(high.checked_sub(low)?.checked_add(1)?)
         });
         size.map_or(0, |size| size.min(self.cells())) as usize
@@ -224,14 +211,16 @@ impl<'a> Archive<'a> {
     /// Puts the words of a box in the first elements of a destination. Tests 8, 10.
     pub fn box_into(
         &self,
-        low: [u32; 4],
-        high: [u32; 4],
+        low: &[u32],
+        high: &[u32],
         destination: &mut [u32],
     ) -> Result<(), Refusal> {
-        calls::box_words(self.file, &low, &high, destination)
+        let dimensions = self.dimensions();
+        let (low, high) = (dimensions.filled(low), dimensions.filled(high));
+        calls::box_words(self.bytes(), low.lent(), high.lent(), destination)
     }
 
-    /// The stored bytes of the ranks from `from` up to but not including `to`, as a part of the caller's bytes, or 8.
+    /// The stored bytes of the ranks from `from` up to but not including `to`, as a part of the file's bytes, or 8.
     ///
     /// ```
     /// # use radar_archive::{Archive, Dimensions, Picture, Rank, Refusal, Setting};
@@ -245,8 +234,8 @@ impl<'a> Archive<'a> {
     /// assert_eq!(archive.ranks(Rank(3), Rank(5)), Err(Refusal::Beyond));
     /// # Ok::<(), Refusal>(())
     /// ```
-    pub fn ranks(&self, from: Rank, to: Rank) -> Result<&'a [u8], Refusal> {
-        calls::ranks(self.file, from, to)
+    pub fn ranks(&self, from: Rank, to: Rank) -> Result<&[u8], Refusal> {
+        calls::ranks(self.bytes(), from, to)
     }
 
     /// The shorter of two files of one picture, this one on equal length, or 11.
@@ -264,9 +253,19 @@ impl<'a> Archive<'a> {
     /// assert_eq!(archive.shorter(&Archive::open(&empty)?).unwrap_err(), Refusal::Other);
     /// # Ok::<(), Refusal>(())
     /// ```
-    pub fn shorter(&self, other: &Archive<'a>) -> Result<Archive<'a>, Refusal> {
-        let bytes = calls::shorter(self.file, other.file)?;
-        let first = std::ptr::eq(bytes, self.file);
-        Ok(if first { *self } else { *other })
+    pub fn shorter<'a, C: AsRef<[u8]>>(
+        &'a self,
+        other: &'a Archive<C>,
+    ) -> Result<Archive<&'a [u8]>, Refusal> {
+        let (first, second) = (self.borrowed(), other.borrowed());
+        let bytes = calls::shorter(first.file, second.file)?;
+        let is_first = core::ptr::eq(bytes, first.file);
+        Ok(if is_first { first } else { second })
+    }
+}
+
+impl<B: AsRef<[u8]>> AsRef<[u8]> for Archive<B> {
+    fn as_ref(&self) -> &[u8] {
+        self.bytes()
     }
 }

@@ -1,5 +1,8 @@
 //! Destinations that this crate lends to the engine.
 
+use alloc::vec;
+use alloc::vec::Vec;
+
 use crate::Refusal;
 
 /// A file put out in a destination of the longest length it may have, cut to its own.

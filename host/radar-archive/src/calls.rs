@@ -2,7 +2,8 @@
 //!
 //! Each call is total. A refused call leaves its destination unchanged; an accepted one fills the destination's first elements and
 //! leaves the rest. Files are made in bytes; expand, box and coordinates are put out in words of 32 bits. Each call on a file makes the
-//! complete check of that file first, except those whose name begins with `opened`.
+//! complete check of that file first, except those whose name begins with `opened`. A setting is a [`Setting`](crate::Setting) or any
+//! three numbers: kind, width, step.
 //!
 //! ```
 //! use radar_archive::{calls, Position, Rank, Refusal, Setting};
@@ -18,11 +19,12 @@
 //! assert_eq!(calls::rank(file, Position(6)), Ok(None));
 //! assert_eq!(calls::position(file, Rank(3)), Ok(Position(10)));
 //! assert_eq!(calls::position(file, Rank(4)), Err(Refusal::Beyond));
+//! assert_eq!(calls::change(file, [6, 0, 0], &mut [0; 100]), Err(Refusal::Kind));
 //! # Ok::<(), Refusal>(())
 //! ```
 
 use crate::header;
-use crate::{ffi, Position, Rank, Refusal, Setting};
+use crate::{ffi, Position, Rank, Refusal};
 
 /// The code of a lookup's answer that says the cell is empty.
 const EMPTY: u32 = 255;
@@ -75,15 +77,15 @@ pub fn check(file: &[u8]) -> Result<(), Refusal> {
 /// Puts out the file of a picture and gives its length. Tests 2, 3, 4, 7, 9, 10. `extents` has four numbers, 1 past the dimension
 /// count (another number of them is 4); `words` has one word for each cell.
 pub fn make(
-    setting: Setting,
+    setting: impl Into<[u32; 3]>,
     dimensions: u32,
     extents: &[u32],
     empty: u32,
     words: &[u32],
     destination: &mut [u8],
 ) -> Result<usize, Refusal> {
-    let numbers = setting.numbers();
-    let number = ffi::make(numbers, dimensions, extents, empty, words, destination);
+    let setting = setting.into();
+    let number = ffi::make(setting, dimensions, extents, empty, words, destination);
     put_out(number, destination)
 }
 
@@ -99,8 +101,12 @@ pub fn write(
 }
 
 /// Puts out the file in another setting and gives its length. Tests 1 to 6 of the file, 2 and 3 of the setting, 9, 10.
-pub fn change(file: &[u8], setting: Setting, destination: &mut [u8]) -> Result<usize, Refusal> {
-    let number = ffi::change(file, setting.numbers(), destination);
+pub fn change(
+    file: &[u8],
+    setting: impl Into<[u32; 3]>,
+    destination: &mut [u8],
+) -> Result<usize, Refusal> {
+    let number = ffi::change(file, setting.into(), destination);
     put_out(number, destination)
 }
 

@@ -1,6 +1,6 @@
 //! The fields of an accepted file's header.
 
-use crate::{Dimensions, Setting};
+use crate::{Dimensions, Kind, Setting};
 
 /// The bytes before the first part.
 pub(crate) const HEADER_LENGTH: usize = 52;
@@ -28,12 +28,12 @@ impl Header {
     /// The header of an accepted file.
     pub(crate) fn of(file: &[u8]) -> Header {
         let byte = |at: usize| u32::from(file[at]);
+        let Some(kind) = Kind::of_number(byte(0)) else {
+            panic!("the engine accepted a file of kind {}", byte(0))
+        };
         Header {
-            setting: Setting::of(byte(0), byte(2), byte(3)),
-            dimensions: Dimensions {
-                count: byte(1),
-                extents: [4, 8, 12, 16].map(|at| field(file, at)),
-            },
+            setting: Setting::of(kind, byte(2), byte(3)),
+            dimensions: Dimensions::of_numbers(byte(1), [4, 8, 12, 16].map(|at| field(file, at))),
             empty: field(file, 20),
             stored: field(file, 24),
         }

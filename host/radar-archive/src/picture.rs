@@ -1,8 +1,11 @@
 //! Pictures, and the two sorts of numbers into them.
 
+use alloc::vec;
+use alloc::vec::Vec;
+
 use crate::buffers::put_out;
 use crate::calls;
-use crate::{Refusal, Setting};
+use crate::{Dimensions, Refusal, Setting};
 
 /// The most cells that a picture may have.
 pub const MOST_CELLS: u32 = 16_777_216;
@@ -14,65 +17,6 @@ pub struct Position(pub u32);
 /// A rank among the stored cells, from 0.
 #[derive(Clone, Copy, Debug, PartialEq, Eq, Hash, PartialOrd, Ord)]
 pub struct Rank(pub u32);
-
-/// A dimension count and four extents; those past the count are 1.
-///
-/// Nothing is checked when dimensions are put together; the calls that take them refuse with [`Refusal::Extent`].
-///
-/// ```
-/// use radar_archive::{Dimensions, Position};
-///
-/// let dimensions = Dimensions::of(&[3, 4]).unwrap();
-/// assert_eq!(dimensions.position([1, 2, 0, 0]), Ok(Position(6)));
-/// assert_eq!(dimensions.coordinates(Position(6)), Ok([1, 2, 0, 0]));
-/// ```
-#[derive(Clone, Copy, Debug, PartialEq, Eq, Hash)]
-pub struct Dimensions {
-    /// The number of dimensions, 1 to 4.
-    pub count: u32,
-    /// The extents, first dimension first, 1 past the count.
-    pub extents: [u32; 4],
-}
-
-impl Dimensions {
-    /// The dimensions of 1 to 4 extents. Another number of extents is [`Refusal::Extent`]; the extents are not checked.
-    pub fn of(extents: &[u32]) -> Result<Dimensions, Refusal> {
-        if extents.is_empty() || extents.len() > 4 {
-            return Err(Refusal::Extent);
-        }
-        let mut four = [1; 4];
-        four[..extents.len()].copy_from_slice(extents);
-        Ok(Dimensions {
-            count: extents.len() as u32,
-            extents: four,
-        })
-    }
-
-    /// The position of coordinates, in row order; those past the dimension count are 0. Tests 4, 8.
-    ///
-    /// ```
-    /// # use radar_archive::{Dimensions, Refusal};
-    /// let dimensions = Dimensions::of(&[3, 4]).unwrap();
-    /// assert_eq!(dimensions.position([1, 4, 0, 0]), Err(Refusal::Beyond));
-    /// assert_eq!(dimensions.position([1, 2, 1, 0]), Err(Refusal::Beyond));
-    /// ```
-    pub fn position(&self, at: [u32; 4]) -> Result<Position, Refusal> {
-        calls::coordinates_position(self.count, &self.extents, &at)
-    }
-
-    /// The coordinates of a position, 0 past the dimension count. Tests 4, 8.
-    ///
-    /// ```
-    /// # use radar_archive::{Dimensions, Position, Refusal};
-    /// let dimensions = Dimensions::of(&[3, 4]).unwrap();
-    /// assert_eq!(dimensions.coordinates(Position(12)), Err(Refusal::Beyond));
-    /// ```
-    pub fn coordinates(&self, position: Position) -> Result<[u32; 4], Refusal> {
-        let mut at = [0; 4];
-        calls::position_coordinates(self.count, &self.extents, position, &mut at)?;
-        Ok(at)
-    }
-}
 
 /// A picture: dimensions, the empty word, and one word for each cell in row order.
 ///
@@ -111,12 +55,11 @@ impl Picture {
     /// # Ok::<(), Refusal>(())
     /// ```
     pub fn all_empty(dimensions: Dimensions, empty: u32) -> Result<Picture, Refusal> {
-        dimensions.position([0; 4])?;
-        let cells: u32 = dimensions.extents.iter().product();
+        let words = vec![empty; dimensions.cells()? as usize];
         Ok(Picture {
             dimensions,
             empty,
-            words: vec![empty; cells as usize],
+            words,
         })
     }
 
@@ -159,11 +102,10 @@ impl Picture {
     /// # Ok::<(), Refusal>(())
     /// ```
     pub fn make_into(&self, setting: Setting, destination: &mut [u8]) -> Result<usize, Refusal> {
-        let Dimensions { count, extents } = self.dimensions;
         calls::make(
             setting,
-            count,
-            &extents,
+            self.dimensions.count(),
+            self.dimensions.four(),
             self.empty,
             &self.words,
             destination,

@@ -1,7 +1,7 @@
 //! The signal list.
 
-use std::error::Error;
-use std::fmt;
+use core::error::Error;
+use core::fmt;
 
 /// A refusal, with the number and the word of the signal list.
 ///
@@ -91,8 +91,8 @@ impl Refusal {
         }
     }
 
-    /// What the refusal says, in a sentence.
-    fn sentence(self) -> &'static str {
+    /// What the refusal says of any file or call, in a sentence. A [`Fault`](crate::Fault) says what is wrong with one file.
+    pub fn sentence(self) -> &'static str {
         match self {
             Refusal::Short => "the file is under 52 bytes",
             Refusal::Kind => "the kind is not 1 to 5",

@@ -1,10 +1,11 @@
 //! The stored cells of an opened file, one after the other.
 
-use std::borrow::Cow;
-use std::iter::FusedIterator;
+use alloc::borrow::Cow;
+use core::iter::FusedIterator;
+use core::ops::Range;
 
 use crate::buffers::accepted;
-use crate::{calls, Archive, Position, Rank, Setting};
+use crate::{calls, Archive, Kind, Position, Rank, Setting};
 
 /// The stored cells of a file in rising order: rank, position and word. See [`Archive::stored_cells`].
 #[derive(Clone, Debug)]
@@ -14,15 +15,15 @@ pub struct StoredCells<'a> {
     /// The stored words, 4 bytes each.
     words: &'a [u8],
     /// The ranks not given yet.
-    left: std::ops::Range<u32>,
+    left: Range<u32>,
 }
 
 impl<'a> StoredCells<'a> {
     /// All stored cells of a file.
-    pub(crate) fn of(archive: &Archive<'a>) -> StoredCells<'a> {
+    pub(crate) fn of<B: AsRef<[u8]>>(archive: &'a Archive<B>) -> StoredCells<'a> {
         let stored = archive.stored_count();
         let words = accepted(archive.ranks(Rank(0), Rank(stored)));
-        let searched = if archive.setting().kind == 4 {
+        let searched = if archive.setting().kind == Kind::Jumps {
             Cow::Owned(accepted(archive.change(Setting::positions())))
         } else {
             Cow::Borrowed(archive.bytes())

@@ -13,7 +13,7 @@ pub fn picture(sides: &mut Sides, index: usize, all: &[Setting]) {
     let large = "gaps of 65,534 to 65,537";
     let name = NAMES[index % NAMES.len()];
     // A picture of that texture takes as long as hundreds of others.
-    let name = if name == large && !index.is_multiple_of(8) {
+    let name = if name == large && index % 8 != 0 {
         "gaps of 254 to 257"
     } else {
         name

@@ -93,14 +93,7 @@ fn first_file(
 ) -> Vec<u8> {
     let words = vec![empty; cells as usize];
     let mut file = vec![9; 52];
-    let made = calls::make(
-        settings::engine(setting),
-        dimensions,
-        &extents,
-        empty,
-        &words,
-        &mut file,
-    );
+    let made = calls::make(setting, dimensions, &extents, empty, &words, &mut file);
     assert_eq!(made, Ok(52), "the first file of a list");
     file
 }
@@ -123,8 +116,7 @@ fn step(
             sides.put_out_in("write in a list", wanted, room, engine, what)
         }
         Request::Change(setting) => {
-            let engine =
-                |dst: &mut [u8]| number(calls::change(file, settings::engine(setting), dst));
+            let engine = |dst: &mut [u8]| number(calls::change(file, setting, dst));
             sides.put_out_in("change in a list", wanted, room, engine, what)
         }
     }

@@ -67,9 +67,12 @@ pub fn wrong(random: &mut Random) -> Setting {
     setting
 }
 
-/// The setting as the engine's crate takes it.
+/// The setting as the types of the engine's crate take it; its calls take the three numbers. The kind is 1 to 5.
 pub fn engine(setting: Setting) -> radar_archive::Setting {
-    radar_archive::Setting::of(setting[0], setting[1], setting[2])
+    match radar_archive::Setting::try_from(setting) {
+        Ok(setting) => setting,
+        Err(refusal) => panic!("{setting:?}: {refusal}"),
+    }
 }
 
 /// The setting as the reader takes it.

@@ -173,14 +173,7 @@ impl Sides {
         );
         let wanted = read(made);
         let engine = |dst: &mut [u8]| {
-            let made = calls::make(
-                settings::engine(setting),
-                dimensions,
-                extents,
-                empty,
-                words,
-                dst,
-            );
+            let made = calls::make(setting, dimensions, extents, empty, words, dst);
             if let (Ok(length), Ok(file)) = (&made, &wanted) {
                 assert_eq!(*length, file.len(), "make: the length of the file put out");
             }
@@ -225,7 +218,7 @@ impl Sides {
     /// Change, with destinations of several lengths. Gives the file if there is one.
     pub fn change(&mut self, file: &[u8], setting: Setting) -> Option<Vec<u8>> {
         let wanted = read(reader::change(file, settings::reader(setting), usize::MAX));
-        let engine = |dst: &mut [u8]| number(&calls::change(file, settings::engine(setting), dst));
+        let engine = |dst: &mut [u8]| number(&calls::change(file, setting, dst));
         self.put_out("change", &wanted, engine, || {
             format!("to {setting:?} of {}", shown(file))
         });

@@ -157,7 +157,7 @@ pub fn any_extents(cells: u32, random: &mut Random) -> (u32, [u32; 4]) {
     let mut rest = cells;
     for extent in extents.iter_mut().take(dimensions - 1) {
         let divisors: Vec<u32> = (1..=rest.min(64))
-            .filter(|&divisor| rest.is_multiple_of(divisor))
+            .filter(|&divisor| rest % divisor == 0)
             .collect();
         *extent = random.one_of(&divisors);
         rest /= *extent;

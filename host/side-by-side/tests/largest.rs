@@ -13,9 +13,8 @@ const CELLS: u32 = 16_777_216;
 fn made(setting: Setting, dimensions: u32, extents: [u32; 4], words: &[u32]) -> Vec<u8> {
     let reader = settings::reader(setting);
     let file = reader::make(reader, dimensions, &extents, 0, words, usize::MAX).unwrap();
-    let engine = settings::engine(setting);
     let mut made = vec![9; file.len()];
-    let answer = calls::make(engine, dimensions, &extents, 0, words, &mut made);
+    let answer = calls::make(setting, dimensions, &extents, 0, words, &mut made);
     assert_eq!(answer, Ok(file.len()));
     assert!(made == file);
     file

@@ -1,6 +1,6 @@
 //! The types of `radar-archive` (pictures, opened files, iterators, destinations that the crate sizes) against the reader.
 
-use radar_archive::{Archive, Dimensions, Picture, Position, Rank, Refusal};
+use radar_archive::{Archive, Dimensions, Kind, Picture, Position, Rank, Refusal, Setting};
 use side_by_side::random::Random;
 use side_by_side::settings;
 use side_by_side::textures::{any_word, Sketch, NAMES};
@@ -8,10 +8,7 @@ use side_by_side::textures::{any_word, Sketch, NAMES};
 /// A sketch as the crate's picture.
 fn picture(sketch: &Sketch) -> Picture {
     Picture {
-        dimensions: Dimensions {
-            count: sketch.dimensions,
-            extents: sketch.extents,
-        },
+        dimensions: Dimensions::of_numbers(sketch.dimensions, sketch.extents),
         empty: sketch.empty,
         words: sketch.words.clone(),
     }
@@ -43,7 +40,7 @@ fn told<T>(answer: Result<T, Refusal>) -> Result<T, u32> {
 }
 
 /// The calls that size their destination: they never refuse with 10, and give what the reader gives.
-fn sized(sketch: &Sketch, archive: &Archive, random: &mut Random) {
+fn sized(sketch: &Sketch, archive: &Archive<impl AsRef<[u8]>>, random: &mut Random) {
     for _ in 0..4 {
         let setting = settings::any(random);
         assert_eq!(
@@ -59,7 +56,7 @@ fn sized(sketch: &Sketch, archive: &Archive, random: &mut Random) {
             any_word(sketch.empty, random)
         };
         let answer = told(archive.write(Position(at as u32), written.words[at]));
-        assert_eq!(answer, wanted(&written, [own.kind, own.width, own.step]));
+        assert_eq!(answer, wanted(&written, own.into()));
     }
     assert_eq!(
         archive.write(Position(sketch.cells()), 1),
@@ -67,16 +64,48 @@ fn sized(sketch: &Sketch, archive: &Archive, random: &mut Random) {
     );
     assert_eq!(archive.expand(), sketch.words);
     assert_eq!(archive.picture(), picture(sketch));
+    boxes(sketch, archive);
+}
+
+/// The words of the whole picture as a box, and corners that lie outside or have another number of coordinates.
+fn boxes(sketch: &Sketch, archive: &Archive<impl AsRef<[u8]>>) {
+    let count = sketch.dimensions as usize;
     let last = sketch.extents.map(|extent| extent - 1);
-    assert_eq!(archive.box_words([0; 4], last).as_ref(), Ok(&sketch.words));
-    let far = [u32::MAX; 4];
-    assert_eq!(archive.box_words([0; 4], far), Err(Refusal::Beyond));
-    assert_eq!(archive.box_words(far, far), Err(Refusal::Beyond));
-    assert_eq!(archive.box_words(far, [0; 4]), Err(Refusal::Beyond));
+    let (first, last, far) = (&[0; 4][..count], &last[..count], &[u32::MAX; 4][..count]);
+    let words = archive.box_words(first, last);
+    assert_eq!(words.as_ref(), Ok(&sketch.words));
+    for (low, high) in [(first, far), (far, far), (far, first)] {
+        assert_eq!(archive.box_words(low, high), Err(Refusal::Beyond));
+    }
+    for other in (0..=5).filter(|&other| other != count) {
+        let corner = &[0; 5][..other];
+        assert_eq!(archive.box_words(corner, last), Err(Refusal::Beyond));
+        assert_eq!(archive.box_words(first, corner), Err(Refusal::Beyond));
+        let dimensions = archive.dimensions();
+        assert_eq!(dimensions.position(corner), Err(Refusal::Beyond));
+    }
+}
+
+/// Coordinates and positions, both ways, at the ends of the picture and at some cells by chance.
+fn coordinates(sketch: &Sketch, dimensions: Dimensions, random: &mut Random) {
+    let cells = sketch.cells();
+    let count = sketch.dimensions as usize;
+    assert_eq!(dimensions.cells(), Ok(cells));
+    assert_eq!(dimensions.extents(), &sketch.extents[..count]);
+    for position in [0, cells - 1, random.below(cells as usize) as u32] {
+        let at = dimensions.coordinates(Position(position)).unwrap();
+        assert_eq!(at.len(), count);
+        let (place, extents) = (reader::Position(position), &sketch.extents);
+        let four = reader::position_coordinates(sketch.dimensions, extents, place, 4).unwrap();
+        assert_eq!(*at, four[..count]);
+        assert_eq!(dimensions.position(&at), Ok(Position(position)));
+    }
+    let past = dimensions.coordinates(Position(cells));
+    assert_eq!(past, Err(Refusal::Beyond));
 }
 
 /// The stored cells from both ends, and from the middle.
-fn iterated(sketch: &Sketch, archive: &Archive) {
+fn iterated(sketch: &Sketch, archive: &Archive<impl AsRef<[u8]>>) {
     let cells: Vec<(Position, u32)> = (0..)
         .zip(&sketch.words)
         .filter(|(_, &word)| word != sketch.empty)
@@ -117,8 +146,13 @@ fn every_setting_through_the_safe_types() {
             let archive = Archive::open(&file).unwrap();
             assert_eq!(archive.setting(), settings::engine(setting));
             assert_eq!(archive.cells(), sketch.cells());
+            coordinates(&sketch, archive.dimensions(), &mut random);
             sized(&sketch, &archive, &mut random);
             iterated(&sketch, &archive);
+            let owned = archive.owned();
+            drop(file);
+            sized(&sketch, &owned, &mut random);
+            iterated(&sketch, &owned.borrowed());
         }
     }
 }
@@ -169,7 +203,8 @@ fn wrong_settings_and_pictures_have_their_numbers() {
             sketch.extents[random.below(4)] = random.one_of(&[0, 2, u32::MAX]);
         }
         let setting = settings::wrong(&mut random);
-        let made = told(picture(&sketch).make(settings::engine(setting)));
+        let setting_or_2 = Setting::try_from(setting);
+        let made = told(setting_or_2.and_then(|setting| picture(&sketch).make(setting)));
         assert_eq!(made, wanted(&sketch, setting));
     }
 }
@@ -184,13 +219,14 @@ fn the_shorter_is_one_of_the_two() {
             continue;
         };
         let (first, second) = (Archive::open(&one).unwrap(), Archive::open(&two).unwrap());
-        let shorter = first.shorter(&second).unwrap().bytes();
         let expected = if two.len() < one.len() { &two } else { &one };
-        assert!(std::ptr::eq(shorter, expected.as_slice()));
-        assert!(std::ptr::eq(
-            first.shorter(&first).unwrap().bytes(),
-            one.as_slice()
-        ));
+        let shorter = first.shorter(&second).unwrap();
+        assert!(std::ptr::eq(shorter.bytes(), expected.as_slice()));
+        let shorter = first.shorter(&first).unwrap();
+        assert!(std::ptr::eq(shorter.bytes(), one.as_slice()));
+        let owned = second.owned();
+        let shorter = first.shorter(&owned).unwrap();
+        assert_eq!(shorter.bytes(), expected.as_slice());
     }
 }
 
@@ -210,4 +246,52 @@ fn refusals_have_the_papers_numbers_and_words() {
     for number in [0, 12, 255, u32::MAX] {
         assert_eq!(Refusal::of_number(number), None);
     }
+}
+
+#[test]
+fn kinds_have_their_numbers_and_names() {
+    let names = ["runs", "positions", "base-offset", "jumps", "paged-runs"];
+    for ((number, name), kind) in (1..).zip(names).zip(Kind::ALL) {
+        assert_eq!((kind.number(), kind.name()), (number, name));
+        assert_eq!(Kind::of_number(number), Some(kind));
+        assert_eq!(kind.to_string().parse(), Ok(kind));
+        assert_eq!(format!("[{kind:<12}]"), format!("[{name:<12}]"));
+    }
+    for number in [0, 6, 257, u32::MAX] {
+        assert_eq!(Kind::of_number(number), None);
+    }
+    for name in ["", "run", "Runs", "runs ", "1", "base offset"] {
+        assert!(name.parse::<Kind>().is_err(), "{name}");
+    }
+}
+
+/// The settings that the crate allows are those of the paper.
+#[test]
+fn allowed_settings() {
+    let mut allowed = Vec::new();
+    for kind in Kind::ALL {
+        for (width, step) in (0..4).flat_map(|width| (0..300).map(move |step| (width, step))) {
+            let setting = Setting::of(kind, width, step);
+            allowed.extend(setting.is_allowed().then(|| <[u32; 3]>::from(setting)));
+        }
+    }
+    let mut all = settings::all();
+    all.sort();
+    assert_eq!(allowed, all);
+}
+
+/// An archive hands its bytes back, and one over shared bytes answers as one over its own.
+#[test]
+fn archives_over_other_bytes() {
+    let sketch = Sketch::of(NAMES[0], &mut Random::new(10));
+    let file = wanted(&sketch, [2, 0, 0]).unwrap();
+    let shared: std::sync::Arc<[u8]> = file.clone().into();
+    let archive = Archive::open(shared).unwrap();
+    assert_eq!(archive.expand(), sketch.words);
+    assert_eq!(archive.as_ref(), file);
+    assert_eq!(&*archive.into_bytes(), file);
+    assert_eq!(Archive::open(file.clone()).unwrap().into_bytes(), file);
+    let bytes = Archive::open(file.as_slice()).unwrap().into_bytes();
+    assert!(std::ptr::eq(bytes, file.as_slice()));
+    assert!(Archive::open([0; 60]).is_err());
 }

@@ -27,7 +27,7 @@ fn shapes(cells: u32) -> Vec<(u32, [u32; 4])> {
         (3, [1, cells, 1, 1]),
         (4, [1, 1, 1, cells]),
     ];
-    for divisor in (2..cells).filter(|&divisor| cells.is_multiple_of(divisor)) {
+    for divisor in (2..cells).filter(|&divisor| cells % divisor == 0) {
         shapes.push((2, [divisor, cells / divisor, 1, 1]));
         shapes.push((4, [1, divisor, 1, cells / divisor]));
     }

@@ -2,12 +2,12 @@
 
 use std::ffi::{OsStr, OsString};
 
-use radar_archive::Setting;
+use radar_archive::Kind;
 
 use crate::arguments::{nearest, Command, Opt};
 use crate::failure::Failure;
 use crate::place::{Outside, Place};
-use crate::{kinds, numbers, shown};
+use crate::{numbers, shown};
 
 /// The options and operands that were given to a command.
 #[derive(Debug)]
@@ -135,27 +135,27 @@ impl Given {
         }
     }
 
-    /// The setting: `--kind`, which must be given, `--width` and `--step`.
-    pub fn setting(&self) -> Result<Setting, Failure> {
+    /// The numbers of the setting: `--kind`, which must be given by name or number, `--width` and `--step`.
+    pub fn setting(&self) -> Result<[u32; 3], Failure> {
         let text = self.required_text(&Opt::KIND)?;
-        let kind = match kinds::of_name(text) {
-            Some(kind) => kind,
-            None if text.starts_with(|first: char| first.is_ascii_digit()) => {
+        let kind = match text.parse::<Kind>() {
+            Ok(kind) => kind.number(),
+            Err(_) if text.starts_with(|first: char| first.is_ascii_digit()) => {
                 self.required_number(&Opt::KIND)?
             }
-            None => return Err(self.bad_value(&Opt::KIND, &unknown_kind(text))),
+            Err(_) => return Err(self.bad_value(&Opt::KIND, &unknown_kind(text))),
         };
         let width = self.number(&Opt::WIDTH)?.unwrap_or(0);
         let step = self.number(&Opt::STEP)?.unwrap_or(0);
-        Ok(Setting::of(kind, width, step))
+        Ok([kind, width, step])
     }
 }
 
 /// What is said of a kind's name that there is not.
 fn unknown_kind(text: &str) -> String {
-    let hint = match nearest(text, kinds::NAMES.into_iter()) {
+    let hint = match nearest(text, Kind::ALL.map(Kind::name).into_iter()) {
         Some(name) => format!("did you mean {name}?"),
-        None => format!("the kinds are {}", kinds::listed()),
+        None => format!("the kinds are {}", Kind::listed()),
     };
     format!(
         "there is no kind {}; {hint}",

@@ -6,8 +6,6 @@ use crate::arguments::{Command, Given, Operands, Opt};
 use crate::commands::put_out;
 use crate::failure::{note, Failure};
 use crate::input::Input;
-use crate::kinds;
-use crate::lengths::Lengths;
 
 pub(super) static COMMAND: Command = Command {
     name: "best",
@@ -22,9 +20,7 @@ fn run(given: &Given) -> Result<u8, Failure> {
     let output = put_out::output(given)?;
     let file = Input::picture(&given.operands[0])?;
     let archive = file.open()?;
-    // Kind 2 takes every picture, so that there is always a shortest.
-    let shortest = Lengths::of(&archive).shortest();
-    let setting = shortest.map_or(Setting::positions(), |offer| offer.setting);
+    let setting = archive.best().setting;
     let changed = put_out::changed(&file, &archive, setting, most)?;
     let status = put_out::put(output, &changed)?;
     let message = told(archive.setting(), file.bytes.len(), setting, changed.len());
@@ -40,8 +36,7 @@ fn told(old: Setting, old_length: usize, new: Setting, new_length: usize) -> Str
 
 /// A setting as the options that give it.
 pub(super) fn written(setting: Setting) -> String {
-    let name = kinds::name(setting.kind).unwrap_or("");
-    format!("--kind {name}{}", width_and_step(setting))
+    format!("--kind {}{}", setting.kind, width_and_step(setting))
 }
 
 /// Width and step as options, those that are 0 left out.

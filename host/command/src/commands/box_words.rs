@@ -1,7 +1,5 @@
 //! `box`: the words of a box.
 
-use radar_archive::Archive;
-
 use crate::arguments::{Command, Given, Operands, Opt};
 use crate::commands::expand::raw;
 use crate::commands::put_out;
@@ -45,13 +43,13 @@ fn run(given: &Given) -> Result<u8, Failure> {
             .map_err(|outside| given.outside(option, &file.path, outside))
     };
     let (low, high) = (corner(low, &Opt::LOW)?, corner(high, &Opt::HIGH)?);
-    let words = archive.box_words(low, high).map_err(|refusal| {
-        let message = refused::corners(low, high);
+    let words = archive.box_words(&low, &high).map_err(|refusal| {
+        let message = refused::corners(&low, &high);
         Failure::refused(&file.path, refusal, message)
     })?;
     match output {
         Some(output) => output.put(&raw(&words), Content::Raw)?,
-        None => put(given, &words, &sides(&archive, low, high))?,
+        None => put(given, &words, &sides(&low, &high))?,
     }
     Ok(DONE)
 }
@@ -70,9 +68,9 @@ fn alone(given: &Given) -> Result<(), Failure> {
 }
 
 /// The extents of the box itself.
-fn sides(archive: &Archive<'_>, low: [u32; 4], high: [u32; 4]) -> Vec<u32> {
-    let count = archive.dimensions().count as usize;
-    (0..count).map(|i| high[i] - low[i] + 1).collect()
+fn sides(low: &[u32], high: &[u32]) -> Vec<u32> {
+    let side = |(low, high): (&u32, &u32)| high - low + 1;
+    low.iter().zip(high).map(side).collect()
 }
 
 /// Puts the words on standard output.
@@ -99,7 +97,7 @@ fn rows(results: &mut Results, words: &[u32], sides: &[u32], hex: bool) -> Resul
     let mut line = Vec::new();
     for (index, words) in words.chunks(row).enumerate() {
         line.clear();
-        if index > 0 && index.is_multiple_of(rows_of_plane) {
+        if index > 0 && index % rows_of_plane == 0 {
             line.push(b'\n');
         }
         for (at, &word) in words.iter().enumerate() {

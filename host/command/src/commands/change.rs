@@ -21,11 +21,12 @@ pub(super) static COMMAND: Command = Command {
 };
 
 fn run(given: &Given) -> Result<u8, Failure> {
-    let setting = given.setting()?;
+    let numbers = given.setting()?;
     let most = given.number(&Opt::MAX_LENGTH)?;
     let output = put_out::output(given)?;
     let file = Input::picture(&given.operands[0])?;
     let archive = file.open()?;
+    let setting = put_out::setting(&file.path, numbers)?;
     let changed = put_out::changed(&file, &archive, setting, most)?;
     put_out::put(output, &changed)
 }

@@ -2,16 +2,15 @@
 
 mod parts;
 
-use radar_archive::{Archive, Setting};
+use radar_archive::{Archive, Kind, Lengths, Offer, Setting};
 
 use crate::arguments::{Command, Given, Operands, Opt};
 use crate::commands::best::width_and_step;
 use crate::failure::{Failure, DONE};
 use crate::input::Input;
 use crate::json::Object;
-use crate::lengths::{Lengths, Offer};
+use crate::numbers;
 use crate::output::Results;
-use crate::{kinds, numbers};
 
 use parts::{parts, Part};
 
@@ -28,9 +27,7 @@ fn run(given: &Given) -> Result<u8, Failure> {
     let archive = file.open()?;
     let lengths = Lengths::of(&archive);
     let parts = parts(archive.bytes());
-    let offers: Vec<Offer> = (1..=5)
-        .filter_map(|kind| lengths.shortest_of_kind(kind))
-        .collect();
+    let offers = Kind::ALL.map(|kind| lengths.shortest_of_kind(kind));
     let mut results = Results::open()?;
     if given.has(&Opt::JSON) {
         let mut object = object(&file, &archive, lengths.runs(), &parts, &offers);
@@ -48,12 +45,11 @@ fn run(given: &Given) -> Result<u8, Failure> {
 
 /// A setting's kind with its name.
 fn kind(setting: Setting) -> String {
-    let name = kinds::name(setting.kind).unwrap_or("");
-    format!("{} {name}", setting.kind)
+    format!("{} {}", setting.kind.number(), setting.kind)
 }
 
 /// What the header says.
-fn facts(archive: &Archive<'_>, runs: u32) -> String {
+fn facts(archive: &Archive<&[u8]>, runs: u32) -> String {
     let setting = archive.setting();
     let dimensions = archive.dimensions();
     let (cells, stored) = (archive.cells(), archive.stored_count());
@@ -64,10 +60,7 @@ fn facts(archive: &Archive<'_>, runs: u32) -> String {
         ("Kind", kind(setting)),
         ("Width", setting.width.to_string()),
         ("Step", setting.step.to_string()),
-        (
-            "Dimensions",
-            numbers::joined(&dimensions.extents[..dimensions.count as usize], "x"),
-        ),
+        ("Dimensions", numbers::joined(dimensions.extents(), "x")),
         ("Cells", cells.to_string()),
         ("Empty word", format!("{empty} (0x{empty:08x})")),
         ("Stored", format!("{stored} ({share:.1} %)")),
@@ -116,7 +109,7 @@ fn offer_table(offers: &[Offer]) -> String {
 /// All of it as an object.
 fn object(
     file: &Input,
-    archive: &Archive<'_>,
+    archive: &Archive<&[u8]>,
     runs: u32,
     parts: &[Part],
     offers: &[Offer],
@@ -127,10 +120,7 @@ fn object(
     object.number("length", file.bytes.len() as u64);
     setting_members(&mut object, setting);
     object
-        .numbers(
-            "dimensions",
-            &dimensions.extents[..dimensions.count as usize],
-        )
+        .numbers("dimensions", dimensions.extents())
         .number("cells", archive.cells().into())
         .number("empty", archive.empty().into())
         .number("stored", archive.stored_count().into())
@@ -145,8 +135,8 @@ fn object(
 /// Kind, its name, width and step.
 fn setting_members(object: &mut Object, setting: Setting) {
     object
-        .number("kind", setting.kind.into())
-        .text("name", kinds::name(setting.kind).unwrap_or(""))
+        .number("kind", setting.kind.number().into())
+        .text("name", setting.kind.name())
         .number("width", setting.width.into())
         .number("step", setting.step.into());
 }

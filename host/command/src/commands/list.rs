@@ -1,6 +1,6 @@
 //! `list`: the stored cells of a file, as the lister lists them.
 
-use radar_archive::{Archive, Rank, Setting};
+use radar_archive::{diagnosis, Archive, Rank, Setting};
 
 use crate::arguments::{Command, Given, Operands};
 use crate::failure::{Failure, DONE};
@@ -22,15 +22,15 @@ const HEADER_LENGTH: usize = 52;
 fn run(given: &Given) -> Result<u8, Failure> {
     let file = Input::picture(&given.operands[0])?;
     let mut results = Results::open()?;
-    let archive = match Archive::open(&file.bytes) {
+    let archive = match Archive::open(&file.bytes[..]) {
         Ok(archive) => archive,
-        Err(refusal) => {
-            results.put(format!("refused {}\n", refusal.number()).as_bytes())?;
+        Err(fault) => {
+            results.put(format!("refused {}\n", fault.refusal.number()).as_bytes())?;
             results.finish()?;
-            return Err(file.refused(refusal));
+            return Err(file.refused(fault));
         }
     };
-    let (kind, cells) = (archive.setting().kind, archive.cells());
+    let (kind, cells) = (archive.setting().kind.number(), archive.cells());
     let stored = archive.stored_count();
     results.put(format!("{kind} {cells} {stored}\n").as_bytes())?;
     lines(&file, &archive, &mut results)?;
@@ -39,9 +39,9 @@ fn run(given: &Given) -> Result<u8, Failure> {
 }
 
 /// Puts a line for each stored cell. The positions are those of the picture's kind 2 file.
-fn lines(file: &Input, archive: &Archive<'_>, results: &mut Results) -> Result<(), Failure> {
+fn lines(file: &Input, archive: &Archive<&[u8]>, results: &mut Results) -> Result<(), Failure> {
     let stored = archive.stored_count();
-    let refused = |refusal| file.refused(refusal);
+    let refused = |refusal| file.refused(diagnosis::of(&file.bytes, refusal));
     let words = archive.ranks(Rank(0), Rank(stored)).map_err(refused)?;
     let positions = archive.change(Setting::positions()).map_err(refused)?;
     let positions = &positions[HEADER_LENGTH..];

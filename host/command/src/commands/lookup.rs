@@ -13,7 +13,7 @@ use crate::refused;
 pub(super) fn place_in(
     given: &Given,
     file: &Input,
-    archive: &Archive<'_>,
+    archive: &Archive<&[u8]>,
     place: &Place,
 ) -> Result<Position, Failure> {
     place
@@ -24,7 +24,7 @@ pub(super) fn place_in(
 /// What a lookup gives at the place of `--at` in the file that is the operand.
 pub(super) fn at_place<T>(
     given: &Given,
-    look: impl FnOnce(&Archive<'_>, Position) -> Result<T, Refusal>,
+    look: impl FnOnce(&Archive<&[u8]>, Position) -> Result<T, Refusal>,
 ) -> Result<T, Failure> {
     let place = given.place(&Opt::AT)?;
     let file = Input::picture(&given.operands[0])?;

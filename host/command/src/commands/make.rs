@@ -29,11 +29,12 @@ pub(super) static COMMAND: Command = Command {
 
 fn run(given: &Given) -> Result<u8, Failure> {
     let extents = extents(given)?;
-    let setting = given.setting()?;
+    let numbers = given.setting()?;
     let empty = given.number(&Opt::EMPTY)?.unwrap_or(0);
     let most = given.number(&Opt::MAX_LENGTH)?;
     let output = put_out::output(given)?;
     let raw = Input::raw(&given.operands[0])?;
+    let setting = put_out::setting(&raw.path, numbers)?;
     let words = words(&raw.bytes);
     let count = extents.len() as u32;
     let four = filled(&extents);
@@ -70,7 +71,7 @@ fn filled(extents: &[u32]) -> Vec<u32> {
 
 /// The words of raw bytes. Bytes that are not whole words give none, which no picture has.
 fn words(bytes: &[u8]) -> Vec<u32> {
-    if !bytes.len().is_multiple_of(4) {
+    if bytes.len() % 4 != 0 {
         return Vec::new();
     }
     let word = |bytes: &[u8]| u32::from_le_bytes([bytes[0], bytes[1], bytes[2], bytes[3]]);

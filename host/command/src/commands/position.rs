@@ -25,17 +25,16 @@ fn run(given: &Given) -> Result<u8, Failure> {
     let found = archive
         .position(Rank(rank))
         .and_then(|position| Ok((position, dimensions.coordinates(position)?)));
-    let (Position(position), four) = found.map_err(|refusal| {
+    let (Position(position), coordinates) = found.map_err(|refusal| {
         let message = refused::rank(rank, archive.stored_count());
         Failure::refused(&file.path, refusal, message)
     })?;
-    let coordinates = &four[..dimensions.count as usize];
     if given.has(&Opt::JSON) {
         let mut object = Object::new();
         object.number("position", position.into());
-        object.numbers("coordinates", coordinates);
+        object.numbers("coordinates", &coordinates);
         return put_line(&object.line());
     }
-    let coordinates = numbers::joined(coordinates, ",");
+    let coordinates = numbers::joined(&coordinates, ",");
     put_line(format!("{position} {coordinates}\n").as_bytes())
 }

@@ -56,10 +56,16 @@ pub(super) fn file(
     }
 }
 
+/// The setting of three numbers, asked for beside the file of a path, or the failure that there is no such kind.
+pub(super) fn setting(path: &OsStr, numbers: [u32; 3]) -> Result<Setting, Failure> {
+    Setting::try_from(numbers)
+        .map_err(|refusal| Failure::refused(path, refusal, refused::kind(numbers[0])))
+}
+
 /// The picture of an opened file in another setting.
 pub(super) fn changed(
     file: &Input,
-    archive: &Archive<'_>,
+    archive: &Archive<&[u8]>,
     setting: Setting,
     most: Option<u32>,
 ) -> Result<Vec<u8>, Failure> {

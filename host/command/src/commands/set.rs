@@ -51,7 +51,7 @@ fn word(given: &Given) -> Result<Option<u32>, Failure> {
 }
 
 /// Why a cell is not written, and what to do.
-fn why(refusal: Refusal, archive: &Archive<'_>) -> String {
+fn why(refusal: Refusal, archive: &Archive<&[u8]>) -> String {
     let setting = archive.setting();
     let (width, step) = (setting.width, setting.step);
     match refusal {

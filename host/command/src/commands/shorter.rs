@@ -43,7 +43,7 @@ fn run(given: &Given) -> Result<u8, Failure> {
 }
 
 /// In what the pictures of two files differ.
-fn difference(a: &Archive<'_>, b: &Archive<'_>) -> String {
+fn difference(a: &Archive<&[u8]>, b: &Archive<&[u8]>) -> String {
     if a.dimensions() != b.dimensions() {
         let (a, b) = (extents(a.dimensions()), extents(b.dimensions()));
         return format!("the dimensions are {a} and {b}");
@@ -68,14 +68,13 @@ fn difference(a: &Archive<'_>, b: &Archive<'_>) -> String {
 
 /// Extents as `--dims` takes them.
 fn extents(dimensions: Dimensions) -> String {
-    numbers::joined(&dimensions.extents[..dimensions.count as usize], "x")
+    numbers::joined(dimensions.extents(), "x")
 }
 
 /// The coordinates of a position.
 fn place(dimensions: Dimensions, position: u32) -> String {
-    let coordinates = dimensions.coordinates(Position(position));
-    match coordinates.map(|four| numbers::joined(&four[..dimensions.count as usize], ",")) {
-        Ok(text) => text,
+    match dimensions.coordinates(Position(position)) {
+        Ok(coordinates) => numbers::joined(&coordinates, ","),
         Err(_) => format!("@{position}"),
     }
 }

@@ -105,12 +105,18 @@ impl Folder {
 
     /// Runs a script of bash in this folder; `radar-archive` is on the path.
     pub fn bash(&self, script: &str) -> Outcome {
+        process::run(&mut self.bash_command(script), None)
+    }
+
+    /// A script of bash, to be run in this folder; `radar-archive` is on the path.
+    pub fn bash_command(&self, script: &str) -> Command {
         let programs = Path::new(PROGRAM).parent().expect("a folder of programs");
         let path = std::env::var("PATH").unwrap_or_default();
         let path = format!("{}:{path}", programs.display());
         let mut command = Command::new("bash");
         command.args(["-c", script]).current_dir(&self.path);
-        process::run(command.env("PATH", path), None)
+        command.env("PATH", path);
+        command
     }
 }
 

@@ -1,13 +1,41 @@
 //! Running a program to its end, with a limit of time.
 
 use super::Outcome;
+use std::ffi::c_int;
 use std::io::{Read, Write};
+use std::os::unix::process::CommandExt;
 use std::process::{Child, Command, Stdio};
 use std::thread;
 use std::time::{Duration, Instant};
 
 /// The longest that any run may take; a run that hangs fails its test.
 const LONGEST: Duration = Duration::from_secs(120);
+
+/// Hang-up, interrupt, quit, termination, and a file past the limit of its size.
+const ENDING: [c_int; 5] = [1, 2, 3, 15, 25];
+
+/// The handler that stands for what a signal does by itself.
+const DEFAULT: usize = 0;
+
+/// What the system's library has.
+mod system {
+    extern "C" {
+        pub fn signal(number: super::c_int, handler: usize) -> usize;
+    }
+}
+
+/// Has signals end the program, also where the tests were started with some of them ignored, as by nohup or in the background.
+pub fn ended_by_signals(command: &mut Command) -> &mut Command {
+    let by_default = || {
+        for number in ENDING {
+            // SAFETY: the handler is one that the system knows.
+            unsafe { system::signal(number, DEFAULT) };
+        }
+        Ok(())
+    };
+    // SAFETY: the closure calls `signal` alone, which may be called between fork and exec.
+    unsafe { command.pre_exec(by_default) }
+}
 
 /// Runs a command to its end. Without input, standard input is empty.
 pub fn run(command: &mut Command, input: Option<&[u8]>) -> Outcome {

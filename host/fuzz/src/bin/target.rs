@@ -39,8 +39,8 @@ pub unsafe extern "C" fn LLVMFuzzerCustomMutator(
     // Sound: as the caller owes.
     let bytes = unsafe { from_raw_parts_mut(data, max_size) };
     let mut length = size;
-    if seed.is_multiple_of(8) {
-        let unfolded = fuzz::input::unfolded(&bytes[..size], seed.is_multiple_of(16));
+    if seed % 8 == 0 {
+        let unfolded = fuzz::input::unfolded(&bytes[..size], seed % 16 == 0);
         if let Some(unfolded) = unfolded.filter(|unfolded| unfolded.len() <= max_size) {
             length = unfolded.len();
             bytes[..length].copy_from_slice(&unfolded);

@@ -1,7 +1,7 @@
 //! Files put together by hand, and both sides' answers on them.
 #![allow(dead_code)]
 
-use radar_archive::{calls, Position, Rank, Refusal, Setting};
+use radar_archive::{calls, Position, Rank, Refusal};
 use side_by_side::sides::Sides;
 
 /// The sample picture; its empty word is 0.
@@ -72,11 +72,6 @@ pub fn with_byte(file: &[u8], at: usize, value: u8) -> Vec<u8> {
 /// The 4-byte number at an offset.
 pub fn field(file: &[u8], at: usize) -> u32 {
     side_by_side::forge::field(file, at)
-}
-
-/// A setting as the engine's crate takes it.
-pub fn setting(numbers: [u32; 3]) -> Setting {
-    side_by_side::settings::engine(numbers)
 }
 
 /// The number that check gives, on which both sides agree.

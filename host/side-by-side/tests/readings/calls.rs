@@ -31,11 +31,11 @@ fn make_says_7_for_too_few_and_too_many_words() {
     let unfit = stored_at(300, &[2, 258]);
     for numbers in [RUNS, POSITIONS, [3, 1, 2], [4, 1, 0], [5, 0, 2]] {
         for words in [&unfit[..299], &[&unfit[..], &[0]].concat(), &[]] {
-            let made = calls::make(setting(numbers), 1, &extents, 0, words, &mut []);
+            let made = calls::make(numbers, 1, &extents, 0, words, &mut []);
             assert_eq!(made, Err(Refusal::Picture));
         }
     }
-    let made = calls::make(setting([3, 1, 2]), 1, &extents, 0, &unfit, &mut []);
+    let made = calls::make([3, 1, 2], 1, &extents, 0, &unfit, &mut []);
     assert_eq!(made, Err(Refusal::Unfit));
 }
 
@@ -95,9 +95,9 @@ fn change_gives_the_files_number_before_the_settings() {
         [5, 0, 258],
     ] {
         let own = if (1..=5).contains(&wrong[0]) { 3 } else { 2 };
-        assert_eq!(number(calls::change(&file, setting(wrong), &mut room)), own);
+        assert_eq!(number(calls::change(&file, wrong, &mut room)), own);
         for (bad, wanted) in &bad {
-            let given = calls::change(bad, setting(wrong), &mut room);
+            let given = calls::change(bad, wrong, &mut room);
             assert_eq!(number(given), *wanted);
         }
     }

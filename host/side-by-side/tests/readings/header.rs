@@ -23,7 +23,7 @@ fn the_product_of_extents_does_not_wrap() {
             bad = with_field(&bad, 4 + 4 * index, extent);
         }
         assert_eq!(checked(&bad), 4, "{extents:?}");
-        let made = calls::make(setting(RUNS), count, &extents, 0, &[], &mut [0; 60]);
+        let made = calls::make(RUNS, count, &extents, 0, &[], &mut [0; 60]);
         assert_eq!(number(made), 4);
         assert_eq!(
             number(calls::coordinates_position(count, &extents, &[0; 4])),
@@ -88,11 +88,7 @@ fn width_and_step_are_tested_before_they_are_used() {
     assert!(line([5, 0, 64], &SAMPLE).is_some());
     assert!(line([3, 2, 255], &SAMPLE).is_some());
     assert_eq!(
-        number(calls::change(
-            &sample(RUNS),
-            setting([3, 1, 256]),
-            &mut [0; 200]
-        )),
+        number(calls::change(&sample(RUNS), [3, 1, 256], &mut [0; 200])),
         3
     );
 }

@@ -2,25 +2,22 @@
 
 use std::ffi::OsStr;
 
-use radar_archive::{Archive, Refusal};
+use radar_archive::{Archive, Fault};
 
-use crate::diagnosis::{self, Finding};
 use crate::input::Input;
 use crate::json::Object;
-use crate::refused;
 
 /// What came out for one file.
 pub(super) enum Told<'a> {
     /// It is accepted.
     Accepted {
         path: &'a OsStr,
-        archive: Archive<'a>,
+        archive: Archive<&'a [u8]>,
     },
     /// It is refused.
     Refused {
         path: &'a OsStr,
-        refusal: Refusal,
-        finding: Finding,
+        fault: Fault,
         length: usize,
     },
     /// It could not be read.
@@ -31,12 +28,11 @@ impl<'a> Told<'a> {
     /// Checks a file.
     pub(super) fn file(file: &'a Input) -> Told<'a> {
         let path = &file.path;
-        match Archive::open(&file.bytes) {
+        match Archive::open(&file.bytes[..]) {
             Ok(archive) => Told::Accepted { path, archive },
-            Err(refusal) => Told::Refused {
+            Err(fault) => Told::Refused {
                 path,
-                refusal,
-                finding: diagnosis::of(&file.bytes, refusal),
+                fault,
                 length: file.bytes.len(),
             },
         }
@@ -63,9 +59,7 @@ impl<'a> Told<'a> {
     pub(super) fn sentence(&self) -> String {
         match self {
             Told::Accepted { .. } => "accepted".to_string(),
-            Told::Refused {
-                refusal, finding, ..
-            } => refused::sentence(*refusal, finding),
+            Told::Refused { fault, .. } => format!("refused, {fault}"),
             Told::Unread { message, .. } => message.clone(),
         }
     }
@@ -81,16 +75,11 @@ impl<'a> Told<'a> {
                 facts(&mut object, archive);
                 object.number("length", archive.bytes().len() as u64);
             }
-            Told::Refused {
-                refusal,
-                finding,
-                length,
-                ..
-            } => {
-                object.number("number", refusal.number().into());
-                object.text("word", refusal.word());
-                object.text("message", &finding.message);
-                match finding.byte {
+            Told::Refused { fault, length, .. } => {
+                object.number("number", fault.refusal.number().into());
+                object.text("word", fault.refusal.word());
+                object.text("message", &fault.message);
+                match fault.byte {
                     Some(byte) => object.number("byte", byte as u64),
                     None => object.null("byte"),
                 };
@@ -105,14 +94,13 @@ impl<'a> Told<'a> {
 }
 
 /// Setting, dimensions, empty word and counts of a file.
-fn facts(object: &mut Object, archive: &Archive<'_>) {
+fn facts(object: &mut Object, archive: &Archive<&[u8]>) {
     let (setting, dimensions) = (archive.setting(), archive.dimensions());
-    let extents = &dimensions.extents[..dimensions.count as usize];
     object
-        .number("kind", setting.kind.into())
+        .number("kind", setting.kind.number().into())
         .number("width", setting.width.into())
         .number("step", setting.step.into())
-        .numbers("dimensions", extents)
+        .numbers("dimensions", dimensions.extents())
         .number("cells", archive.cells().into())
         .number("empty", archive.empty().into())
         .number("stored", archive.stored_count().into());

@@ -90,7 +90,6 @@ const COUNTS: &[Change] = &[
     (2, 28, 3, "the entry count of the first part is 3, not 4, the number of stored cells", 28),
     (3, 28, 4, "the entry count of the first part is 4, not 2, the bases of 4 stored cells at step 2", 28),
     (5, 28, 3, "the entry count of the first part is 3, not 2, the entries above level 0 of 3 runs at step 2", 28),
-    (5, 32, 2, "the entry count of the first part is 2, not 0, the entries above level 0 of 2 runs at step 2", 28),
     (1, 32, 1, "the entry count of the second part is 1, not 0, since kind 1 has no second part", 32),
     (2, 32, 4, "the entry count of the second part is 4, not 0, since kind 2 has no second part", 32),
     (3, 32, 5, "the entry count of the second part is 5, not 4, the number of stored cells", 32),
@@ -101,7 +100,6 @@ const COUNTS: &[Change] = &[
 const OFFSETS: &[Change] = &[
     (1, 36, 51, "the offset of the first part is 51, not 52", 36),
     (1, 40, 52, "the offset of the second part is 52, not 76", 40),
-    (1, 28, 2, "the offset of the second part is 76, not 68", 40),
     (3, 40, u32::MAX, "the offset of the second part is 4294967295, not 60", 40),
     (4, 44, 56, "the offset of the stored words is 56, not 60", 44),
     (5, 44, 0, "the offset of the stored words is 0, not 92", 44),

@@ -2,8 +2,9 @@
 
 use std::time::Instant;
 
-use command::lengths::{Lengths, Offer};
-use radar_archive::{Archive, Dimensions, Picture, Refusal, Setting, MOST_CELLS};
+use radar_archive::{
+    calls, Archive, Dimensions, Kind, Lengths, Offer, Picture, Refusal, Setting, MOST_CELLS,
+};
 use side_by_side::random::Random;
 use side_by_side::settings;
 use side_by_side::textures::{Sketch, NAMES};
@@ -27,7 +28,7 @@ fn all_settings() -> Vec<Setting> {
 }
 
 /// The lengths of a picture's files in all settings as the engine puts them out.
-fn offers(archive: &Archive<'_>, all: &[Setting], met: &mut Met) -> Vec<Offer> {
+fn offers(archive: &Archive<&[u8]>, all: &[Setting], met: &mut Met) -> Vec<Offer> {
     let mut offers = Vec::new();
     for &setting in all {
         match archive.change(setting) {
@@ -55,7 +56,7 @@ fn runs(picture: &Picture) -> u32 {
 }
 
 /// The shortest of some offers, the first on equal length.
-fn shortest(offers: &[Offer], kinds: &[u32]) -> Option<Offer> {
+fn shortest(offers: &[Offer], kinds: &[Kind]) -> Option<Offer> {
     let mut best: Option<Offer> = None;
     for offer in offers {
         let shorter = best.is_none_or(|best| offer.length < best.length);
@@ -71,7 +72,7 @@ fn compare(picture: &Picture, from: Setting, all: &[Setting], met: &mut Met) {
     let Ok(file) = picture.make(from) else {
         return;
     };
-    let archive = Archive::open(&file).unwrap();
+    let archive = Archive::open(&file[..]).unwrap();
     let lengths = Lengths::of(&archive);
     let offers = offers(&archive, all, met);
     for &setting in all {
@@ -84,12 +85,13 @@ fn compare(picture: &Picture, from: Setting, all: &[Setting], met: &mut Met) {
         );
     }
     assert_eq!(lengths.runs(), runs(picture), "{picture:?}");
-    for kind in 1..=5 {
-        let wanted = shortest(&offers, &[kind]);
-        assert!(wanted.is_some());
+    for kind in Kind::ALL {
+        let wanted = shortest(&offers, &[kind]).unwrap();
         assert_eq!(lengths.shortest_of_kind(kind), wanted, "{picture:?}");
     }
-    assert_eq!(lengths.shortest(), shortest(&offers, &[1, 2, 3, 4, 5]));
+    let best = shortest(&offers, &Kind::ALL).unwrap();
+    assert_eq!(lengths.shortest(), best);
+    assert_eq!(archive.best(), best);
     met.pictures += 1;
 }
 
@@ -126,10 +128,7 @@ fn pictures_of_all_textures() {
     for index in 0..40 * NAMES.len() {
         let sketch = Sketch::of(NAMES[index % NAMES.len()], &mut random);
         let picture = Picture {
-            dimensions: Dimensions {
-                count: sketch.dimensions,
-                extents: sketch.extents,
-            },
+            dimensions: Dimensions::of_numbers(sketch.dimensions, sketch.extents),
             empty: sketch.empty,
             words: sketch.words,
         };
@@ -185,15 +184,14 @@ fn settings_that_are_not_allowed_have_no_length() {
     let lengths = Lengths::of(&archive);
     let mut refused = 0;
     for _ in 0..10_000 {
-        let setting = settings::engine(settings::wrong(&mut random));
-        let wanted = archive.change(setting).ok().map(|file| file.len());
-        assert_eq!(lengths.of_setting(setting), wanted, "{setting:?}");
-        refused += usize::from(wanted.is_none());
+        let numbers = settings::wrong(&mut random);
+        let setting = Setting::try_from(numbers);
+        let length = setting.ok().and_then(|setting| lengths.of_setting(setting));
+        let changed = calls::change(archive.bytes(), numbers, &mut [0; 200]);
+        assert_eq!(length, changed.ok(), "{numbers:?}");
+        refused += usize::from(length.is_none());
     }
     assert!(refused > 5_000, "{refused}");
-    for kind in [0, 6, 257, u32::MAX] {
-        assert_eq!(lengths.shortest_of_kind(kind), None);
-    }
 }
 
 /// The sample of document 01 and its lengths there.
@@ -203,22 +201,22 @@ fn the_sample() {
     let file = picture.make(Setting::jumps(1)).unwrap();
     let lengths = Lengths::of(&Archive::open(&file).unwrap());
     assert_eq!(lengths.runs(), 3);
-    let of = |kind, width, step| lengths.of_setting(Setting::of(kind, width, step));
     let found = [
-        of(1, 0, 0),
-        of(2, 0, 0),
-        of(3, 1, 2),
-        of(4, 1, 0),
-        of(5, 0, 2),
-    ];
+        Setting::runs(),
+        Setting::positions(),
+        Setting::base_offset(1, 2),
+        Setting::jumps(1),
+        Setting::paged_runs(2),
+    ]
+    .map(|setting| lengths.of_setting(setting));
     assert_eq!(found, [92, 84, 80, 76, 108].map(Some));
-    let shortest = (1..=5).map(|kind| {
-        let Offer { setting, length } = lengths.shortest_of_kind(kind).unwrap();
+    let shortest = Kind::ALL.map(|kind| {
+        let Offer { setting, length } = lengths.shortest_of_kind(kind);
         (setting.width, setting.step, length)
     });
     let wanted = [(0, 0, 92), (0, 0, 84), (1, 4, 76), (1, 0, 76), (0, 3, 92)];
-    assert!(shortest.eq(wanted));
-    let offer = lengths.shortest().unwrap();
+    assert_eq!(shortest, wanted);
+    let offer = lengths.shortest();
     assert_eq!(offer.setting, Setting::base_offset(1, 4));
 }
 
@@ -241,9 +239,9 @@ fn the_largest_pictures() {
             let archive = Archive::open(&file).unwrap();
             let start = Instant::now();
             let lengths = Lengths::of(&archive);
-            let offer = lengths.shortest().unwrap();
+            let offer = lengths.shortest();
             let seconds = start.elapsed().as_secs_f64();
-            println!("{name}, from kind {}: {seconds:.2} s, {offer:?}", from.kind);
+            println!("{name}, from {}: {seconds:.2} s, {offer:?}", from.kind);
             assert_eq!(lengths.of_setting(from), Some(file.len()));
             assert_eq!(lengths.runs(), runs);
             let best = archive.change(offer.setting).unwrap();

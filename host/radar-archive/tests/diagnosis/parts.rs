@@ -1,5 +1,6 @@
 //! Files whose parts hold any numbers, and whose counts, offsets and length agree.
 
+use radar_archive::Kind;
 use side_by_side::random::Random;
 use side_by_side::settings;
 
@@ -14,14 +15,14 @@ pub fn any(random: &mut Random) -> Vec<u8> {
     let free = random.below(stored + 1);
     let free = random.one_of(&[free, stored, stored.min(1)]);
     let (first, second) = match setting.kind {
-        1 => (pairs(free, cells, random), files::none()),
-        2 => (singles(stored, cells, random), files::none()),
-        3 => (
+        Kind::Runs => (pairs(free, cells, random), files::none()),
+        Kind::Positions => (singles(stored, cells, random), files::none()),
+        Kind::BaseOffset => (
             singles(stored.div_ceil(step), cells, random),
             small(stored, width, random),
         ),
-        4 => (singles(free, cells, random), small(stored, width, random)),
-        _ => (
+        Kind::Jumps => (singles(free, cells, random), small(stored, width, random)),
+        Kind::PagedRuns => (
             pairs(upper_entries(free, step), cells, random),
             pairs(free, cells, random),
         ),

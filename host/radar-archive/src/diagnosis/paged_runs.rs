@@ -1,7 +1,9 @@
 //! Kind 5: level 0 by the rules of its runs, and the levels above it by their sums.
 
+use alloc::format;
+
 use super::header::Header;
-use super::runs::Runs;
+use super::runs::{runs, Runs};
 use super::{fault, many, number, Test};
 
 /// Cells and empty cells of an entry.
@@ -28,7 +30,7 @@ impl Level {
 
     /// The entry to the left in its page, 0 at a page's first entry.
     fn left(&self, file: &[u8], index: usize, step: usize) -> Pair {
-        if index.is_multiple_of(step) {
+        if index % step == 0 {
             (0, 0)
         } else {
             self.entry(file, index - 1)
@@ -36,14 +38,19 @@ impl Level {
     }
 }
 
-/// Tests both parts: level 0, then the levels above it, the lowest first.
+/// Tests both parts.
 pub(super) fn parts(file: &[u8], header: &Header) -> Test {
+    runs(header, |runs| levels(file, header, runs))
+}
+
+/// Tests level 0, then the levels above it, the lowest first.
+fn levels(file: &[u8], header: &Header, runs: &mut Runs) -> Test {
     let step = header.setting.step as usize;
     let mut below = Level {
         entries: header.second as usize,
         at: header.second_at as usize,
     };
-    level_0(file, header, below)?;
+    level_0(file, header, runs, below)?;
     let mut name = 1;
     while below.entries > step {
         // A level stands before the one below it.
@@ -58,9 +65,8 @@ pub(super) fn parts(file: &[u8], header: &Header) -> Test {
 }
 
 /// Tests level 0.
-fn level_0(file: &[u8], header: &Header, level: Level) -> Test {
+fn level_0(file: &[u8], header: &Header, runs: &mut Runs, level: Level) -> Test {
     let step = header.setting.step as usize;
-    let mut runs = Runs::new(header);
     for index in 0..level.entries {
         let at = level.entry_at(index);
         let (cells, empties) = level.entry(file, index);

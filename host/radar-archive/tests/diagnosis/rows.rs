@@ -1,10 +1,10 @@
 //! Refused files with the number and the sentence on each.
 
-use command::diagnosis::{first_fault, of, Finding};
-use radar_archive::{calls, Refusal};
+use radar_archive::diagnosis::{first_fault, of};
+use radar_archive::{calls, Archive, Fault, Refusal};
 
 use crate::files::{sample, with_byte, with_field};
-use crate::{header, positions, runs};
+use crate::{fields, header, positions, runs};
 
 /// A refused file, its number, and the message and the byte that the diagnosis gives.
 pub struct Row(pub Vec<u8>, pub u32, pub &'static str, pub Option<usize>);
@@ -43,6 +43,7 @@ pub fn of_bytes(number: u32, changes: &'static [Change]) -> Vec<Row> {
 /// The rows of all numbers.
 pub fn all() -> Vec<Row> {
     let mut rows = header::rows();
+    rows.extend(fields::rows());
     rows.extend(runs::rows());
     rows.extend(positions::rows());
     rows
@@ -52,13 +53,15 @@ pub fn all() -> Vec<Row> {
 fn each_sentence_word_for_word() {
     for Row(file, number, message, byte) in all() {
         let refusal = Refusal::of_number(number).unwrap();
-        let finding = Finding {
+        let fault = Fault {
+            refusal,
             message: message.to_string(),
             byte,
         };
-        assert_eq!(of(&file, refusal), finding);
+        assert_eq!(of(&file, refusal), fault);
         assert_eq!(calls::check(&file), Err(refusal), "{message}");
-        assert_eq!(first_fault(&file), Some((refusal, finding)));
+        assert_eq!(first_fault(&file).as_ref(), Some(&fault));
+        assert_eq!(Archive::open(file).map(|_| ()), Err(fault));
     }
 }
 
@@ -68,8 +71,9 @@ fn the_sentence_of_another_number() {
     let accepted = sample(2);
     let short = vec![2; 51];
     for file in [accepted, short] {
-        let finding = of(&file, Refusal::Body);
-        assert_eq!(finding.message, "no picture has these bytes");
-        assert_eq!(finding.byte, None);
+        let fault = of(&file, Refusal::Body);
+        assert_eq!(fault.to_string(), Refusal::Body.to_string());
+        assert_eq!(fault.message, "no picture has these bytes");
+        assert_eq!(fault.byte, None);
     }
 }

@@ -1,16 +1,25 @@
 //! Number 5: counts, offsets and length, in the order of the signal list.
 
-use super::header::{Header, HEADER};
-use super::{fault, many, Test};
-use crate::kinds::upper_entries;
+use alloc::format;
+use alloc::string::ToString;
+
+use super::header::Header;
+use super::{fault, first_finding, many, Test};
+use crate::header::HEADER_LENGTH;
+use crate::layout::{entry_sizes, upper_entries};
+use crate::{Kind, MOST_CELLS};
 
 /// Tests 5. Numbers 1 to 4 are past.
 pub(super) fn counts(file: &[u8], header: &Header) -> Test {
     let cells = header.cells();
     if header.stored > cells {
+        // Where all the rest agrees with the stored cells, it is the cells that are too few.
+        let agrees = header.stored <= u64::from(MOST_CELLS)
+            && first_finding(file, &header.widened()).is_none();
+        let byte = if agrees { header.too_small_at() } else { 24 };
         let stored = many(header.stored, "stored cell");
         let cells = many(cells, "cell");
-        return fault(24, format!("the header says {stored} of {cells}"));
+        return fault(byte, format!("the header says {stored} of {cells}"));
     }
     bounded_count(header)?;
     first_count(header)?;
@@ -28,10 +37,10 @@ pub(super) fn counts(file: &[u8], header: &Header) -> Test {
 /// The count that N only bounds: runs in kinds 1 and 5, jumps in kind 4.
 fn bounded_count(header: &Header) -> Test {
     let (byte, count, thing) = match header.setting.kind {
-        1 => (28, header.first, "run"),
-        4 => (28, header.first, "jump"),
-        5 => (32, header.second, "run"),
-        _ => return Ok(()),
+        Kind::Runs => (28, header.first, "run"),
+        Kind::Jumps => (28, header.first, "jump"),
+        Kind::PagedRuns => (32, header.second, "run"),
+        Kind::Positions | Kind::BaseOffset => return Ok(()),
     };
     if count > header.stored {
         let count = many(count, thing);
@@ -47,18 +56,18 @@ fn first_count(header: &Header) -> Test {
     let stored = header.stored;
     let step = u64::from(header.setting.step);
     let (given, what) = match header.setting.kind {
-        2 => (stored, "the number of stored cells".to_string()),
-        3 => {
+        Kind::Positions => (stored, "the number of stored cells".to_string()),
+        Kind::BaseOffset => {
             let stored = many(stored, "stored cell");
             let what = format!("the bases of {stored} at step {step}");
             (header.stored.div_ceil(step), what)
         }
-        5 => {
+        Kind::PagedRuns => {
             let runs = many(header.second, "run");
             let what = format!("the entries above level 0 of {runs} at step {step}");
             (upper_entries(header.second, step), what)
         }
-        _ => return Ok(()),
+        Kind::Runs | Kind::Jumps => return Ok(()),
     };
     if header.first != given {
         let first = header.first;
@@ -72,9 +81,12 @@ fn first_count(header: &Header) -> Test {
 fn second_count(header: &Header) -> Test {
     let kind = header.setting.kind;
     let (given, what) = match kind {
-        1 | 2 => (0, format!("since kind {kind} has no second part")),
-        3 | 4 => (header.stored, "the number of stored cells".to_string()),
-        _ => return Ok(()),
+        Kind::Runs | Kind::Positions => {
+            let number = kind.number();
+            (0, format!("since kind {number} has no second part"))
+        }
+        Kind::BaseOffset | Kind::Jumps => (header.stored, "the number of stored cells".to_string()),
+        Kind::PagedRuns => return Ok(()),
     };
     if header.second != given {
         let second = header.second;
@@ -87,13 +99,8 @@ fn second_count(header: &Header) -> Test {
 
 /// The offsets, and the length that header, parts and words have.
 fn offsets(header: &Header) -> Test {
-    let (first_size, second_size) = match header.setting.kind {
-        1 => (8, 0),
-        2 => (4, 0),
-        5 => (8, 8),
-        _ => (4, header.width() as u64),
-    };
-    let first_at = HEADER as u64;
+    let [first_size, second_size] = entry_sizes(header.setting).map(|size| size as u64);
+    let first_at = HEADER_LENGTH as u64;
     let second_at = first_at + first_size * header.first;
     let words_at = second_at + second_size * header.second;
     for (byte, what, says, given) in [

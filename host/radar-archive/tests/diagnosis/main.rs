@@ -1,5 +1,6 @@
 //! The diagnosis of refused files: each sentence word for word, and many damaged and forged files.
 
+mod fields;
 mod files;
 mod forged;
 mod header;

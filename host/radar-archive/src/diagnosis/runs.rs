@@ -1,14 +1,22 @@
 //! Kind 1, and the rules of a run that kinds 1 and 5 share.
 
-use super::header::{Header, HEADER};
+use alloc::format;
+
+use super::beyond::Beyond;
+use super::header::Header;
 use super::{fault, many, number, Test};
+use crate::header::HEADER_LENGTH;
 
 /// Tests the first part of kind 1.
 pub(super) fn parts(file: &[u8], header: &Header) -> Test {
-    let mut runs = Runs::new(header);
+    runs(header, |runs| pairs(file, header, runs))
+}
+
+/// Tests the pairs of kind 1.
+fn pairs(file: &[u8], header: &Header, runs: &mut Runs) -> Test {
     let mut empties_before = 0;
     for index in 0..header.first as usize {
-        let at = HEADER + 8 * index;
+        let at = HEADER_LENGTH + 8 * index;
         let last = number(file, at, 4);
         let empties = number(file, at + 4, 4);
         // The cells through the end of the run before, so one more than its last position.
@@ -33,6 +41,21 @@ pub(super) fn parts(file: &[u8], header: &Header) -> Test {
     runs.end()
 }
 
+/// Tests runs that a closure gives in their order.
+pub(super) fn runs(header: &Header, test: impl FnOnce(&mut Runs) -> Test) -> Test {
+    let mut runs = Runs {
+        header,
+        count: 0,
+        through: 0,
+        held: 0,
+        beyond: Beyond::new(header),
+    };
+    let found = test(&mut runs);
+    // One entry that puts a run's end elsewhere makes the runs hold other cells than the header says.
+    runs.beyond.never_one();
+    runs.beyond.told(found)
+}
+
 /// The runs met so far.
 pub(super) struct Runs<'a> {
     header: &'a Header,
@@ -42,29 +65,18 @@ pub(super) struct Runs<'a> {
     through: u64,
     /// The stored cells.
     held: u64,
+    beyond: Beyond<'a>,
 }
 
 impl Runs<'_> {
-    /// None met yet.
-    pub(super) fn new(header: &Header) -> Runs<'_> {
-        Runs {
-            header,
-            count: 0,
-            through: 0,
-            held: 0,
-        }
-    }
-
     /// Tests the next run, of at least one cell. Its pair stands at `at`.
     pub(super) fn add(&mut self, cells: u64, empties: u64, at: usize) -> Test {
         let index = self.count;
-        let all = self.header.cells();
         self.through += cells;
-        if self.through > all {
-            let (end, last) = (self.through - 1, all - 1);
-            let message =
-                format!("run {index} ends at position {end}; the last cell is at position {last}");
-            return fault(at, message);
+        let end = self.through - 1;
+        if self.beyond.is(end) {
+            self.beyond
+                .meet(end, at, || format!("run {index} ends at position {end}"));
         }
         if empties >= cells {
             let cells = many(cells, "cell");

@@ -71,7 +71,7 @@ pub fn raw(setting: Setting, cells: u32, first: Part, second: Part, words: &[u32
     let second_at = 52 + first.1.len() as u32;
     let words_at = second_at + second.1.len() as u32;
     let stored = words.len() as u32;
-    let Setting { kind, width, step } = setting;
+    let [kind, width, step] = setting.into();
     let mut file = [kind, 1, width, step].map(|number| number as u8).to_vec();
     file.extend(fours(&[cells, 1, 1, 1, 0, stored, first.0, second.0]));
     file.extend(fours(&[52, second_at, words_at, words_at + 4 * stored]));

@@ -1,30 +1,35 @@
 //! Kind 4: differences and jumps.
 
-use super::header::{Header, HEADER};
-use super::positions::Rising;
+use alloc::format;
+
+use super::header::Header;
+use super::positions::{rising, Rising};
 use super::{fault, many, number, Test};
+use crate::header::HEADER_LENGTH;
 
 /// Tests both parts, in the order of the ranks.
 pub(super) fn parts(file: &[u8], header: &Header) -> Test {
     let width = header.width();
-    let mut rising = Rising::new(header);
-    let mut jumps = 0;
-    for rank in 0..header.stored as usize {
-        let at = header.second_at as usize + width * rank;
-        let difference = number(file, at, width);
-        if difference != 0 {
-            step(&mut rising, rank, difference, at)?;
-            continue;
+    rising(header, |rising| {
+        let mut jumps = 0;
+        for rank in 0..header.stored as usize {
+            let at = header.second_at as usize + width * rank;
+            let difference = number(file, at, width);
+            if difference != 0 {
+                step(rising, rank, difference, at)?;
+                continue;
+            }
+            if jumps == header.first {
+                let message = format!(
+                    "the difference of rank {rank} is 0, and there is no jump {jumps} for it"
+                );
+                return fault(at, message);
+            }
+            jump(file, header, rising, rank, jumps as usize)?;
+            jumps += 1;
         }
-        if jumps == header.first {
-            let message =
-                format!("the difference of rank {rank} is 0, and there is no jump {jumps} for it");
-            return fault(at, message);
-        }
-        jump(file, header, &mut rising, rank, jumps as usize)?;
-        jumps += 1;
-    }
-    left_over(header, jumps)
+        left_over(header, jumps)
+    })
 }
 
 /// Tests a difference that is not 0.
@@ -34,17 +39,17 @@ fn step(rising: &mut Rising, rank: usize, difference: u64, at: usize) -> Test {
         return fault(at, message);
     };
     let position = before + difference;
-    rising.add(position, at, || {
+    rising.follow(position, at, || {
         format!("difference {difference} from position {before} puts rank {rank} at position {position}")
     })
 }
 
 /// Tests the jump of a rank.
 fn jump(file: &[u8], header: &Header, rising: &mut Rising, rank: usize, index: usize) -> Test {
-    let at = HEADER + 4 * index;
+    let at = HEADER_LENGTH + 4 * index;
     let position = number(file, at, 4);
     let before = rising.before();
-    rising.add(position, at, || {
+    rising.place(position, at, || {
         format!("jump {index} puts rank {rank} at position {position}")
     })?;
     let Some(before) = before else {
@@ -70,5 +75,5 @@ fn left_over(header: &Header, taken: u64) -> Test {
     let jumps = many(header.first, "jump");
     let zeros = many(taken, "difference");
     let message = format!("{jumps} for {zeros} of 0; jump {taken} belongs to no rank");
-    fault(HEADER + 4 * taken as usize, message)
+    fault(HEADER_LENGTH + 4 * taken as usize, message)
 }

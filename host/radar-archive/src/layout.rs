@@ -1,0 +1,72 @@
+//! How a file is laid out: its entries and their bytes, by setting.
+
+use crate::header::HEADER_LENGTH;
+use crate::{Kind, Setting};
+
+/// What the entries of a picture's parts are counted from.
+#[derive(Clone, Copy)]
+pub(crate) struct Counts {
+    /// The stored cells, N.
+    pub(crate) stored: usize,
+    /// The runs, of kinds 1 and 5.
+    pub(crate) runs: usize,
+    /// The jumps, of kind 4.
+    pub(crate) jumps: usize,
+}
+
+/// The length of a file in an allowed setting.
+pub(crate) fn length(setting: Setting, counts: Counts) -> usize {
+    let [first, second] = entries(setting, counts);
+    let [first_size, second_size] = entry_sizes(setting);
+    HEADER_LENGTH + first_size * first + second_size * second + 4 * counts.stored
+}
+
+/// The entries of the first and the second part in an allowed setting.
+fn entries(setting: Setting, counts: Counts) -> [usize; 2] {
+    let Counts {
+        stored,
+        runs,
+        jumps,
+    } = counts;
+    let step = setting.step as usize;
+    match setting.kind {
+        Kind::Runs => [runs, 0],
+        Kind::Positions => [stored, 0],
+        Kind::BaseOffset => [stored.div_ceil(step), stored],
+        Kind::Jumps => [jumps, stored],
+        Kind::PagedRuns => [upper_entries(runs as u64, step as u64) as usize, runs],
+    }
+}
+
+/// The bytes of an entry of the first and of the second part; 0 for a part that the kind does not have.
+pub(crate) fn entry_sizes(setting: Setting) -> [usize; 2] {
+    let width = setting.width as usize;
+    match setting.kind {
+        Kind::Runs => [8, 0],
+        Kind::Positions => [4, 0],
+        Kind::BaseOffset | Kind::Jumps => [4, width],
+        Kind::PagedRuns => [8, 8],
+    }
+}
+
+/// The entries of all levels above level 0 of kind 5. The step is at least 2.
+pub(crate) fn upper_entries(runs: u64, step: u64) -> u64 {
+    let mut level = runs;
+    let mut upper = 0;
+    while level > step {
+        level = level.div_ceil(step);
+        upper += level;
+    }
+    upper
+}
+
+#[cfg(test)]
+mod tests {
+    use super::upper_entries;
+
+    #[test]
+    fn entries_above_level_0() {
+        assert_eq!(upper_entries(2, 2), 0);
+        assert_eq!(upper_entries(5, 2), 3 + 2);
+    }
+}
