@@ -93,6 +93,19 @@ extern "C" {
 #define RA_CODE(answer) ((uint32_t)((answer) >> 32))
 
 /*
+ * The word of a number: "accepted" for 0, "short" to "other" for 1 to 11, "empty" for RA_EMPTY, "unknown" for any other.
+ *
+ * Example:
+ *     assert(strcmp(ra_word(ra_check(file, 83)), "counts") == 0);
+ */
+static inline const char *ra_word(uint32_t number)
+{
+    static const char *const words[] = {"accepted", "short", "kind",   "setting", "extent", "counts",
+                                        "body",     "picture", "beyond", "unfit",   "small",  "other"};
+    return number <= RA_OTHER ? words[number] : number == RA_EMPTY ? "empty" : "unknown";
+}
+
+/*
  * The complete check of a file.
  *
  *   file, len   the file's bytes
@@ -105,6 +118,24 @@ extern "C" {
  *     assert(ra_check(file, 51) == 1);
  */
 uint32_t ra_check(const uint8_t *file, size_t len);
+
+/*
+ * What the file's header says. The complete check comes first.
+ *
+ *   file, len      the file's bytes
+ *   dst, dst_len   the destination, in numbers
+ *
+ * Answers 0, or the first of 1 to 6, 10. Accepted: RA_INFO_NUMBERS numbers stand in the destination's first elements: kind, width, step, the
+ * number of dimensions, cells, E, N, and the four extents, 1 past the number of dimensions.
+ *
+ * Example:
+ *     uint32_t info[RA_INFO_NUMBERS];
+ *     assert(ra_info(file, 84, info, RA_INFO_NUMBERS) == 0);
+ *     assert(info[0] == 2 && info[3] == 1 && info[4] == 12 && info[5] == 0 && info[6] == 4 && info[7] == 12);
+ *     assert(ra_info(file, 84, info, 10) == 10);
+ */
+#define RA_INFO_NUMBERS 11
+uint32_t ra_info(const uint8_t *file, size_t len, uint32_t *dst, size_t dst_len);
 
 /*
  * Makes the file of a picture.

@@ -84,6 +84,7 @@ void refusals_of_files(void)
         EQUAL(ra_change(file, len, 9, 9, 9, dst, 0), number);
         EQUAL(ra_change(file, len, 2, 0, 0, dst, sizeof dst), number);
         EQUAL(ra_expand(file, len, words, 0), number);
+        EQUAL(ra_info(file, len, words, 0), number);
         EQUAL(ra_cell(file, len, 99), refused(number));
         EQUAL(ra_rank(file, len, 99), refused(number));
         EQUAL(ra_position(file, len, 99), refused(number));
@@ -104,6 +105,7 @@ void nothing_lent(void)
     EQUAL(ra_write(NULL, 0, 0, 0, NULL, 0), 1);
     EQUAL(ra_change(NULL, 0, 1, 0, 0, NULL, 0), 1);
     EQUAL(ra_expand(NULL, 0, NULL, 0), 1);
+    EQUAL(ra_info(NULL, 0, NULL, 0), 1);
     EQUAL(ra_cell(NULL, 0, 0), refused(1));
     EQUAL(ra_ranks(NULL, 0, 0, 0), refused(1));
     EQUAL(ra_shorter(NULL, 0, NULL, 0), refused(1));

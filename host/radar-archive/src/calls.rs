@@ -74,6 +74,12 @@ pub fn check(file: &[u8]) -> Result<(), Refusal> {
     plain(ffi::check(file))
 }
 
+/// Puts out what the header says, eleven numbers: kind, width, step, dimension count, cells, E, N and the four extents. Tests 1 to 6,
+/// 10.
+pub fn info(file: &[u8], destination: &mut [u32]) -> Result<(), Refusal> {
+    plain(ffi::info(file, destination))
+}
+
 /// Puts out the file of a picture and gives its length. Tests 2, 3, 4, 7, 9, 10. `extents` has four numbers, 1 past the dimension
 /// count (another number of them is 4); `words` has one word for each cell.
 pub fn make(

@@ -37,6 +37,7 @@ mod raw {
             dst: *mut u8,
             dst_len: usize,
         ) -> u32;
+        pub fn ra_info(file: *const u8, len: usize, dst: *mut u32, dst_len: usize) -> u32;
         pub fn ra_expand(file: *const u8, len: usize, dst: *mut u32, dst_len: usize) -> u32;
         pub fn ra_cell(file: *const u8, len: usize, position: u32) -> u64;
         pub fn ra_rank(file: *const u8, len: usize, position: u32) -> u64;
@@ -130,6 +131,10 @@ pub fn change(file: &[u8], setting: [u32; 3], dst: &mut [u8]) -> u32 {
             dst.len(),
         )
     }
+}
+
+pub fn info(file: &[u8], dst: &mut [u32]) -> u32 {
+    unsafe { raw::ra_info(file.as_ptr(), file.len(), dst.as_mut_ptr(), dst.len()) }
 }
 
 pub fn expand(file: &[u8], dst: &mut [u32]) -> u32 {

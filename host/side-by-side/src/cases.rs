@@ -108,6 +108,7 @@ fn file_cases(sides: &mut Sides, sketch: &Sketch, file: &[u8]) {
             sides.position(file, &checked, rank);
         }
     }
+    sides.info(file, &checked);
     sides.expand(file, &checked);
     for _ in 0..3 {
         read_parts(sides, sketch, file, &checked, says);
@@ -233,8 +234,9 @@ fn any_call(
     position: u32,
     rank: u32,
 ) {
-    match sides.random.below(8) {
+    match sides.random.below(9) {
         0 => sides.expand(file, checked),
+        8 => sides.info(file, checked),
         1 => sides.cell(file, checked, position),
         2 => sides.rank(file, checked, position),
         3 => sides.position(file, checked, rank),

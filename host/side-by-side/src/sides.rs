@@ -40,6 +40,25 @@ pub struct Sides {
     pub tally: Tally,
 }
 
+/// Kind, width, step, dimension count, cells, E, N and the extents of a file that the reader accepts.
+fn header_numbers(says: &Parsed) -> [u32; 11] {
+    let (setting, picture) = (says.setting, &says.picture);
+    let [first, second, third, fourth] = picture.dims.extents;
+    [
+        setting.kind,
+        setting.width,
+        setting.step,
+        picture.dims.count,
+        picture.words.len() as u32,
+        picture.empty,
+        says.positions.len() as u32,
+        first,
+        second,
+        third,
+        fourth,
+    ]
+}
+
 /// The number of an engine's answer.
 pub(crate) fn number<T>(answer: &Result<T, radar_archive::Refusal>) -> u32 {
     match answer {
@@ -223,6 +242,20 @@ impl Sides {
             format!("to {setting:?} of {}", shown(file))
         });
         wanted.ok()
+    }
+
+    /// What the header says, with destinations of several lengths.
+    pub fn info(&mut self, file: &[u8], parsed: &Result<Parsed, u32>) {
+        let wanted = parsed
+            .as_ref()
+            .map(|says| header_numbers(says).to_vec())
+            .map_err(|&number| number);
+        self.put_out(
+            "info",
+            &wanted,
+            |dst: &mut [u32]| number(&calls::info(file, dst)),
+            || shown(file),
+        );
     }
 
     /// Expand, with destinations of several lengths.

@@ -9,8 +9,9 @@ use crate::settings::{self, Setting};
 pub const EMPTY: u32 = 255;
 
 /// Every call with the numbers it may give; 0 is accepted.
-const CALLS: [(&str, &[u32]); 18] = [
+const CALLS: [(&str, &[u32]); 19] = [
     ("check", &[0, 1, 2, 3, 4, 5, 6]),
+    ("info", &[0, 1, 2, 3, 4, 5, 6, 10]),
     ("make", &[0, 2, 3, 4, 7, 9, 10]),
     ("write", &[0, 1, 2, 3, 4, 5, 6, 8, 9, 10]),
     ("change", &[0, 1, 2, 3, 4, 5, 6, 9, 10]),
