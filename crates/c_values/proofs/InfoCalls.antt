@@ -1,12 +1,12 @@
 -- A header's numbers into a destination, case by case, and those of an accepted file. Assumes nothing.
 use Prim.Native.Nat.{ℕ, zero, suc, _≤_, _<_}
-use mathlib.Core.Path.{_≡_, refl, sym, ap, _∙_}
+use mathlib.Core.Path.{_≡_, refl, ap, _∙_}
 use mathlib.Core.List.{List, [], _∷_, _++_}
-use native.Mathlib.Omega.{arith}
 use lib.ListN.{length, getD, drop}
 use borrow.Author.Tests.{lt-ltb, le-ltb}
 use Rattle.format.specs.declared.Dimensions.{Dimensions}
 use Rattle.format.specs.declared.View.{View}
+use Rattle.format.specs.Bytes.{numbersOf}
 use Rattle.format.specs.Signals.{SMALL}
 use Rattle.format.specs.Picture.{cells, mostDimensions}
 use Rattle.format.specs.Accepted.{dimensionsOf, checkNumber}
@@ -16,21 +16,17 @@ use Rattle.c_values.specs.Info.{infoOf, toldOf, ToldOut, InfoOut}
 use Rattle.c_values.proofs.Four.{four-numbers}
 
 module _ (b : List ℕ) where
-  four-extents : length (dimensionsOf b .extents) ≡ mostDimensions
-  unfolding dimensionsOf
-  four-extents = length-numbersOf 4 mostDimensions (drop 4 b)
-
   pub told-length : length (toldOf b) ≡ 11
-  unfolding toldOf
-  told-length = rw four-extents
+  unfolding toldOf dimensionsOf
+  told-length = rw (length-numbersOf 4 mostDimensions (drop 4 b))
 
   -- the numbers that were read
   pub numbers-told : (v : View) (d : Dimensions) → v ≡ viewOf b → d ≡ dimensionsOf b
       → v .kind ∷ v .width ∷ v .step ∷ d .count ∷ v .cells ∷ v .empty ∷ v .words ∷ getD (d .extents) 0 0 ∷ getD (d .extents) 1 0 ∷ getD (d .extents) 2 0
       ∷ getD (d .extents) 3 0 ∷ []
       ≡ toldOf b
-  unfolding toldOf
-  numbers-told v d e f = rw (e, f, four-numbers (dimensionsOf b .extents) four-extents)
+  unfolding toldOf dimensionsOf
+  numbers-told v d e f = rw (e, f, four-numbers (numbersOf 4 mostDimensions (drop 4 b)) (length-numbersOf 4 mostDimensions (drop 4 b)))
 
   told-info : viewOf b .cells ≡ cells (dimensionsOf b) → toldOf b ≡ infoOf b
   unfolding toldOf infoOf viewOf
