@@ -1,5 +1,10 @@
 //! Output: results on standard output, and files that are written whole or not at all.
 
+mod leftover;
+#[allow(unsafe_code)]
+mod lock;
+#[cfg(test)]
+mod scratch;
 mod standard;
 mod target;
 mod temporary;

@@ -8,6 +8,8 @@ use std::os::unix::fs::FileTypeExt;
 use std::path::{Path, PathBuf};
 
 use crate::failure::{reason, Failure};
+use crate::output::leftover;
+use crate::output::lock::{Lock, PATIENCE};
 use crate::output::temporary::{Kept, Temporary};
 use crate::shown;
 
@@ -25,10 +27,12 @@ pub(super) struct Target {
     force: bool,
     /// What the file that stands there hands on.
     kept: Option<Kept>,
+    /// Keeps other runs from replacing that file, so that what this one reads of it is still there when it is replaced.
+    lock: Option<Lock>,
 }
 
 impl Target {
-    /// Looks at what stands at a target; what may not be replaced is refused.
+    /// Looks at what stands at a target, and locks it; what may not be replaced is refused.
     pub(super) fn look(name: &OsStr, force: bool) -> Result<Target, Failure> {
         let failed = |message: &str| Failure::file(name, message);
         if let Ok(found) = fs::metadata(name) {
@@ -37,20 +41,32 @@ impl Target {
             }
         }
         let path = followed(Path::new(name)).map_err(|error| failed(&unwritable(&error)))?;
-        let kept = match fs::metadata(&path) {
+        let stands = match fs::metadata(&path) {
             Ok(_) if !force => return Err(failed("exists; use --force to replace it")),
-            Ok(found) => Some(Kept::of(&found)),
-            Err(error) if error.kind() == ErrorKind::NotFound => None,
+            Ok(_) => true,
+            Err(error) if error.kind() == ErrorKind::NotFound => false,
             Err(error) => return Err(failed(&unwritable(&error))),
         };
-        let target = Target {
+        let mut target = Target {
             name: name.to_owned(),
             path,
             force,
-            kept,
+            kept: None,
+            lock: None,
         };
         target.names_a_file()?;
+        if stands {
+            target.lock()?;
+        }
         Ok(target)
+    }
+
+    /// Locks the file that stands there, and sees what it hands on.
+    fn lock(&mut self) -> Result<(), Failure> {
+        let taken = Lock::take(&self.path, PATIENCE);
+        self.lock = taken.map_err(|error| self.failed(unlocked(&error)))?;
+        self.kept = fs::metadata(&self.path).ok().map(|found| Kept::of(&found));
+        Ok(())
     }
 
     /// Refuses a name that can only be a folder's, and one in a folder that is not there.
@@ -93,6 +109,7 @@ impl Target {
     /// Writes the bytes to a temporary file beside the target, and puts it in the target's place.
     pub(super) fn put(self, bytes: &[u8]) -> Result<(), Failure> {
         let name = self.path.file_name().unwrap_or(OsStr::new(""));
+        leftover::remove(self.folder(), name, self.lock.as_ref());
         let mut temporary = Temporary::create(self.folder(), name, self.kept).map_err(|error| {
             let folder = shown::quoted(self.folder().as_os_str());
             self.failed(format!(
@@ -155,6 +172,20 @@ fn not_a_file(found: FileType) -> String {
 
 fn unwritable(error: &io::Error) -> String {
     format!("cannot be written: {}", reason(error))
+}
+
+/// What is said of a lock that could not be had.
+fn unlocked(error: &io::Error) -> String {
+    match error.kind() {
+        ErrorKind::TimedOut => format!(
+            "is being replaced by another run, which has not ended after {} seconds; nothing was changed: try again when it has",
+            PATIENCE.as_secs()
+        ),
+        _ => format!(
+            "cannot be locked: {}; nothing was changed: write a new file and move it there",
+            reason(error)
+        ),
+    }
 }
 
 /// What is said of bytes that could not be written.
