@@ -16,6 +16,8 @@ pub const REFUSED: u8 = 1;
 pub const USAGE: u8 = 2;
 /// A file could not be read or written.
 pub const FILE: u8 = 3;
+/// Whoever read standard output had gone before all was written.
+pub const PIPE: u8 = 4;
 
 /// What ends a command early.
 #[derive(Clone, Debug, PartialEq, Eq)]
@@ -43,7 +45,7 @@ pub enum Failure {
         /// What is wrong.
         message: String,
     },
-    /// Whoever read standard output has gone.
+    /// Whoever read standard output has gone. There is nobody to tell.
     Pipe,
 }
 
@@ -75,7 +77,7 @@ impl Failure {
             Failure::Usage { .. } => USAGE,
             Failure::Refused { .. } => REFUSED,
             Failure::File { .. } => FILE,
-            Failure::Pipe => DONE,
+            Failure::Pipe => PIPE,
         }
     }
 

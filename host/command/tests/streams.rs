@@ -163,8 +163,11 @@ fn a_broken_pipe_ends_quietly() {
         let run = folder.bash(&format!(
             "radar-archive {call} | {reader}; exit ${{PIPESTATUS[0]}}"
         ));
+        // A short text may all be in the pipe before its reader goes.
+        let short = !call.contains(' ');
+        let status = run.status.code();
         assert!(
-            matches!(run.status.code(), Some(0 | 141)),
+            status == Some(4) || short && status == Some(0),
             "{}",
             run.story()
         );
@@ -174,11 +177,7 @@ fn a_broken_pipe_ends_quietly() {
     let check = folder.bash(&format!(
         "radar-archive check {name} | head -1; exit ${{PIPESTATUS[0]}}"
     ));
-    assert!(
-        matches!(check.status.code(), Some(0 | 1 | 141)),
-        "{}",
-        check.story()
-    );
+    check.ended(4);
     assert!(
         check.text().contains("/0: refused, 1 short: "),
         "{}",
@@ -186,6 +185,30 @@ fn a_broken_pipe_ends_quietly() {
     );
     assert!(!check.notes().contains("panicked"), "{}", check.story());
     assert!(check.notes().lines().count() <= 1, "{}", check.story());
+}
+
+#[test]
+fn a_check_that_nobody_reads_to_its_end_is_not_done() {
+    let folder = Folder::new();
+    let m1 = Picture::sample().file(SETTINGS[0]);
+    let long = "x".repeat(200);
+    folder.folder(&long);
+    for number in 0..500 {
+        folder.write(format!("{long}/{number:03}"), &m1);
+    }
+    folder.write(format!("{long}/zz"), b"bad");
+    for options in ["", "--json "] {
+        let run = folder.bash(&format!(
+            "radar-archive check {options}{long} | head -1; exit ${{PIPESTATUS[0]}}"
+        ));
+        run.ended(4);
+        assert_eq!(run.text().lines().count(), 1, "{}", run.story());
+    }
+    let gone = "sleep 0.3; exec radar-archive check";
+    let run = folder.bash(&format!(
+        "({gone} {long}/000) | true; exit ${{PIPESTATUS[0]}}"
+    ));
+    run.ended(4);
 }
 
 #[test]
