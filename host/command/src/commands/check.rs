@@ -57,6 +57,9 @@ impl Check {
             Found::File(path) => match Input::picture(path) {
                 Ok(file) => self.told(Told::file(&file))?,
                 Err(Failure::File { message, .. }) => self.told(Told::unread(path, message))?,
+                Err(Failure::Refused {
+                    refusal, finding, ..
+                }) => self.told(Told::too_long(path, refusal, finding))?,
                 Err(failure) => return Err(failure),
             },
             Found::Unreadable(path, why) => {

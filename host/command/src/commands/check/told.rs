@@ -21,7 +21,8 @@ pub(super) enum Told<'a> {
         path: &'a OsStr,
         refusal: Refusal,
         finding: Finding,
-        length: usize,
+        /// Nothing for a file that is too long to be read.
+        length: Option<usize>,
     },
     /// It could not be read.
     Unread { path: &'a OsStr, message: String },
@@ -37,8 +38,18 @@ impl<'a> Told<'a> {
                 path,
                 refusal,
                 finding: diagnosis::of(&file.bytes, refusal),
-                length: file.bytes.len(),
+                length: Some(file.bytes.len()),
             },
+        }
+    }
+
+    /// A file that is refused for its length, or for its header, and was not read on.
+    pub(super) fn too_long(path: &'a OsStr, refusal: Refusal, finding: Finding) -> Told<'a> {
+        Told::Refused {
+            path,
+            refusal,
+            finding,
+            length: None,
         }
     }
 
@@ -90,11 +101,8 @@ impl<'a> Told<'a> {
                 object.number("number", refusal.number().into());
                 object.text("word", refusal.word());
                 object.text("message", &finding.message);
-                match finding.byte {
-                    Some(byte) => object.number("byte", byte as u64),
-                    None => object.null("byte"),
-                };
-                object.number("length", *length as u64);
+                object.number_or_null("byte", finding.byte);
+                object.number_or_null("length", *length);
             }
             Told::Unread { message, .. } => {
                 object.text("error", message);
