@@ -6,6 +6,7 @@ use std::io::{self, IsTerminal, Write};
 use radar_archive::Refusal;
 
 use crate::diagnosis::Finding;
+use crate::json::Object;
 use crate::{refused, shown};
 
 /// All done.
@@ -96,6 +97,27 @@ impl Failure {
         let mut lines = b"radar-archive: ".to_vec();
         lines.extend(line(path, &message, terminal));
         lines
+    }
+
+    /// A failure about a file as the object that `--json` puts in the place of a result.
+    pub fn object(&self) -> Option<Object> {
+        let mut object = Object::new();
+        match self {
+            Failure::Refused {
+                path,
+                refusal,
+                finding,
+            } => {
+                let mut members = Object::new();
+                refused::members(&mut members, *refusal, finding);
+                object.path("path", path).object("refused", &members);
+            }
+            Failure::File { path, message } => {
+                object.path("path", path).text("error", message);
+            }
+            Failure::Usage { .. } | Failure::Pipe => return None,
+        }
+        Some(object)
     }
 
     /// Tells the failure on standard error.

@@ -3,6 +3,7 @@
 use radar_archive::{Dimensions, Refusal, Setting, MOST_CELLS};
 
 use crate::diagnosis::Finding;
+use crate::json::Object;
 use crate::{kinds, numbers};
 
 /// A refusal as it is told after the path: `refused, 5 counts: ... (byte 24)`.
@@ -22,6 +23,15 @@ pub fn sentence(refusal: Refusal, finding: &Finding) -> String {
         Some(byte) => format!("refused, {number} {word}: {message} (byte {byte})"),
         None => format!("refused, {number} {word}: {message}"),
     }
+}
+
+/// Puts a refusal in an object: number, word, message and byte.
+pub fn members(object: &mut Object, refusal: Refusal, finding: &Finding) {
+    object
+        .number("number", refusal.number().into())
+        .text("word", refusal.word())
+        .text("message", &finding.message)
+        .number_or_null("byte", finding.byte);
 }
 
 /// Why a setting that was asked for is refused with 2, 3 or 9, and what to do.

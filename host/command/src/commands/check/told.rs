@@ -98,10 +98,7 @@ impl<'a> Told<'a> {
                 length,
                 ..
             } => {
-                object.number("number", refusal.number().into());
-                object.text("word", refusal.word());
-                object.text("message", &finding.message);
-                object.number_or_null("byte", finding.byte);
+                refused::members(&mut object, *refusal, finding);
                 object.number_or_null("length", *length);
             }
             Told::Unread { message, .. } => {
