@@ -242,6 +242,42 @@ fn a_full_standard_output_is_said() {
 }
 
 #[test]
+fn a_closed_standard_output_is_said_before_anything_is_done() {
+    let folder = Folder::with_samples();
+    folder.write("raw", &raw(&SAMPLE));
+    let names = folder.names();
+    let m1 = folder.state("m1.radar");
+    let calls = [
+        "check m1.radar",
+        "check --quiet missing",
+        "check --json m1.radar",
+        "list m1.radar",
+        "cell m1.radar --at 2",
+        "expand m1.radar -o -",
+        "expand m1.radar -o new",
+        "make --dims 12 --kind 1 raw -o new",
+        "set m1.radar --at 2 --word 1 -f -o m1.radar",
+        "frobnicate",
+        "--help",
+        "man",
+    ];
+    for call in calls {
+        let run = folder.bash(&format!("exec radar-archive {call} >&-"));
+        let notes = run.failed("standard output: is closed");
+        assert_eq!(notes.lines().count(), 1, "{}", run.story());
+        folder
+            .bash(&format!("exec radar-archive {call} >&- 2>&-"))
+            .ended(3);
+    }
+    assert_eq!(folder.names(), names);
+    assert_eq!(folder.state("m1.radar"), m1);
+    for elsewhere in [">/dev/null", "<&-", "<&- >/dev/null", "1<>/dev/null"] {
+        let call = format!("exec radar-archive cell m1.radar --at 2 {elsewhere}");
+        folder.bash(&call).quiet();
+    }
+}
+
+#[test]
 fn notes_on_a_full_standard_error_are_no_panic() {
     let folder = Folder::with_samples();
     let run = folder.bash("radar-archive check m1.radar 2>/dev/full");
