@@ -95,3 +95,14 @@ fn a_locked_file_is_waited_for() {
     all_end(vec![run]);
     folder.run("cell p --at 0").printed("1\n");
 }
+
+#[test]
+fn a_call_that_awaits_standard_input_stops_no_other() {
+    let folder = folder();
+    let run = folder.bash(
+        "set -o pipefail; (radar-archive set p --at 0 --word 1 -f -o p && cat p) \
+         | timeout 10 radar-archive set - --at 1 --word 2 -f -o p",
+    );
+    run.printed("").quiet();
+    folder.run("box p --low 0 --high 2").printed("1 2 0\n");
+}

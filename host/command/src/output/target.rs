@@ -6,6 +6,7 @@ use std::io::{self, ErrorKind};
 use std::os::unix::ffi::OsStrExt;
 use std::os::unix::fs::FileTypeExt;
 use std::path::{Path, PathBuf};
+use std::time::Duration;
 
 use crate::failure::{reason, Failure};
 use crate::output::leftover;
@@ -32,7 +33,7 @@ pub(super) struct Target {
 }
 
 impl Target {
-    /// Looks at what stands at a target, and locks it; what may not be replaced is refused.
+    /// Looks at what stands at a target; what may not be replaced is refused.
     pub(super) fn look(name: &OsStr, force: bool) -> Result<Target, Failure> {
         let failed = |message: &str| Failure::file(name, message);
         if let Ok(found) = fs::metadata(name) {
@@ -41,31 +42,31 @@ impl Target {
             }
         }
         let path = followed(Path::new(name)).map_err(|error| failed(&unwritable(&error)))?;
-        let stands = match fs::metadata(&path) {
+        let kept = match fs::metadata(&path) {
             Ok(_) if !force => return Err(failed("exists; use --force to replace it")),
-            Ok(_) => true,
-            Err(error) if error.kind() == ErrorKind::NotFound => false,
+            Ok(found) => Some(Kept::of(&found)),
+            Err(error) if error.kind() == ErrorKind::NotFound => None,
             Err(error) => return Err(failed(&unwritable(&error))),
         };
-        let mut target = Target {
+        let target = Target {
             name: name.to_owned(),
             path,
             force,
-            kept: None,
+            kept,
             lock: None,
         };
         target.names_a_file()?;
-        if stands {
-            target.lock()?;
-        }
         Ok(target)
     }
 
-    /// Locks the file that stands there, and sees what it hands on.
-    fn lock(&mut self) -> Result<(), Failure> {
-        let taken = Lock::take(&self.path, PATIENCE);
-        self.lock = taken.map_err(|error| self.failed(unlocked(&error)))?;
-        self.kept = fs::metadata(&self.path).ok().map(|found| Kept::of(&found));
+    /// Locks the file that is to be replaced, if there is one and it is not locked yet, and sees what it hands on.
+    pub(super) fn lock(&mut self, patience: Duration) -> Result<(), Failure> {
+        if self.force && self.lock.is_none() {
+            let taken = Lock::take(&self.path, patience);
+            self.lock = taken.map_err(|error| self.failed(unlocked(&error, patience)))?;
+            let found = fs::metadata(&self.path);
+            self.kept = found.ok().map(|found| Kept::of(&found));
+        }
         Ok(())
     }
 
@@ -107,7 +108,8 @@ impl Target {
     }
 
     /// Writes the bytes to a temporary file beside the target, and puts it in the target's place.
-    pub(super) fn put(self, bytes: &[u8]) -> Result<(), Failure> {
+    pub(super) fn put(mut self, bytes: &[u8]) -> Result<(), Failure> {
+        self.lock(PATIENCE)?;
         let name = self.path.file_name().unwrap_or(OsStr::new(""));
         leftover::remove(self.folder(), name, self.lock.as_ref());
         let mut temporary = Temporary::create(self.folder(), name, self.kept).map_err(|error| {
@@ -175,11 +177,11 @@ fn unwritable(error: &io::Error) -> String {
 }
 
 /// What is said of a lock that could not be had.
-fn unlocked(error: &io::Error) -> String {
+fn unlocked(error: &io::Error, patience: Duration) -> String {
     match error.kind() {
         ErrorKind::TimedOut => format!(
             "is being replaced by another run, which has not ended after {} seconds; nothing was changed: try again when it has",
-            PATIENCE.as_secs()
+            patience.as_secs()
         ),
         _ => format!(
             "cannot be locked: {}; nothing was changed: write a new file and move it there",
@@ -209,5 +211,28 @@ fn synced(folder: &Path) -> io::Result<()> {
     match opened.sync_all() {
         Err(error) if error.kind() != ErrorKind::InvalidInput => Err(error),
         _ => Ok(()),
+    }
+}
+
+#[cfg(test)]
+mod tests {
+    use super::*;
+    use crate::output::scratch::Folder;
+
+    #[test]
+    fn a_lock_that_is_not_to_be_had_is_said() {
+        let folder = Folder::new("waiting");
+        let path = folder.0.join("a");
+        fs::write(&path, b"old").unwrap();
+        let other = Lock::take(&path, PATIENCE).unwrap();
+        let mut target = Target::look(path.as_os_str(), true).unwrap();
+        let failure = target.lock(Duration::ZERO).unwrap_err();
+        let message = "is being replaced by another run, which has not ended after 0 seconds; \
+                       nothing was changed: try again when it has";
+        assert_eq!(failure, Failure::file(&path, message));
+        drop(other);
+        target.put(b"new").unwrap();
+        assert_eq!(fs::read(&path).unwrap(), b"new");
+        assert_eq!(folder.names(), ["a"]);
     }
 }
