@@ -18,7 +18,7 @@ pub const USAGE: u8 = 2;
 /// A file could not be read or written.
 pub const FILE: u8 = 3;
 /// Whoever read standard output had gone before all was written.
-pub const PIPE: u8 = 4;
+pub const PIPE: u8 = 5;
 
 /// What ends a command early.
 #[derive(Clone, Debug, PartialEq, Eq)]

@@ -167,7 +167,7 @@ fn a_broken_pipe_ends_quietly() {
         let short = !call.contains(' ');
         let status = run.status.code();
         assert!(
-            status == Some(4) || short && status == Some(0),
+            status == Some(5) || short && status == Some(0),
             "{}",
             run.story()
         );
@@ -177,7 +177,7 @@ fn a_broken_pipe_ends_quietly() {
     let check = folder.bash(&format!(
         "radar-archive check {name} | head -1; exit ${{PIPESTATUS[0]}}"
     ));
-    check.ended(4);
+    check.ended(5);
     assert!(
         check.text().contains("/0: refused, 1 short: "),
         "{}",
@@ -201,14 +201,14 @@ fn a_check_that_nobody_reads_to_its_end_is_not_done() {
         let run = folder.bash(&format!(
             "radar-archive check {options}{long} | head -1; exit ${{PIPESTATUS[0]}}"
         ));
-        run.ended(4);
+        run.ended(5);
         assert_eq!(run.text().lines().count(), 1, "{}", run.story());
     }
     let gone = "sleep 0.3; exec radar-archive check";
     let run = folder.bash(&format!(
         "({gone} {long}/000) | true; exit ${{PIPESTATUS[0]}}"
     ));
-    run.ended(4);
+    run.ended(5);
 }
 
 #[test]
