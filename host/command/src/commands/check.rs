@@ -116,7 +116,7 @@ impl Check {
             self.results.put(&self.tally.object().line())?;
         }
         let finished = self.results.finish();
-        if !self.json && !(self.quiet && status == DONE) {
+        if !self.json && (!self.quiet || status != DONE) {
             tell(&format!("{}\n", self.tally.sentence()));
         }
         finished.map(|()| status)
