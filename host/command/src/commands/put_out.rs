@@ -21,7 +21,7 @@ pub(super) fn look(given: &Given, name: &OsStr) -> Result<Output, Failure> {
         return Err(given.bad_value(&Opt::OUTPUT, "'' names no file"));
     }
     let mut output = Output::look(name, given.has(&Opt::FORCE))?;
-    if given.operands[0] != "-" {
+    if given.operands.iter().all(|operand| operand != "-") {
         output.lock()?;
     }
     Ok(output)
