@@ -27,7 +27,7 @@ pub(crate) use man::PAGE;
 
 use std::ffi::{OsStr, OsString};
 
-use crate::arguments::{nearest, parse, Command, Request};
+use crate::arguments::{nearest, parse, Command, Given, Opt, Request};
 use crate::failure::{Failure, DONE};
 use crate::help::PROGRAM;
 use crate::output::Results;
@@ -67,8 +67,15 @@ pub fn run(mut arguments: impl Iterator<Item = OsString>) -> Result<u8, Failure>
     let command = named(&first)?;
     match parse(command, arguments)? {
         Request::Help => tell(command.help),
-        Request::Run(given) => (command.run)(&given),
+        Request::Run(given) => (command.run)(&given).map_err(|failure| put_too(&given, failure)),
     }
+}
+
+/// With `--json`, puts a failure about a file on standard output too. A failure to do so is the one that is told.
+fn put_too(given: &Given, failure: Failure) -> Failure {
+    let object = failure.object().filter(|_| given.has(&Opt::JSON));
+    let put = object.map_or(Ok(DONE), |mut object| lookup::put_line(&object.line()));
+    put.err().unwrap_or(failure)
 }
 
 /// The command of a name.

@@ -5,7 +5,8 @@ use std::io::{self, IsTerminal, Write};
 
 use radar_archive::{Fault, Refusal};
 
-use crate::shown;
+use crate::json::Object;
+use crate::{refused, shown};
 
 /// All done.
 pub const DONE: u8 = 0;
@@ -15,6 +16,8 @@ pub const REFUSED: u8 = 1;
 pub const USAGE: u8 = 2;
 /// A file could not be read or written.
 pub const FILE: u8 = 3;
+/// Whoever read standard output had gone before all was written.
+pub const PIPE: u8 = 5;
 
 /// What ends a command early.
 #[derive(Clone, Debug, PartialEq, Eq)]
@@ -40,7 +43,7 @@ pub enum Failure {
         /// What is wrong.
         message: String,
     },
-    /// Whoever read standard output has gone.
+    /// Whoever read standard output has gone. There is nobody to tell.
     Pipe,
 }
 
@@ -72,7 +75,7 @@ impl Failure {
             Failure::Usage { .. } => USAGE,
             Failure::Refused { .. } => REFUSED,
             Failure::File { .. } => FILE,
-            Failure::Pipe => DONE,
+            Failure::Pipe => PIPE,
         }
     }
 
@@ -87,6 +90,23 @@ impl Failure {
         let mut lines = b"radar-archive: ".to_vec();
         lines.extend(line(path, &message, terminal));
         lines
+    }
+
+    /// A failure about a file as the object that `--json` puts in the place of a result.
+    pub fn object(&self) -> Option<Object> {
+        let mut object = Object::new();
+        match self {
+            Failure::Refused { path, fault } => {
+                let mut members = Object::new();
+                refused::members(&mut members, fault);
+                object.path("path", path).object("refused", &members);
+            }
+            Failure::File { path, message } => {
+                object.path("path", path).text("error", message);
+            }
+            Failure::Usage { .. } | Failure::Pipe => return None,
+        }
+        Some(object)
     }
 
     /// Tells the failure on standard error.

@@ -4,7 +4,7 @@ use std::ffi::{OsStr, OsString};
 use std::fs::File;
 use std::io::{self, Read};
 
-use radar_archive::{Archive, Fault, MOST_CELLS};
+use radar_archive::{calls, diagnosis, Archive, Fault, Refusal, MOST_CELLS};
 
 use crate::failure::{reason, Failure};
 use crate::numbers::grouped;
@@ -12,8 +12,22 @@ use crate::numbers::grouped;
 /// The longest a picture file may be: kind 3, width 2, step 1, every cell stored.
 pub const LONGEST_PICTURE: u64 = 52 + 10 * MOST_CELLS as u64;
 
-/// The longest raw words may be.
-pub const LONGEST_RAW: u64 = 4 * MOST_CELLS as u64;
+/// The bytes of a file's header.
+const HEADER_LENGTH: u64 = 52;
+
+/// What was read of a file.
+#[derive(Clone, Debug, PartialEq, Eq)]
+pub enum Contents {
+    /// All of it.
+    Whole(Vec<u8>),
+    /// No more than its first bytes, as many as a header has at most: it has more bytes than it may have.
+    Longer {
+        /// The first bytes.
+        begin: Vec<u8>,
+        /// How many bytes it has, in words: a stream's are not counted to the end.
+        length: String,
+    },
+}
 
 /// A file that was read whole.
 #[derive(Clone, Debug, PartialEq, Eq)]
@@ -25,32 +39,12 @@ pub struct Input {
 }
 
 impl Input {
-    /// Reads a picture file.
+    /// Reads a picture file. Of one that is longer than any, no more than the header is looked at.
     pub fn picture(path: &OsStr) -> Result<Input, Failure> {
-        Input::read(path, LONGEST_PICTURE, "a picture file")
-    }
-
-    /// Reads raw words.
-    pub fn raw(path: &OsStr) -> Result<Input, Failure> {
-        Input::read(path, LONGEST_RAW, "the words of a picture")
-    }
-
-    /// Reads a file of at most so many bytes.
-    fn read(path: &OsStr, most: u64, what: &str) -> Result<Input, Failure> {
-        let failed = |message: String| Failure::file(path, format!("cannot be read: {message}"));
-        match bytes(path, most) {
-            Ok(Some(bytes)) => Ok(Input {
-                path: path.to_owned(),
-                bytes,
-            }),
-            Ok(None) => Err(failed(format!(
-                "it is longer than {} bytes, the most that {what} may have",
-                grouped(most)
-            ))),
-            Err(error) if error.kind() == io::ErrorKind::IsADirectory => Err(failed(
-                "it is a folder; name a file in it ('check' takes folders)".to_string(),
-            )),
-            Err(error) => Err(failed(reason(&error))),
+        let path = path.to_owned();
+        match contents(&path, LONGEST_PICTURE)? {
+            Contents::Whole(bytes) => Ok(Input { path, bytes }),
+            Contents::Longer { begin, length } => Err(too_long(path, &begin, &length)),
         }
     }
 
@@ -68,23 +62,59 @@ impl Input {
     }
 }
 
-/// The bytes of a file; nothing where there are more than so many, which are then not read on.
-fn bytes(path: &OsStr, most: u64) -> io::Result<Option<Vec<u8>>> {
+/// The failure that a picture file is too long: its length is not the layout's, if its header has no fault that comes before.
+fn too_long(path: OsString, begin: &[u8], length: &str) -> Failure {
+    if let Err(refusal) = calls::check(begin) {
+        if refusal.number() < Refusal::Counts.number() {
+            let fault = diagnosis::of(begin, refusal);
+            return Failure::Refused { path, fault };
+        }
+    }
+    let most = grouped(LONGEST_PICTURE);
+    let message = format!("the file has {length} bytes, and no picture file has more than {most}");
+    Failure::refused(&path, Refusal::Counts, message)
+}
+
+/// Reads a file that may have so many bytes.
+pub fn contents(path: &OsStr, most: u64) -> Result<Contents, Failure> {
+    let failed = |message: String| Failure::file(path, format!("cannot be read: {message}"));
+    read(path, most).map_err(|error| match error.kind() {
+        io::ErrorKind::IsADirectory => {
+            failed("it is a folder; name a file in it ('check' takes folders)".to_string())
+        }
+        _ => failed(reason(&error)),
+    })
+}
+
+/// Reads a file, or standard input, that may have so many bytes.
+fn read(path: &OsStr, most: u64) -> io::Result<Contents> {
     if path == "-" {
         return read_up_to(io::stdin().lock(), most, 0);
     }
     let file = File::open(path)?;
     let found = file.metadata()?;
-    if found.is_file() && found.len() > most {
-        return Ok(None);
+    if !found.is_file() {
+        return read_up_to(file, most, 0);
     }
-    let expected = if found.is_file() { found.len() } else { 0 };
-    read_up_to(file, most, expected)
+    if found.len() <= most {
+        return read_up_to(file, most, found.len());
+    }
+    let mut begin = Vec::new();
+    file.take(HEADER_LENGTH).read_to_end(&mut begin)?;
+    let length = grouped(found.len());
+    Ok(Contents::Longer { begin, length })
 }
 
-/// Reads to the end; nothing where there are more than so many bytes.
-fn read_up_to(source: impl Read, most: u64, expected: u64) -> io::Result<Option<Vec<u8>>> {
+/// Reads to the end, or to the first byte that is too many.
+fn read_up_to(source: impl Read, most: u64, expected: u64) -> io::Result<Contents> {
     let mut bytes = Vec::with_capacity(expected as usize + 1);
     source.take(most + 1).read_to_end(&mut bytes)?;
-    Ok((bytes.len() as u64 <= most).then_some(bytes))
+    if bytes.len() as u64 <= most {
+        return Ok(Contents::Whole(bytes));
+    }
+    bytes.truncate(HEADER_LENGTH as usize);
+    Ok(Contents::Longer {
+        begin: bytes,
+        length: format!("more than {}", grouped(most)),
+    })
 }

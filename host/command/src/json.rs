@@ -84,6 +84,14 @@ impl Object {
         self
     }
 
+    /// A member that is a number, or null where there is none.
+    pub fn number_or_null(&mut self, name: &str, value: Option<usize>) -> &mut Object {
+        match value {
+            Some(value) => self.number(name, value as u64),
+            None => self.null(name),
+        }
+    }
+
     /// A member that is a list of numbers.
     pub fn numbers(&mut self, name: &str, values: &[u32]) -> &mut Object {
         self.name(name);

@@ -18,17 +18,30 @@ pub mod refused;
 pub mod shown;
 #[allow(unsafe_code)]
 pub mod signals;
+#[allow(unsafe_code)]
+pub mod started;
 pub mod version;
 
 use std::ffi::OsString;
 
+use failure::Failure;
+
 /// Runs the program on its arguments, the program's name left out, and gives the exit status.
 pub fn run(arguments: impl Iterator<Item = OsString>) -> u8 {
-    match commands::run(arguments) {
+    match writable().and_then(|()| commands::run(arguments)) {
         Ok(status) => status,
         Err(failure) => {
             failure.tell();
             failure.status()
         }
     }
+}
+
+/// Refuses a standard output that was closed from the start: what is put there would be lost in silence.
+fn writable() -> Result<(), Failure> {
+    if started::output_closed() {
+        let message = "is closed; send it to a file or a pipe, or to /dev/null if it is not wanted";
+        return Err(Failure::file("standard output", message));
+    }
+    Ok(())
 }

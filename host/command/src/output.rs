@@ -1,5 +1,10 @@
 //! Output: results on standard output, and files that are written whole or not at all.
 
+mod leftover;
+#[allow(unsafe_code)]
+mod lock;
+#[cfg(test)]
+mod scratch;
 mod standard;
 mod target;
 mod temporary;
@@ -11,6 +16,7 @@ use radar_archive::calls;
 
 use crate::failure::Failure;
 
+use lock::PATIENCE;
 pub use standard::Results;
 use target::Target;
 
@@ -41,6 +47,14 @@ impl Output {
             return Err(Failure::file("standard output", message));
         }
         Ok(Output { target: None })
+    }
+
+    /// Locks the file that is to be replaced from now on, before it is read; without this call it is locked when it is replaced.
+    pub fn lock(&mut self) -> Result<(), Failure> {
+        match &mut self.target {
+            Some(target) => target.lock(PATIENCE),
+            None => Ok(()),
+        }
     }
 
     /// Puts the bytes there.

@@ -1,13 +1,23 @@
 //! Refusals in plain English of the values that were handed to a call.
 
-use radar_archive::{Dimensions, Kind, Refusal, Setting, MOST_CELLS};
+use radar_archive::{Dimensions, Fault, Kind, Refusal, Setting, MOST_CELLS};
 
+use crate::json::Object;
 use crate::numbers;
 
 /// Why a kind that was asked for by its number is refused with 2, and what to do.
 pub fn kind(number: u32) -> String {
     let known = Kind::listed();
     format!("there is no kind {number}; use --kind with one of {known}")
+}
+
+/// Puts a refusal in an object: number, word, message and byte.
+pub fn members(object: &mut Object, fault: &Fault) {
+    object
+        .number("number", fault.refusal.number().into())
+        .text("word", fault.refusal.word())
+        .text("message", &fault.message)
+        .number_or_null("byte", fault.byte);
 }
 
 /// Why a setting that was asked for is refused with 3 or 9, and what to do.

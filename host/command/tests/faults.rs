@@ -89,6 +89,28 @@ fn without_hard_links_a_new_file_is_renamed_into_place() {
 }
 
 #[test]
+fn without_locks_no_file_is_replaced_and_a_new_one_is_written() {
+    let Some(folder) = folder() else { return };
+    let (names, state) = (folder.names(), folder.state("old"));
+    for call in WRITERS {
+        let run = with_fault(&folder, "no locks", &format!("{call} -f -o old"));
+        run.failed("old: cannot be locked: No locks available; nothing was changed");
+        assert_eq!(folder.names(), names, "{}", run.story());
+        assert_eq!(folder.state("old"), state, "{}", run.story());
+        with_fault(&folder, "no locks", &format!("{call} -f -o new")).ended(0);
+        folder.remove("new");
+    }
+}
+
+#[test]
+fn a_lock_is_taken_through_interruptions() {
+    let Some(folder) = folder() else { return };
+    with_fault(&folder, "interrupted", "best m2.radar -f -o m2.radar").ended(0);
+    let best = Picture::sample().file([3, 1, 4]);
+    assert_eq!(folder.read("m2.radar"), best);
+}
+
+#[test]
 fn a_target_that_appears_at_the_last_moment_is_not_replaced() {
     let Some(folder) = folder() else { return };
     for call in WRITERS {

@@ -224,6 +224,7 @@ fn names_with_spaces_newlines_and_other_bytes() {
     assert_eq!(summary(&run), "4 files: 4 accepted, 0 refused, 0 not read");
     for name in [
         &b"d/a b: accepted\n"[..],
+        b"d/e\\nf: accepted\n",
         b"d/g\xff\xfe: accepted\n",
         b"d/-q: accepted\n",
     ] {
@@ -236,6 +237,41 @@ fn names_with_spaces_newlines_and_other_bytes() {
             .run_all([OsStr::new("cell"), &path, OsStr::new("--at=10")])
             .printed("300\n");
     }
+}
+
+#[test]
+fn no_name_takes_two_lines_and_bash_has_it_back() {
+    let folder = Folder::new();
+    let m1 = Picture::sample().file(SETTINGS[0]);
+    let names = [
+        "a: accepted\nb",
+        "back\\slash",
+        "back\\nslash",
+        "bell\u{7}",
+        "c1 \u{9b}2J",
+        "tab\t",
+        "\u{e9}",
+        "\u{1b}[2J\r",
+    ];
+    let mut sorted = names;
+    sorted.sort_unstable();
+    folder.folder("d");
+    for name in names {
+        folder.write(format!("d/{name}"), &m1);
+    }
+    folder.write("bad\nname", b"bad");
+    let run = folder.run("check d");
+    assert_eq!(run.ended(0).text().lines().count(), names.len());
+    let back = folder.bash(
+        "radar-archive check d 2>/dev/null | while read -r line; do printf '%b\\0' \"${line%: accepted}\"; done",
+    );
+    let expected: String = sorted.iter().map(|name| format!("d/{name}\0")).collect();
+    assert_eq!(back.text(), expected);
+    let run = folder.run_all(["info", "bad\nname"]);
+    run.refused(1);
+    assert_eq!(run.notes().lines().count(), 1, "{}", run.story());
+    let shorter = folder.run_all(["shorter", "d/back\\slash", "d/tab\t"]);
+    shorter.printed("d/back\\\\slash\n");
 }
 
 #[test]

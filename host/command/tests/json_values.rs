@@ -2,7 +2,7 @@
 
 mod support;
 
-use support::files::{Picture, SAMPLE};
+use support::files::{with_field, Picture, SAMPLE};
 use support::json::Json;
 use support::Folder;
 
@@ -118,4 +118,59 @@ fn a_refusal_with_json_is_told_on_standard_error() {
             Json::parse(line).unwrap_or_else(|e| panic!("{e}\n{}", run.story()));
         }
     }
+}
+
+/// A call of each command that has `--json`, but for `check`; the file comes last.
+const CALLS: [&str; 6] = [
+    "info --json",
+    "cell --json --at 0",
+    "rank --json --at 0",
+    "position --json --rank 0",
+    "box --json --low 0 --high 1",
+    "shorter --json m1.radar",
+];
+
+#[test]
+fn a_refused_file() {
+    let folder = Folder::with_samples();
+    folder.write("bad", &with_field(&folder.read("m2.radar"), 24, 13));
+    for call in CALLS {
+        let run = folder.run(&format!("{call} bad"));
+        let message = run.refused(5);
+        let message = message.strip_suffix(" (byte 24)").expect("the byte");
+        let object = format!(
+            "{{\"path\":\"bad\",\"refused\":{{\"number\":5,\"word\":\"counts\",\"message\":\"{message}\",\"byte\":24}}}}"
+        );
+        assert_eq!(run.json_lines(), [Json::of(&object)], "{}", run.story());
+    }
+}
+
+#[test]
+fn a_refused_place() {
+    let folder = Folder::with_samples();
+    for call in ["cell --at 12", "rank --at 12", "position --rank 4"] {
+        let run = folder.run(&format!("{call} --json m2.radar"));
+        let message = run.refused(8);
+        let lines = run.json_lines();
+        let refused = lines[0].at("refused");
+        assert_eq!(lines[0].at("path").text(), "m2.radar");
+        assert_eq!(refused.at("message").text(), message);
+        assert_eq!(*refused.at("number"), Json::Number(8));
+        assert_eq!(*refused.at("byte"), Json::Null);
+        folder.run(&format!("{call} m2.radar")).printed_nothing(1);
+    }
+}
+
+#[test]
+fn a_file_that_is_not_there() {
+    let folder = Folder::with_samples();
+    for call in CALLS {
+        let run = folder.run(&format!("{call} missing"));
+        run.failed("missing");
+        let lines = run.json_lines();
+        assert_eq!(lines.len(), 1, "{}", run.story());
+        assert_eq!(lines[0].keys(), ["error", "path"], "{}", run.story());
+        assert_eq!(lines[0].at("path").text(), "missing");
+    }
+    folder.run("cell --json --at 0").printed_nothing(2);
 }

@@ -243,16 +243,60 @@ fn killed_by_the_limit_of_a_files_size() {
 }
 
 #[test]
-fn a_temporary_file_left_over_is_in_nobodys_way() {
+fn what_a_killed_run_left_over_is_removed_by_the_next() {
     let (folder, old, new) = folder();
-    let mut child = start(&folder, CALL);
-    let id = child.id();
-    sleep(Duration::from_millis(1));
-    child.kill().expect("kill");
-    outcome(child);
-    folder.write(temporary("target", id), b"left over");
-    folder.write("target", &old);
-    outcome(start(&folder, CALL)).printed("");
+    let names = folder.names();
+    let mut seen = 0;
+    for _ in 0..20 {
+        folder.write("target", &old);
+        let Some(mut child) = in_the_middle(&folder, CALL, "target") else {
+            continue;
+        };
+        child.kill().expect("kill");
+        outcome(child);
+        seen += u32::from(folder.names() != names);
+        outcome(start(&folder, CALL)).printed("");
+        assert!(folder.read("target") == new);
+        assert_eq!(folder.names(), names);
+    }
+    assert!(seen > 0, "never killed in the middle of a write");
+}
+
+#[test]
+fn what_is_not_left_over_of_this_target_stays() {
+    let (folder, _, new) = folder();
+    for name in [
+        ".other.radar-archive-1.tmp",
+        ".target.radar-archive-one.tmp",
+    ] {
+        folder.write(name, b"not of this target");
+    }
+    folder.write(".target.radar-archive-1.tmp", b"left over");
+    let names = folder.names();
+    folder
+        .run("change large --kind 9 --force -o target")
+        .refused(2);
+    folder
+        .run("change large --kind 1 -o target")
+        .failed("target");
+    assert_eq!(folder.names(), names, "a call that fails changes nothing");
+    folder.run(CALL).printed("");
     assert!(folder.read("target") == new);
-    assert_eq!(folder.read(temporary("target", id)), b"left over");
+    let left: Vec<_> = names
+        .iter()
+        .filter(|name| *name != ".target.radar-archive-1.tmp")
+        .collect();
+    assert_eq!(folder.names().iter().collect::<Vec<_>>(), left);
+}
+
+#[test]
+fn a_run_on_its_way_keeps_its_temporary_file() {
+    let (folder, _, new) = folder();
+    let names = folder.names();
+    let runs: Vec<Child> = (0..12).map(|_| start(&folder, CALL)).collect();
+    for run in runs {
+        outcome(run).printed("");
+    }
+    assert!(folder.read("target") == new);
+    assert_eq!(folder.names(), names);
 }

@@ -40,13 +40,22 @@ fn check_in_the_order_of_the_operands() {
 }
 
 #[test]
-fn check_quiet_says_the_sum_only() {
+fn check_quiet_says_nothing_where_all_is_well() {
     let folder = Folder::with_samples();
     for option in ["-q", "--quiet"] {
-        let run = folder.run(&format!("check {option} m1.radar m2.radar"));
-        run.printed("");
-        assert_eq!(run.notes(), "2 files: 2 accepted, 0 refused, 0 not read\n");
+        folder
+            .run(&format!("check {option} m1.radar m2.radar"))
+            .printed("")
+            .quiet();
+        folder.run(&format!("check {option} .")).printed("").quiet();
     }
+    folder.write("bad", b"bad");
+    let run = folder.run("check --quiet m1.radar bad");
+    run.ended(1);
+    assert_eq!(run.notes(), "2 files: 1 accepted, 1 refused, 0 not read\n");
+    let run = folder.run("check --quiet m1.radar missing");
+    run.failed("missing");
+    assert!(run.notes().ends_with(" 1 not read\n"), "{}", run.story());
 }
 
 #[test]

@@ -163,8 +163,11 @@ fn a_broken_pipe_ends_quietly() {
         let run = folder.bash(&format!(
             "radar-archive {call} | {reader}; exit ${{PIPESTATUS[0]}}"
         ));
+        // A short text may all be in the pipe before its reader goes.
+        let short = !call.contains(' ');
+        let status = run.status.code();
         assert!(
-            matches!(run.status.code(), Some(0 | 141)),
+            status == Some(5) || short && status == Some(0),
             "{}",
             run.story()
         );
@@ -174,11 +177,7 @@ fn a_broken_pipe_ends_quietly() {
     let check = folder.bash(&format!(
         "radar-archive check {name} | head -1; exit ${{PIPESTATUS[0]}}"
     ));
-    assert!(
-        matches!(check.status.code(), Some(0 | 1 | 141)),
-        "{}",
-        check.story()
-    );
+    check.ended(5);
     assert!(
         check.text().contains("/0: refused, 1 short: "),
         "{}",
@@ -186,6 +185,30 @@ fn a_broken_pipe_ends_quietly() {
     );
     assert!(!check.notes().contains("panicked"), "{}", check.story());
     assert!(check.notes().lines().count() <= 1, "{}", check.story());
+}
+
+#[test]
+fn a_check_that_nobody_reads_to_its_end_is_not_done() {
+    let folder = Folder::new();
+    let m1 = Picture::sample().file(SETTINGS[0]);
+    let long = "x".repeat(200);
+    folder.folder(&long);
+    for number in 0..500 {
+        folder.write(format!("{long}/{number:03}"), &m1);
+    }
+    folder.write(format!("{long}/zz"), b"bad");
+    for options in ["", "--json "] {
+        let run = folder.bash(&format!(
+            "radar-archive check {options}{long} | head -1; exit ${{PIPESTATUS[0]}}"
+        ));
+        run.ended(5);
+        assert_eq!(run.text().lines().count(), 1, "{}", run.story());
+    }
+    let gone = "sleep 0.3; exec radar-archive check";
+    let run = folder.bash(&format!(
+        "({gone} {long}/000) | true; exit ${{PIPESTATUS[0]}}"
+    ));
+    run.ended(5);
 }
 
 #[test]
@@ -215,6 +238,42 @@ fn a_full_standard_output_is_said() {
         let run = folder.bash(&format!("exec radar-archive {call} >/dev/full"));
         let notes = run.failed("tandard output");
         assert!(!notes.contains("panicked"), "{}", run.story());
+    }
+}
+
+#[test]
+fn a_closed_standard_output_is_said_before_anything_is_done() {
+    let folder = Folder::with_samples();
+    folder.write("raw", &raw(&SAMPLE));
+    let names = folder.names();
+    let m1 = folder.state("m1.radar");
+    let calls = [
+        "check m1.radar",
+        "check --quiet missing",
+        "check --json m1.radar",
+        "list m1.radar",
+        "cell m1.radar --at 2",
+        "expand m1.radar -o -",
+        "expand m1.radar -o new",
+        "make --dims 12 --kind 1 raw -o new",
+        "set m1.radar --at 2 --word 1 -f -o m1.radar",
+        "frobnicate",
+        "--help",
+        "man",
+    ];
+    for call in calls {
+        let run = folder.bash(&format!("exec radar-archive {call} >&-"));
+        let notes = run.failed("standard output: is closed");
+        assert_eq!(notes.lines().count(), 1, "{}", run.story());
+        folder
+            .bash(&format!("exec radar-archive {call} >&- 2>&-"))
+            .ended(3);
+    }
+    assert_eq!(folder.names(), names);
+    assert_eq!(folder.state("m1.radar"), m1);
+    for elsewhere in [">/dev/null", "<&-", "<&- >/dev/null", "1<>/dev/null"] {
+        let call = format!("exec radar-archive cell m1.radar --at 2 {elsewhere}");
+        folder.bash(&call).quiet();
     }
 }
 

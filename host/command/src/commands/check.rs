@@ -5,7 +5,7 @@ mod told;
 
 use crate::arguments::{Command, Given, Operands, Opt};
 use crate::commands::walk::{Found, Walk};
-use crate::failure::{note, tell, Failure};
+use crate::failure::{note, tell, Failure, DONE};
 use crate::input::Input;
 use crate::output::Results;
 use crate::progress::Progress;
@@ -37,12 +37,8 @@ fn run(given: &Given) -> Result<u8, Failure> {
             ..Tally::default()
         },
     };
-    match walk.found.iter().try_for_each(|found| check.take(found)) {
-        Ok(()) => check.end(),
-        // Nobody reads on: the files so far give the status.
-        Err(Failure::Pipe) => Ok(check.tally.status()),
-        Err(failure) => Err(failure),
-    }
+    walk.found.iter().try_for_each(|found| check.take(found))?;
+    check.end()
 }
 
 /// A check on its way.
@@ -61,6 +57,7 @@ impl Check {
             Found::File(path) => match Input::picture(path) {
                 Ok(file) => self.told(Told::file(&file))?,
                 Err(Failure::File { message, .. }) => self.told(Told::unread(path, message))?,
+                Err(Failure::Refused { fault, .. }) => self.told(Told::too_long(path, fault))?,
                 Err(failure) => return Err(failure),
             },
             Found::Unreadable(path, why) => {
@@ -109,22 +106,17 @@ impl Check {
         self.results.flush()
     }
 
-    /// Tells the summary and gives the exit status.
+    /// Tells the summary, unless it is to be quiet and all is well, and gives the exit status.
     fn end(mut self) -> Result<u8, Failure> {
         self.progress.hide();
         let status = self.tally.status();
-        let put = if self.json {
-            self.results.put(&self.tally.object().line())
-        } else {
-            Ok(())
-        };
-        let finished = put.and_then(|()| self.results.finish());
-        if !self.json {
+        if self.json {
+            self.results.put(&self.tally.object().line())?;
+        }
+        let finished = self.results.finish();
+        if !self.json && (!self.quiet || status != DONE) {
             tell(&format!("{}\n", self.tally.sentence()));
         }
-        match finished {
-            Ok(()) | Err(Failure::Pipe) => Ok(status),
-            Err(failure) => Err(failure),
-        }
+        finished.map(|()| status)
     }
 }

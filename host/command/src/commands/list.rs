@@ -20,22 +20,24 @@ pub(super) static COMMAND: Command = Command {
 const HEADER_LENGTH: usize = 52;
 
 fn run(given: &Given) -> Result<u8, Failure> {
-    let file = Input::picture(&given.operands[0])?;
     let mut results = Results::open()?;
-    let archive = match Archive::open(&file.bytes[..]) {
-        Ok(archive) => archive,
-        Err(fault) => {
-            results.put(format!("refused {}\n", fault.refusal.number()).as_bytes())?;
-            results.finish()?;
-            return Err(file.refused(fault));
-        }
-    };
+    let file = listed(&mut results, Input::picture(&given.operands[0]))?;
+    let archive = listed(&mut results, file.open())?;
     let (kind, cells) = (archive.setting().kind.number(), archive.cells());
     let stored = archive.stored_count();
     results.put(format!("{kind} {cells} {stored}\n").as_bytes())?;
     lines(&file, &archive, &mut results)?;
     results.finish()?;
     Ok(DONE)
+}
+
+/// Puts the line of a refused file.
+fn listed<T>(results: &mut Results, read: Result<T, Failure>) -> Result<T, Failure> {
+    if let Err(Failure::Refused { fault, .. }) = &read {
+        results.put(format!("refused {}\n", fault.refusal.number()).as_bytes())?;
+        results.flush()?;
+    }
+    read
 }
 
 /// Puts a line for each stored cell. The positions are those of the picture's kind 2 file.

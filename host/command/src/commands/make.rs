@@ -2,13 +2,14 @@
 
 use std::ffi::OsStr;
 
-use radar_archive::{calls, Refusal, Setting};
+use radar_archive::{calls, Refusal, Setting, MOST_CELLS};
 
 use crate::arguments::{Command, Given, Operands, Opt};
 use crate::commands::put_out;
 use crate::failure::Failure;
-use crate::input::Input;
-use crate::{numbers, refused, shown};
+use crate::input::{contents, Contents};
+use crate::numbers::{self, grouped};
+use crate::{refused, shown};
 
 pub(super) static COMMAND: Command = Command {
     name: "make",
@@ -33,18 +34,22 @@ fn run(given: &Given) -> Result<u8, Failure> {
     let empty = given.number(&Opt::EMPTY)?.unwrap_or(0);
     let most = given.number(&Opt::MAX_LENGTH)?;
     let output = put_out::output(given)?;
-    let raw = Input::raw(&given.operands[0])?;
-    let setting = put_out::setting(&raw.path, numbers)?;
-    let words = words(&raw.bytes);
+    let path = &given.operands[0];
+    let (words, length) = match contents(path, longest(&extents))? {
+        Contents::Whole(bytes) => (words(&bytes), grouped(bytes.len() as u64)),
+        // No words, which no picture has: the engine says what is refused first.
+        Contents::Longer { length, .. } => (Vec::new(), length),
+    };
+    let setting = put_out::setting(path, numbers)?;
     let count = extents.len() as u32;
     let four = filled(&extents);
     let stored = words.iter().filter(|&&word| word != empty).count();
     let file = put_out::file(
-        &raw.path,
+        path,
         setting.longest_file(stored),
         most,
         |destination| calls::make(setting, count, &four, empty, &words, destination),
-        |refusal| why(refusal, setting, &extents, raw.bytes.len()),
+        |refusal| why(refusal, setting, &extents, &length),
     )?;
     put_out::put(output, &file)
 }
@@ -69,6 +74,14 @@ fn filled(extents: &[u32]) -> Vec<u32> {
     four
 }
 
+/// The most raw bytes that these extents may have.
+fn longest(extents: &[u32]) -> u64 {
+    let cells = extents
+        .iter()
+        .fold(1, |cells: u64, &extent| cells.saturating_mul(extent.into()));
+    4 * cells.min(MOST_CELLS as u64)
+}
+
 /// The words of raw bytes. Bytes that are not whole words give none, which no picture has.
 fn words(bytes: &[u8]) -> Vec<u32> {
     if bytes.len() % 4 != 0 {
@@ -79,12 +92,12 @@ fn words(bytes: &[u8]) -> Vec<u32> {
 }
 
 /// Why a picture is not made, and what to do.
-fn why(refusal: Refusal, setting: Setting, extents: &[u32], length: usize) -> String {
+fn why(refusal: Refusal, setting: Setting, extents: &[u32], length: &str) -> String {
     match refusal {
         Refusal::Extent => refused::extents(extents),
         Refusal::Picture => {
-            let cells: u64 = extents.iter().map(|&extent| u64::from(extent)).product();
-            let (text, wanted) = (numbers::joined(extents, "x"), 4 * cells);
+            let (text, wanted) = (numbers::joined(extents, "x"), longest(extents));
+            let (cells, wanted) = (grouped(wanted / 4), grouped(wanted));
             format!("the raw words have {length} bytes; --dims {text} wants {cells} words, {wanted} bytes")
         }
         refusal => refused::setting(refusal, setting),

@@ -6,8 +6,11 @@ use std::io::{self, ErrorKind};
 use std::os::unix::ffi::OsStrExt;
 use std::os::unix::fs::FileTypeExt;
 use std::path::{Path, PathBuf};
+use std::time::Duration;
 
 use crate::failure::{reason, Failure};
+use crate::output::leftover;
+use crate::output::lock::{Lock, PATIENCE};
 use crate::output::temporary::{Kept, Temporary};
 use crate::shown;
 
@@ -25,6 +28,8 @@ pub(super) struct Target {
     force: bool,
     /// What the file that stands there hands on.
     kept: Option<Kept>,
+    /// Keeps other runs from replacing that file, so that what this one reads of it is still there when it is replaced.
+    lock: Option<Lock>,
 }
 
 impl Target {
@@ -48,9 +53,21 @@ impl Target {
             path,
             force,
             kept,
+            lock: None,
         };
         target.names_a_file()?;
         Ok(target)
+    }
+
+    /// Locks the file that is to be replaced, if there is one and it is not locked yet, and sees what it hands on.
+    pub(super) fn lock(&mut self, patience: Duration) -> Result<(), Failure> {
+        if self.force && self.lock.is_none() {
+            let taken = Lock::take(&self.path, patience);
+            self.lock = taken.map_err(|error| self.failed(unlocked(&error, patience)))?;
+            let found = fs::metadata(&self.path);
+            self.kept = found.ok().map(|found| Kept::of(&found));
+        }
+        Ok(())
     }
 
     /// Refuses a name that can only be a folder's, and one in a folder that is not there.
@@ -91,8 +108,10 @@ impl Target {
     }
 
     /// Writes the bytes to a temporary file beside the target, and puts it in the target's place.
-    pub(super) fn put(self, bytes: &[u8]) -> Result<(), Failure> {
+    pub(super) fn put(mut self, bytes: &[u8]) -> Result<(), Failure> {
+        self.lock(PATIENCE)?;
         let name = self.path.file_name().unwrap_or(OsStr::new(""));
+        leftover::remove(self.folder(), name, self.lock.as_ref());
         let mut temporary = Temporary::create(self.folder(), name, self.kept).map_err(|error| {
             let folder = shown::quoted(self.folder().as_os_str());
             self.failed(format!(
@@ -157,6 +176,20 @@ fn unwritable(error: &io::Error) -> String {
     format!("cannot be written: {}", reason(error))
 }
 
+/// What is said of a lock that could not be had.
+fn unlocked(error: &io::Error, patience: Duration) -> String {
+    match error.kind() {
+        ErrorKind::TimedOut => format!(
+            "is being replaced by another run, which has not ended after {} seconds; nothing was changed: try again when it has",
+            patience.as_secs()
+        ),
+        _ => format!(
+            "cannot be locked: {}; nothing was changed: write a new file and move it there",
+            reason(error)
+        ),
+    }
+}
+
 /// What is said of bytes that could not be written.
 fn unwritten(error: &io::Error, length: usize) -> String {
     let why = reason(error);
@@ -178,5 +211,28 @@ fn synced(folder: &Path) -> io::Result<()> {
     match opened.sync_all() {
         Err(error) if error.kind() != ErrorKind::InvalidInput => Err(error),
         _ => Ok(()),
+    }
+}
+
+#[cfg(test)]
+mod tests {
+    use super::*;
+    use crate::output::scratch::Folder;
+
+    #[test]
+    fn a_lock_that_is_not_to_be_had_is_said() {
+        let folder = Folder::new("waiting");
+        let path = folder.0.join("a");
+        fs::write(&path, b"old").unwrap();
+        let other = Lock::take(&path, PATIENCE).unwrap();
+        let mut target = Target::look(path.as_os_str(), true).unwrap();
+        let failure = target.lock(Duration::ZERO).unwrap_err();
+        let message = "is being replaced by another run, which has not ended after 0 seconds; \
+                       nothing was changed: try again when it has";
+        assert_eq!(failure, Failure::file(&path, message));
+        drop(other);
+        target.put(b"new").unwrap();
+        assert_eq!(fs::read(&path).unwrap(), b"new");
+        assert_eq!(folder.names(), ["a"]);
     }
 }

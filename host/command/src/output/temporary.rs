@@ -7,10 +7,15 @@ use std::os::unix::ffi::{OsStrExt, OsStringExt};
 use std::os::unix::fs::{fchown, MetadataExt, OpenOptionsExt, PermissionsExt};
 use std::path::{Path, PathBuf};
 
+use crate::output::lock;
 use crate::signals;
 
 /// The longest name that file systems take.
 const LONGEST_NAME: usize = 255;
+
+/// What stands in the name of a temporary file before the number of its process, and at its end.
+pub(super) const MARK: &str = ".radar-archive-";
+pub(super) const ENDING: &str = ".tmp";
 
 /// Names that are tried, should one be taken by what a killed process left behind.
 const TRIED: u32 = 100;
@@ -48,7 +53,8 @@ impl Kept {
     }
 }
 
-/// A temporary file. It is removed when dropped, and by the signals that end the program.
+/// A temporary file. It is removed when dropped, and by the signals that end the program. It is locked as long as the process lives,
+/// so that another knows it from one that was left behind.
 #[derive(Debug)]
 pub(super) struct Temporary {
     path: PathBuf,
@@ -67,14 +73,15 @@ impl Temporary {
         options.read(true).write(true).create_new(true);
         options.mode(kept.map_or(0o666, |kept| kept.bits));
         for attempt in 0..TRIED {
-            let path = folder.join(name(target, attempt));
+            let path = folder.join(name(target, std::process::id(), attempt));
             let held = signals::hold();
             match options.open(&path) {
-                Ok(file) => {
+                Ok(file) if is_ours(&path, &file) => {
                     signals::watch(&path);
                     drop(held);
                     return Ok(Temporary { path, file });
                 }
+                Ok(_) => {}
                 Err(error) if error.kind() == ErrorKind::AlreadyExists => {}
                 Err(error) => return Err(error),
             }
@@ -126,12 +133,17 @@ impl Drop for Temporary {
     }
 }
 
+/// Locks a new file. One that another run took for left behind in the moment before is lost to it. Where the file system has no
+/// locks, none takes it.
+fn is_ours(path: &Path, file: &File) -> bool {
+    lock::lock(file).unwrap_or(true) && lock::names(path, file)
+}
+
 /// The name `.TARGET.radar-archive-PID.tmp`, the target's part cut where it would be too long.
-fn name(target: &OsStr, attempt: u32) -> OsString {
-    let process = std::process::id();
+pub(super) fn name(target: &OsStr, process: u32, attempt: u32) -> OsString {
     let end = match attempt {
-        0 => format!(".radar-archive-{process}.tmp"),
-        attempt => format!(".radar-archive-{process}-{attempt}.tmp"),
+        0 => format!("{MARK}{process}{ENDING}"),
+        attempt => format!("{MARK}{process}-{attempt}{ENDING}"),
     };
     let kept = target.as_bytes();
     let kept = &kept[..kept.len().min(LONGEST_NAME - 1 - end.len())];
@@ -161,39 +173,17 @@ fn same(file: &mut File, bytes: &[u8]) -> io::Result<bool> {
 #[cfg(test)]
 mod tests {
     use super::*;
-
-    /// A new folder, removed when dropped.
-    struct Folder(PathBuf);
-
-    impl Folder {
-        fn new(name: &str) -> Folder {
-            let name = format!("radar-archive-{name}-{}", std::process::id());
-            let path = std::env::temp_dir().join(name);
-            fs::create_dir(&path).unwrap();
-            Folder(path)
-        }
-
-        fn names(&self) -> Vec<OsString> {
-            let entries = fs::read_dir(&self.0).unwrap();
-            entries.map(|entry| entry.unwrap().file_name()).collect()
-        }
-    }
-
-    impl Drop for Folder {
-        fn drop(&mut self) {
-            let _ = fs::remove_dir_all(&self.0);
-        }
-    }
+    use crate::output::scratch::Folder;
 
     #[test]
     fn names_are_never_too_long() {
         let process = std::process::id();
-        let short = name(OsStr::new("a.radar"), 0);
+        let short = name(OsStr::new("a.radar"), process, 0);
         let wanted = format!(".a.radar.radar-archive-{process}.tmp");
         assert_eq!(short, OsString::from(wanted));
         let long = OsString::from("n".repeat(LONGEST_NAME));
-        assert_eq!(name(&long, 0).len(), LONGEST_NAME);
-        assert_eq!(name(&long, TRIED).len(), LONGEST_NAME);
+        assert_eq!(name(&long, process, 0).len(), LONGEST_NAME);
+        assert_eq!(name(&long, process, TRIED).len(), LONGEST_NAME);
     }
 
     #[test]
@@ -212,7 +202,7 @@ mod tests {
     #[test]
     fn what_a_killed_process_left_is_not_in_the_way() {
         let folder = Folder::new("left");
-        let left = folder.0.join(name(OsStr::new("a"), 0));
+        let left = folder.0.join(name(OsStr::new("a"), std::process::id(), 0));
         fs::write(&left, b"left").unwrap();
         let mut temporary = Temporary::create(&folder.0, OsStr::new("a"), None).unwrap();
         temporary.write(b"new", None).unwrap();

@@ -5,6 +5,7 @@
 #include <fcntl.h>
 #include <stdlib.h>
 #include <string.h>
+#include <sys/file.h>
 #include <sys/stat.h>
 #include <unistd.h>
 
@@ -70,6 +71,12 @@ int fsync(int fd) {
 
 int fdatasync(int fd) {
     return synced(fd) ? failed(EIO) : NEXT(fdatasync)(fd);
+}
+
+int flock(int fd, int operation) {
+    static int turn;
+    if (fault("interrupted") && turn++ % 2 == 0) return failed(EINTR);
+    return fault("no locks") ? failed(ENOLCK) : NEXT(flock)(fd, operation);
 }
 
 int rename(const char *from, const char *to) {

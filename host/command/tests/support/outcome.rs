@@ -55,6 +55,14 @@ impl Outcome {
         self
     }
 
+    /// Wants this exit status and nothing on standard output.
+    #[track_caller]
+    pub fn printed_nothing(&self, status: i32) -> &Outcome {
+        self.ended(status);
+        assert_eq!(self.text(), "", "{}", self.story());
+        self
+    }
+
     /// Wants status 0 and nothing on standard error.
     #[track_caller]
     pub fn quiet(&self) -> &Outcome {

@@ -6,6 +6,7 @@ use radar_archive::{Archive, Fault};
 
 use crate::input::Input;
 use crate::json::Object;
+use crate::refused;
 
 /// What came out for one file.
 pub(super) enum Told<'a> {
@@ -18,7 +19,8 @@ pub(super) enum Told<'a> {
     Refused {
         path: &'a OsStr,
         fault: Fault,
-        length: usize,
+        /// Nothing for a file that is too long to be read.
+        length: Option<usize>,
     },
     /// It could not be read.
     Unread { path: &'a OsStr, message: String },
@@ -33,8 +35,17 @@ impl<'a> Told<'a> {
             Err(fault) => Told::Refused {
                 path,
                 fault,
-                length: file.bytes.len(),
+                length: Some(file.bytes.len()),
             },
+        }
+    }
+
+    /// A file that is refused for its length, or for its header, and was not read on.
+    pub(super) fn too_long(path: &'a OsStr, fault: Fault) -> Told<'a> {
+        Told::Refused {
+            path,
+            fault,
+            length: None,
         }
     }
 
@@ -76,14 +87,8 @@ impl<'a> Told<'a> {
                 object.number("length", archive.bytes().len() as u64);
             }
             Told::Refused { fault, length, .. } => {
-                object.number("number", fault.refusal.number().into());
-                object.text("word", fault.refusal.word());
-                object.text("message", &fault.message);
-                match fault.byte {
-                    Some(byte) => object.number("byte", byte as u64),
-                    None => object.null("byte"),
-                };
-                object.number("length", *length as u64);
+                refused::members(&mut object, fault);
+                object.number_or_null("length", *length);
             }
             Told::Unread { message, .. } => {
                 object.text("error", message);
