@@ -3,6 +3,7 @@
 use std::ffi::{OsStr, OsString};
 use std::fs::File;
 use std::io::{self, BufRead, BufReader, Read};
+use std::os::fd::AsFd;
 use std::os::unix::ffi::OsStrExt;
 
 use crate::arguments::Given;
@@ -18,7 +19,7 @@ const LONGEST: usize = 1000;
 pub struct Lines<'a> {
     given: &'a Given,
     path: OsString,
-    source: BufReader<Box<dyn Read>>,
+    source: BufReader<File>,
     number: u64,
     line: Vec<u8>,
     /// Whether the line was read to its end.
@@ -28,13 +29,10 @@ pub struct Lines<'a> {
 impl<'a> Lines<'a> {
     /// The lines of a file; `-` is standard input. One that was closed from the start would pass for a text without lines, and is refused.
     pub fn open(given: &'a Given, path: &OsStr) -> Result<Lines<'a>, Failure> {
-        let source: Box<dyn Read> = if path != "-" {
-            Box::new(File::open(path).map_err(|error| unread(path, &error))?)
-        } else if started::input_closed() {
-            let message = "is closed; use /dev/null for a text without lines";
-            return Err(Failure::file("standard input", message));
+        let source = if path == "-" {
+            standard_input()?
         } else {
-            Box::new(io::stdin())
+            File::open(path).map_err(|error| unread(path, &error))?
         };
         Ok(Lines {
             given,
@@ -88,12 +86,8 @@ impl<'a> Lines<'a> {
 
     /// Passes over what is left of a line that is too long.
     fn pass_over(&mut self) -> io::Result<()> {
-        while !self.whole {
-            let bytes = self.source.fill_buf()?;
-            let end = bytes.iter().position(|&byte| byte == b'\n');
-            self.whole = end.is_some() || bytes.is_empty();
-            let passed = end.map_or(bytes.len(), |end| end + 1);
-            self.source.consume(passed);
+        if !self.whole {
+            self.source.skip_until(b'\n')?;
         }
         Ok(())
     }
@@ -168,6 +162,17 @@ impl<'a> Lines<'a> {
         };
         format!("{text}, line {number}")
     }
+}
+
+/// Standard input as a file: the library's own takes one that cannot be read for one that is empty.
+fn standard_input() -> Result<File, Failure> {
+    if started::input_closed() {
+        let message = "is closed; use /dev/null for a text without lines";
+        return Err(Failure::file("standard input", message));
+    }
+    let descriptor = io::stdin().as_fd().try_clone_to_owned();
+    let file = descriptor.map_err(|error| unread(OsStr::new("-"), &error))?;
+    Ok(File::from(file))
 }
 
 /// Whether a byte stands between words.
