@@ -13,7 +13,7 @@ use crate::place::{Outside, Place};
 use crate::{shown, started};
 
 /// The most bytes of a line; no line that means something has as many. A comment may be longer.
-const LONGEST: usize = 1000;
+const LONGEST: usize = 200;
 
 /// A text, line by line. A line ends with a newline, or a carriage return and a newline; the last may end without.
 pub struct Lines<'a> {

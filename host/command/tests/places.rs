@@ -103,7 +103,7 @@ fn a_line_that_is_far_too_long() {
     let notes = run.usage("cell");
     assert!(notes.contains("line 1: the line has more than"), "{notes}");
     assert!(notes.len() < 200, "{notes}");
-    for length in 990..1010 {
+    for length in 190..210 {
         let comment = vec![b'c'; length];
         let text = [b"#", &comment[..], b"\n10\n#", &long, b"\r\n2\n#", &long].concat();
         folder

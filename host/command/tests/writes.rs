@@ -191,6 +191,30 @@ fn the_file_is_not_locked_while_lines_are_waited_for() {
 }
 
 #[test]
+fn no_write_of_many_calls_is_lost() {
+    let folder = Folder::new();
+    folder.write("p", &Picture::of(&[60], 0, vec![0; 60]).file([2, 0, 0]));
+    let start = |at: usize| {
+        let mut command = folder.command();
+        command.args(["set", "p", "--at", "-", "-f", "-o", "p"]);
+        let mut child = command.stdin(Stdio::piped()).spawn().expect("the program");
+        let mut input = child.stdin.take().expect("its input");
+        let lines = format!("{at} 7\n{} {}\n", at + 30, at + 31);
+        input.write_all(lines.as_bytes()).expect("lines");
+        child
+    };
+    let started: Vec<_> = (0..30).map(start).collect();
+    for mut child in started {
+        let status = process::end(&mut child, Duration::from_secs(60));
+        assert!(status.success(), "{status}");
+    }
+    let words = (0..60).map(|at| if at < 30 { 7 } else { at + 1 });
+    let picture = Picture::of(&[60], 0, words.collect());
+    assert_eq!(folder.read("p"), picture.file([2, 0, 0]));
+    assert_eq!(folder.names(), ["p"]);
+}
+
+#[test]
 fn a_million_lines_take_seconds() {
     let folder = Folder::new();
     let mut picture = Picture::scattered(&[1000, 1000], 0, 3);
