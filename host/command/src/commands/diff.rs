@@ -3,6 +3,7 @@
 use radar_archive::{Archive, Dimensions, Position, Refusal};
 
 use crate::arguments::{Command, Given, Operands, Opt};
+use crate::commands::lookup::placed;
 use crate::commands::shorter::{other, other_dimensions, other_empty};
 use crate::failure::{note, tell, Failure, DIFFERENT, DONE};
 use crate::input::Input;
@@ -97,12 +98,7 @@ fn put_text(line: &mut Vec<u8>, dimensions: Dimensions, difference: Difference, 
 
 /// The object of a difference.
 fn object(dimensions: Dimensions, (position, word, other): Difference) -> Vec<u8> {
-    let mut object = Object::new();
-    object.number("position", position.0.into());
-    if let Ok(coordinates) = dimensions.coordinates(position) {
-        object.numbers("coordinates", &coordinates);
-    }
-    object
+    placed(dimensions, position)
         .number("word_a", word.into())
         .number("word_b", other.into())
         .line()

@@ -2,7 +2,7 @@
 
 mod each;
 
-use radar_archive::{Archive, Position, Refusal};
+use radar_archive::{Archive, Dimensions, Position, Refusal};
 
 use crate::arguments::{Given, Opt};
 use crate::failure::{Failure, DONE};
@@ -72,6 +72,16 @@ pub(super) fn place_in(
     place
         .position(archive.dimensions())
         .map_err(|outside| given.outside(&Opt::AT, &file.path, outside))
+}
+
+/// An object that begins with a position of a picture and its coordinates.
+pub(super) fn placed(dimensions: Dimensions, position: Position) -> Object {
+    let mut object = Object::new();
+    object.number("position", position.0.into());
+    if let Ok(coordinates) = dimensions.coordinates(position) {
+        object.numbers("coordinates", &coordinates);
+    }
+    object
 }
 
 /// Puts one line on standard output and gives the exit status.

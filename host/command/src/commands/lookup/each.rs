@@ -2,9 +2,9 @@
 
 use std::ffi::OsStr;
 
-use radar_archive::{diagnosis, Archive, Kind, Position, Setting};
+use radar_archive::{diagnosis, Archive, Kind, Setting};
 
-use super::Lookup;
+use super::{placed, Lookup};
 use crate::arguments::{Given, Opt};
 use crate::failure::{Failure, DONE};
 use crate::input::Input;
@@ -48,7 +48,10 @@ impl<T> Lookup<T> {
                 .position(archive.dimensions())
                 .map_err(|outside| lines.outside(lines.number(), &file.path, outside))?;
             let found = self.found(file, archive, position)?;
-            let object = object(given, archive, position);
+            let object = match given.has(&Opt::JSON) {
+                true => placed(archive.dimensions(), position),
+                false => Object::new(),
+            };
             results.put(&self.line(given, object, found))?;
         }
     }
@@ -61,18 +64,6 @@ fn alone(lines: &Lines) -> Result<Place, Failure> {
         (Some(place), None) => lines.place(place),
         _ => Err(lines.wrong("a line is one place, and nothing after it")),
     }
-}
-
-/// The object of a line: with `--json`, position and coordinates.
-fn object(given: &Given, archive: &Archive<&[u8]>, position: Position) -> Object {
-    let mut object = Object::new();
-    if given.has(&Opt::JSON) {
-        object.number("position", position.0.into());
-        if let Ok(coordinates) = archive.dimensions().coordinates(position) {
-            object.numbers("coordinates", &coordinates);
-        }
-    }
-    object
 }
 
 /// A file of kind 4 changed to kind 2, since a lookup in kind 4 is a pass along the file; nothing for another kind.
