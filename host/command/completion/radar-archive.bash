@@ -2,7 +2,7 @@
 # ~/.local/share/bash-completion/completions/radar-archive.
 
 _radar_archive() {
-    local commands="check info list cell rank position box expand make set change shorter best completion man help"
+    local commands="check info list cell rank position box expand make set change shorter diff best completion man help"
     local word=${COMP_WORDS[COMP_CWORD]}
     local before=${COMP_WORDS[COMP_CWORD - 1]}
     local options=
@@ -39,7 +39,7 @@ _radar_archive() {
             compopt +o default 2>/dev/null
             return
             ;;
-        -o | --output)
+        -o | --output | --list)
             return
             ;;
     esac
@@ -53,10 +53,11 @@ _radar_archive() {
         position) options="--rank --json" ;;
         box) options="--low --high --hex --json --output -o --force -f" ;;
         expand) options="--output -o --force -f" ;;
-        make) options="--dims --empty --kind --width --step --output -o --force -f --max-length" ;;
+        make) options="--list --dims --empty --kind --width --step --output -o --force -f --max-length" ;;
         set) options="--at --word --output -o --force -f --max-length" ;;
         change) options="--kind --width --step --output -o --force -f --max-length" ;;
         shorter) options="--json" ;;
+        diff) options="--hex --json --quiet -q" ;;
         best) options="--output -o --force -f --max-length" ;;
         completion)
             COMPREPLY=($(compgen -W "bash zsh fish --help" -- "$word"))

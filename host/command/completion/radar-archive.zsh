@@ -7,15 +7,16 @@ _radar-archive_commands() {
         'check:which files are accepted, and what is wrong with the others'
         'info:what a file holds, and how long it would be in each kind'
         'list:all stored cells\: rank, position and word'
-        'cell:the word at a place'
-        'rank:the rank of the cell at a place'
+        'cell:the word at a place, or at each of many'
+        'rank:the rank of the cell at a place, or at each of many'
         'position:the position of a rank'
         'box:the words of a box'
         'expand:all words, raw'
-        'make:the file of raw words'
-        'set:a file with one cell written'
+        'make:the file of raw words, or of what list prints'
+        'set:a file with one cell written, or many'
         'change:a file in another kind, width or step'
         'shorter:the shorter of two files of one picture'
+        'diff:the cells in which two pictures differ'
         'best:a file in the kind, width and step that make it shortest'
         'completion:the completion script of a shell'
         'man:the man page'
@@ -30,8 +31,8 @@ _radar-archive_command() { # NAMES -- OPERANDS
         -h         '(- *)-h[show the help]'
         --help     '(- *)--help[show the help]'
         --json     '--json[put JSON]'
-        -q         '(-q --quiet)-q[tell only the files that are not accepted]'
-        --quiet    '(-q --quiet)--quiet[tell only the files that are not accepted]'
+        -q         '(-q --quiet)-q[tell only the files that are not accepted; of diff nothing]'
+        --quiet    '(-q --quiet)--quiet[tell only the files that are not accepted; of diff nothing]'
         --all      '--all[check files whose names begin with a dot, too]'
         --no-progress '--no-progress[draw no progress bar]'
         --hex      '--hex[words in hexadecimal]'
@@ -44,6 +45,7 @@ _radar-archive_command() { # NAMES -- OPERANDS
         --high     '--high=[the high corner, which belongs to the box]:place, as 3,17,200 or @3163336: '
         --rank     '--rank=[the rank]:rank: '
         --word     '--word=[the word]:word:(empty)'
+        --list     '--list=[the text that list prints]:file:_files'
         --dims     '--dims=[the extents]:extents, as 16x1024x1024: '
         --empty    '--empty=[the empty word]:word: '
         --kind     '--kind=[the kind]:kind:(runs positions base-offset jumps paged-runs)'
@@ -80,10 +82,11 @@ _radar-archive() {
         position) options=(--rank --json) ;;
         box) options=(--low --high --hex --json -o --output -f --force) ;;
         expand) options=(-o --output -f --force) ;;
-        make) options=(--dims --empty --kind --width --step -o --output -f --force --max-length) ;;
+        make) options=(--list --dims --empty --kind --width --step -o --output -f --force --max-length) ;;
         set) options=(--at --word -o --output -f --force --max-length) ;;
         change) options=(--kind --width --step -o --output -f --force --max-length) ;;
         shorter) options=(--json) operands=('1:file:_files' '2:file:_files') ;;
+        diff) options=(--hex --json -q --quiet) operands=('1:file:_files' '2:file:_files') ;;
         best) options=(-o --output -f --force --max-length) ;;
         completion) operands=('1:shell:(bash zsh fish)') ;;
         man) operands=() ;;

@@ -6,6 +6,7 @@ mod cell;
 mod change;
 mod check;
 mod completion;
+mod diff;
 mod expand;
 mod help;
 mod info;
@@ -34,7 +35,7 @@ use crate::output::Results;
 use crate::{shown, version};
 
 /// All commands, in the order of the program's help.
-pub static ALL: [&Command; 16] = [
+pub static ALL: [&Command; 17] = [
     &check::COMMAND,
     &info::COMMAND,
     &list::COMMAND,
@@ -47,6 +48,7 @@ pub static ALL: [&Command; 16] = [
     &set::COMMAND,
     &change::COMMAND,
     &shorter::COMMAND,
+    &diff::COMMAND,
     &best::COMMAND,
     &completion::COMMAND,
     &man::COMMAND,

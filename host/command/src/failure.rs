@@ -12,7 +12,9 @@ use crate::{refused, shown};
 pub const DONE: u8 = 0;
 /// Something was refused with a number of the signal list.
 pub const REFUSED: u8 = 1;
-/// The arguments are not understood.
+/// Two pictures that were compared differ.
+pub const DIFFERENT: u8 = 1;
+/// The arguments are not understood, or a line of text that was handed in.
 pub const USAGE: u8 = 2;
 /// A file could not be read or written.
 pub const FILE: u8 = 3;
@@ -22,7 +24,7 @@ pub const PIPE: u8 = 5;
 /// What ends a command early.
 #[derive(Clone, Debug, PartialEq, Eq)]
 pub enum Failure {
-    /// The arguments are not understood.
+    /// The arguments are not understood, or a line of text that was handed in.
     Usage {
         /// The command whose help is named; nothing for the program's own.
         command: Option<&'static str>,

@@ -77,13 +77,18 @@ fn too_long(path: OsString, begin: &[u8], length: &str) -> Failure {
 
 /// Reads a file that may have so many bytes.
 pub fn contents(path: &OsStr, most: u64) -> Result<Contents, Failure> {
-    let failed = |message: String| Failure::file(path, format!("cannot be read: {message}"));
-    read(path, most).map_err(|error| match error.kind() {
+    read(path, most).map_err(|error| unread(path, &error))
+}
+
+/// The failure that a file cannot be read.
+pub fn unread(path: &OsStr, error: &io::Error) -> Failure {
+    let why = match error.kind() {
         io::ErrorKind::IsADirectory => {
-            failed("it is a folder; name a file in it ('check' takes folders)".to_string())
+            "it is a folder; name a file in it ('check' takes folders)".to_string()
         }
-        _ => failed(reason(&error)),
-    })
+        _ => reason(error),
+    };
+    Failure::file(path, format!("cannot be read: {why}"))
 }
 
 /// Reads a file, or standard input, that may have so many bytes.

@@ -96,12 +96,7 @@ impl Object {
     pub fn numbers(&mut self, name: &str, values: &[u32]) -> &mut Object {
         self.name(name);
         self.text.push(b'[');
-        for (index, &value) in values.iter().enumerate() {
-            if index > 0 {
-                self.text.push(b',');
-            }
-            numbers::put(&mut self.text, value);
-        }
+        numbers::put_joined(&mut self.text, values, b',');
         self.text.push(b']');
         self
     }

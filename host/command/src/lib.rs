@@ -10,6 +10,7 @@ pub mod failure;
 pub mod help;
 pub mod input;
 pub mod json;
+pub mod lines;
 pub mod numbers;
 pub mod output;
 pub mod place;

@@ -52,6 +52,23 @@ pub fn put(line: &mut Vec<u8>, number: u32) {
     line.extend_from_slice(&digits[start..]);
 }
 
+/// Puts numbers joined by a separator.
+///
+/// ```
+/// # use command::numbers;
+/// let mut line = Vec::new();
+/// numbers::put_joined(&mut line, &[3, 17, 200], b',');
+/// assert_eq!(line, b"3,17,200");
+/// ```
+pub fn put_joined(line: &mut Vec<u8>, numbers: &[u32], separator: u8) {
+    for (index, &number) in numbers.iter().enumerate() {
+        if index > 0 {
+            line.push(separator);
+        }
+        put(line, number);
+    }
+}
+
 /// Puts a number as 0x and eight hexadecimal digits.
 ///
 /// ```

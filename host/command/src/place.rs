@@ -2,15 +2,15 @@
 
 use std::ffi::OsStr;
 
-use radar_archive::{Dimensions, Position, Refusal};
+use radar_archive::{Coordinates, Dimensions, Position, Refusal};
 
 use crate::{numbers, refused, shown};
 
 /// A place as it is written: `3,17,200`, or `@N` for the position N.
-#[derive(Clone, Debug, PartialEq, Eq)]
+#[derive(Clone, Copy, Debug, PartialEq, Eq)]
 pub enum Place {
-    /// Coordinates, first dimension first: 1 to 4.
-    Coordinates(Vec<u32>),
+    /// Coordinates, first dimension first: the number of them, 1 to 4, and four numbers, 0 past that.
+    Coordinates(u8, [u32; 4]),
     /// A position in row order.
     At(u32),
 }
@@ -29,7 +29,7 @@ impl Place {
     ///
     /// ```
     /// # use command::place::Place;
-    /// assert_eq!(Place::of("3,0x11,200"), Ok(Place::Coordinates(vec![3, 17, 200])));
+    /// assert_eq!(Place::of("3,0x11,200"), Ok(Place::Coordinates(3, [3, 17, 200, 0])));
     /// assert_eq!(Place::of("@6"), Ok(Place::At(6)));
     /// assert!(Place::of("3;4").is_err());
     /// ```
@@ -38,10 +38,9 @@ impl Place {
             Some(rest) => (true, rest),
             None => (false, text),
         };
-        let parts: Vec<&str> = rest.split(',').collect();
-        let is_number = |part: &&str| part.starts_with(|first: char| first.is_ascii_digit());
-        let alike = rest.chars().all(|c| c.is_ascii_alphanumeric() || c == ',');
-        if !alike || !parts.iter().all(is_number) || (position && parts.len() > 1) {
+        let is_number = |part: &str| part.starts_with(|first: char| first.is_ascii_digit());
+        let alike = rest.bytes().all(|b| b.is_ascii_alphanumeric() || b == b',');
+        if !alike || !rest.split(',').all(is_number) || (position && rest.contains(',')) {
             let text = shown::quoted(OsStr::new(text));
             return Err(format!(
                 "{text} is no place; a place is coordinates such as 3,17,200, or @N for the position N"
@@ -50,21 +49,27 @@ impl Place {
         if position {
             return Ok(Place::At(numbers::of(rest)?));
         }
-        if parts.len() > 4 {
-            let count = parts.len();
+        let count = rest.split(',').count();
+        if count > 4 {
             return Err(format!(
                 "{text} has {count} coordinates; a picture has at most 4 dimensions"
             ));
         }
-        let coordinates: Result<Vec<u32>, String> = parts.into_iter().map(numbers::of).collect();
-        Ok(Place::Coordinates(coordinates?))
+        let mut four = [0; 4];
+        for (coordinate, part) in four.iter_mut().zip(rest.split(',')) {
+            *coordinate = numbers::of(part)?;
+        }
+        Ok(Place::Coordinates(count as u8, four))
     }
 
-    /// The coordinates in a picture of these dimensions, as many as it has.
-    pub fn coordinates(&self, dimensions: Dimensions) -> Result<Vec<u32>, Outside> {
+    /// The position in a picture of these dimensions.
+    pub fn position(&self, dimensions: Dimensions) -> Result<Position, Outside> {
         let at = match self {
-            Place::At(position) => return coordinates_of(*position, dimensions),
-            Place::Coordinates(coordinates) => coordinates,
+            Place::At(position) => {
+                coordinates_of(*position, dimensions)?;
+                return Ok(Position(*position));
+            }
+            Place::Coordinates(count, four) => &four[..usize::from(*count).min(4)],
         };
         let extents = dimensions.extents();
         if at.len() != extents.len() {
@@ -77,33 +82,24 @@ impl Place {
             );
             return Err(Outside::Count(message));
         }
-        position_of(at, dimensions)?;
-        Ok(at.clone())
+        dimensions
+            .position(at)
+            .map_err(|refusal| Outside::Refused(refusal, refused::coordinates(at, dimensions)))
     }
 
-    /// The position in a picture of these dimensions.
-    pub fn position(&self, dimensions: Dimensions) -> Result<Position, Outside> {
-        position_of(&self.coordinates(dimensions)?, dimensions)
+    /// The coordinates in a picture of these dimensions, as many as it has.
+    pub fn coordinates(&self, dimensions: Dimensions) -> Result<Coordinates, Outside> {
+        let Position(position) = self.position(dimensions)?;
+        coordinates_of(position, dimensions)
     }
-}
-
-/// The position of coordinates.
-fn position_of(at: &[u32], dimensions: Dimensions) -> Result<Position, Outside> {
-    dimensions
-        .position(at)
-        .map_err(|refusal| Outside::Refused(refusal, refused::coordinates(at, dimensions)))
 }
 
 /// The coordinates of a position.
-fn coordinates_of(position: u32, dimensions: Dimensions) -> Result<Vec<u32>, Outside> {
+fn coordinates_of(position: u32, dimensions: Dimensions) -> Result<Coordinates, Outside> {
     let cells = dimensions.extents().iter().product();
-    match dimensions.coordinates(Position(position)) {
-        Ok(at) => Ok(at.to_vec()),
-        Err(refusal) => Err(Outside::Refused(
-            refusal,
-            refused::position(position, cells),
-        )),
-    }
+    dimensions
+        .coordinates(Position(position))
+        .map_err(|refusal| Outside::Refused(refusal, refused::position(position, cells)))
 }
 
 /// A number of things.

@@ -88,7 +88,8 @@ fn of_the_manual() {
         .quiet()
         .text()
         .replace("\\-", "-")
-        .replace("\\&", "");
+        .replace("\\&", "")
+        .replace("\\(aq", "'");
     let below = manual
         .lines()
         .skip_while(|line| !line.starts_with(".SH EXAMPLES"))

@@ -25,12 +25,17 @@ fn folder() -> Option<Folder> {
 
 /// A call with a fault.
 fn with_fault(folder: &Folder, fault: &str, call: &str) -> Outcome {
+    with_fault_on(folder, fault, call, None)
+}
+
+/// A call with a fault and this standard input.
+fn with_fault_on(folder: &Folder, fault: &str, call: &str, input: Option<&[u8]>) -> Outcome {
     let mut command = Command::new(support::PROGRAM);
     command.args(call.split(' ')).current_dir(folder.path(""));
     command
         .env("LD_PRELOAD", Path::new(&folder.path("faults.so")))
         .env("FAULT", fault);
-    process::run(&mut command, None)
+    process::run(&mut command, input)
 }
 
 const WRITERS: [&str; 6] = [
@@ -72,6 +77,21 @@ fn short_and_interrupted_calls_go_on() {
         }
         let list = with_fault(&folder, fault, "list m5.radar");
         list.printed("5 12 4\n0 2 7\n1 3 9\n2 5 5\n3 10 300\n");
+    }
+}
+
+#[test]
+fn lines_come_through_short_and_interrupted_calls() {
+    let Some(folder) = folder() else { return };
+    let comment = [b"#", &vec![b'c'; 1000][..], b"\n"].concat();
+    let places = [&comment[..], b"10\n", &comment, b"@2\r\n3"].concat();
+    let list = b"2 12 4\n0 2 7\n1 3 9\n2 5 5\n3 10 300\n";
+    for fault in ["none", "halves", "interrupted"] {
+        let run = with_fault_on(&folder, fault, "cell m5.radar --at -", Some(&places));
+        run.printed("300\n7\n9\n");
+        let call = "make --list - --dims 12 --kind 2 -o -";
+        let run = with_fault_on(&folder, fault, call, Some(list));
+        assert_eq!(run.ended(0).out, folder.read("m2.radar"), "{fault}");
     }
 }
 

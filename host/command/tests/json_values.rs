@@ -121,13 +121,14 @@ fn a_refusal_with_json_is_told_on_standard_error() {
 }
 
 /// A call of each command that has `--json`, but for `check`; the file comes last.
-const CALLS: [&str; 6] = [
+const CALLS: [&str; 7] = [
     "info --json",
     "cell --json --at 0",
     "rank --json --at 0",
     "position --json --rank 0",
     "box --json --low 0 --high 1",
     "shorter --json m1.radar",
+    "diff --json m1.radar",
 ];
 
 #[test]

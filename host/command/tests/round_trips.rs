@@ -2,42 +2,8 @@
 
 mod support;
 
-use support::files::{raw, Picture};
+use support::files::{options, pictures, raw, Picture, ALL_KINDS};
 use support::Folder;
-
-/// Settings of every kind, among them the ends of the ranges.
-const SETTINGS: [[u32; 3]; 12] = [
-    [1, 0, 0],
-    [2, 0, 0],
-    [3, 1, 1],
-    [3, 2, 1],
-    [3, 2, 2],
-    [3, 2, 255],
-    [4, 1, 0],
-    [4, 2, 0],
-    [5, 0, 2],
-    [5, 0, 3],
-    [5, 0, 17],
-    [5, 0, 64],
-];
-
-fn pictures() -> Vec<Picture> {
-    vec![
-        Picture::sample(),
-        Picture::of(&[1], 0, vec![0]),
-        Picture::of(&[1, 1, 1, 1], 5, vec![0]),
-        Picture::of(&[12], 0, vec![0; 12]),
-        Picture::of(&[4, 3], 0, vec![1; 12]),
-        Picture::scattered(&[50, 60], 0, 2),
-        Picture::scattered(&[5, 20, 30], 0xffff_ffff, 10),
-        Picture::scattered(&[2, 5, 30, 40], 7, 200),
-    ]
-}
-
-fn options(setting: [u32; 3]) -> String {
-    let [kind, width, step] = setting;
-    format!("--kind {kind} --width {width} --step {step}")
-}
 
 #[test]
 fn make_then_expand_gives_the_words() {
@@ -45,7 +11,7 @@ fn make_then_expand_gives_the_words() {
     for picture in pictures() {
         folder.write("raw", &picture.raw());
         let (dims, empty) = (picture.dims(), picture.empty);
-        for setting in SETTINGS {
+        for setting in ALL_KINDS {
             let options = options(setting);
             folder
                 .run(&format!(
@@ -66,8 +32,8 @@ fn change_through_all_kinds_is_make() {
     for picture in pictures() {
         folder.write("p", &picture.file([2, 0, 0]));
         for round in 0..2 {
-            for number in 0..SETTINGS.len() {
-                let setting = SETTINGS[(number * 5 + round) % SETTINGS.len()];
+            for number in 0..ALL_KINDS.len() {
+                let setting = ALL_KINDS[(number * 5 + round) % ALL_KINDS.len()];
                 folder
                     .run(&format!("change p {} -f -o p", options(setting)))
                     .printed("");
@@ -80,7 +46,7 @@ fn change_through_all_kinds_is_make() {
 #[test]
 fn set_then_cell_gives_the_word() {
     let folder = Folder::new();
-    for setting in SETTINGS
+    for setting in ALL_KINDS
         .into_iter()
         .filter(|setting| *setting != [3, 2, 255])
     {
@@ -113,7 +79,7 @@ fn set_then_cell_gives_the_word() {
 fn the_rank_of_the_position_of_a_rank() {
     let folder = Folder::new();
     let picture = Picture::scattered(&[5, 6, 7], 0, 8);
-    for setting in SETTINGS {
+    for setting in ALL_KINDS {
         folder.write("p", &picture.file(setting));
         let list = folder.run("list p").quiet().text();
         assert!(list.lines().count() > 10, "{list}");

@@ -8,7 +8,7 @@ use support::options::{COMMANDS, OTHERS};
 use support::Folder;
 
 /// A complete call of each command on files that `folder` has; `new` stands for nothing yet.
-const CALLS: [&str; 13] = [
+const CALLS: [&str; 14] = [
     "check m1.radar",
     "info m1.radar",
     "list m1.radar",
@@ -21,6 +21,7 @@ const CALLS: [&str; 13] = [
     "set m1.radar --at 2 --word 1 -o new",
     "change m1.radar --kind 1 -o new",
     "shorter m1.radar m2.radar",
+    "diff m1.radar m2.radar",
     "best m1.radar -o new",
 ];
 

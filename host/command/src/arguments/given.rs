@@ -84,6 +84,24 @@ impl Given {
         Ok(())
     }
 
+    /// Whether an option's value is `-`, standard input, which no operand may be then.
+    pub fn is_input(&self, option: &Opt) -> Result<bool, Failure> {
+        let is_input = self.value(option).is_some_and(|value| value == "-");
+        if is_input && self.operands.iter().any(|operand| operand == "-") {
+            let (file, option) = (self.command.operands.names[0], option.written());
+            let message = format!("{file} and {option} are both '-', standard input; name a file");
+            return Err(self.usage(message));
+        }
+        Ok(is_input)
+    }
+
+    /// Whether standard input is read, by an operand or by an option.
+    pub fn reads_input(&self) -> bool {
+        let by_option = |option| self.value(option).is_some_and(|value| value == "-");
+        let by_operand = self.operands.iter().any(|operand| operand == "-");
+        by_operand || [&Opt::AT, &Opt::LIST].into_iter().any(by_option)
+    }
+
     /// A usage error about an option's value.
     pub fn bad_value(&self, option: &Opt, message: &str) -> Failure {
         self.usage(format!("{}: {message}", option.written()))

@@ -113,6 +113,8 @@ impl Opt {
     pub const WIDTH: Opt = Opt::with("width", "BYTES");
     /// `--step`.
     pub const STEP: Opt = Opt::with("step", "STEP");
+    /// `--list`.
+    pub const LIST: Opt = Opt::with("list", "LIST");
     /// `--max-length`.
     pub const MAX_LENGTH: Opt = Opt::with("max-length", "BYTES");
 

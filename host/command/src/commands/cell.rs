@@ -1,7 +1,7 @@
-//! `cell`: the word at a place.
+//! `cell`: the word at a place, or at each of many.
 
 use crate::arguments::{Command, Given, Operands, Opt};
-use crate::commands::lookup::{at_place, put_line};
+use crate::commands::lookup::Lookup;
 use crate::failure::Failure;
 use crate::json::Object;
 use crate::numbers;
@@ -15,16 +15,19 @@ pub(super) static COMMAND: Command = Command {
 };
 
 fn run(given: &Given) -> Result<u8, Failure> {
-    let word = at_place(given, |archive, position| archive.cell(position))?;
-    let mut line = Vec::new();
-    if given.has(&Opt::JSON) {
-        line = Object::new().number("word", word.into()).line();
-    } else if given.has(&Opt::HEX) {
-        numbers::put_hex(&mut line, word);
-        line.push(b'\n');
-    } else {
-        numbers::put(&mut line, word);
-        line.push(b'\n');
-    }
-    put_line(&line)
+    let lookup = Lookup {
+        find: |archive, position| archive.cell(position),
+        text,
+        member,
+    };
+    lookup.run(given)
+}
+
+fn text(line: &mut Vec<u8>, word: u32, hex: bool) {
+    let put = if hex { numbers::put_hex } else { numbers::put };
+    put(line, word);
+}
+
+fn member(object: &mut Object, word: u32) {
+    object.number("word", word.into());
 }

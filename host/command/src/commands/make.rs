@@ -1,4 +1,6 @@
-//! `make`: the file of a picture's raw words.
+//! `make`: the file of a picture's raw words, or of the list of its stored cells.
+
+mod listed;
 
 use std::ffi::OsStr;
 
@@ -14,6 +16,7 @@ use crate::{refused, shown};
 pub(super) static COMMAND: Command = Command {
     name: "make",
     options: &[
+        Opt::LIST,
         Opt::DIMS,
         Opt::EMPTY,
         Opt::KIND,
@@ -23,35 +26,103 @@ pub(super) static COMMAND: Command = Command {
         Opt::FORCE,
         Opt::MAX_LENGTH,
     ],
-    operands: Operands::each(&["RAW"]),
+    operands: Operands {
+        names: &["RAW"],
+        optional: 1,
+        many: false,
+    },
     help: include_str!("../help/make.txt"),
     run,
 };
 
 fn run(given: &Given) -> Result<u8, Failure> {
-    let extents = extents(given)?;
-    let numbers = given.setting()?;
-    let empty = given.number(&Opt::EMPTY)?.unwrap_or(0);
-    let most = given.number(&Opt::MAX_LENGTH)?;
-    let output = put_out::output(given)?;
-    let path = &given.operands[0];
-    let (words, length) = match contents(path, longest(&extents))? {
-        Contents::Whole(bytes) => (words(&bytes), grouped(bytes.len() as u64)),
-        // No words, which no picture has: the engine says what is refused first.
-        Contents::Longer { length, .. } => (Vec::new(), length),
+    let path = source(given)?;
+    let made = Made {
+        extents: extents(given)?,
+        numbers: given.setting()?,
+        empty: given.number(&Opt::EMPTY)?.unwrap_or(0),
+        most: given.number(&Opt::MAX_LENGTH)?,
     };
-    let setting = put_out::setting(path, numbers)?;
-    let count = extents.len() as u32;
-    let four = filled(&extents);
-    let stored = words.iter().filter(|&&word| word != empty).count();
-    let file = put_out::file(
-        path,
-        setting.longest_file(stored),
-        most,
-        |destination| calls::make(setting, count, &four, empty, &words, destination),
-        |refusal| why(refusal, setting, &extents, &length),
-    )?;
+    let output = put_out::output(given)?;
+    let file = if given.has(&Opt::LIST) {
+        made.of_list(given, path)?
+    } else {
+        made.of_raw(path)?
+    };
     put_out::put(output, &file)
+}
+
+/// What the file is made of: RAW, or the list that `--list` names.
+fn source(given: &Given) -> Result<&OsStr, Failure> {
+    match (given.value(&Opt::LIST), given.operands.first()) {
+        (Some(list), None) if list.is_empty() => {
+            Err(given.bad_value(&Opt::LIST, "'' names no file"))
+        }
+        (Some(list), None) => Ok(list),
+        (None, Some(raw)) => Ok(raw),
+        (None, None) => Err(given.usage("'make' wants RAW, or --list LIST".to_string())),
+        (Some(_), Some(raw)) => {
+            let raw = shown::quoted(raw);
+            let message = format!("the words come from --list; leave out RAW, {raw}, or --list");
+            Err(given.usage(message))
+        }
+    }
+}
+
+/// A file to be made.
+struct Made {
+    extents: Vec<u32>,
+    /// The numbers of the setting.
+    numbers: [u32; 3],
+    empty: u32,
+    /// The most bytes that it may have.
+    most: Option<u32>,
+}
+
+impl Made {
+    /// The file of raw words.
+    fn of_raw(&self, path: &OsStr) -> Result<Vec<u8>, Failure> {
+        let (words, length) = match contents(path, longest(&self.extents))? {
+            Contents::Whole(bytes) => (words(&bytes), grouped(bytes.len() as u64)),
+            // No words, which no picture has: the engine says what is refused first.
+            Contents::Longer { length, .. } => (Vec::new(), length),
+        };
+        self.of_words(path, &words, |extents| unlike(extents, &length))
+    }
+
+    /// The file of words. `unlike` tells why words that are not as many as the cells of the extents are refused with 7.
+    fn of_words(
+        &self,
+        path: &OsStr,
+        words: &[u32],
+        unlike: impl FnOnce(&[u32]) -> String,
+    ) -> Result<Vec<u8>, Failure> {
+        let setting = put_out::setting(path, self.numbers)?;
+        let count = self.extents.len() as u32;
+        let four = filled(&self.extents);
+        let stored = words.iter().filter(|&&word| word != self.empty).count();
+        put_out::file(
+            path,
+            setting.longest_file(stored),
+            self.most,
+            |destination| calls::make(setting, count, &four, self.empty, words, destination),
+            |refusal| self.why(refusal, setting, unlike),
+        )
+    }
+
+    /// Why the file is not made, and what to do.
+    fn why(
+        &self,
+        refusal: Refusal,
+        setting: Setting,
+        unlike: impl FnOnce(&[u32]) -> String,
+    ) -> String {
+        match refusal {
+            Refusal::Extent => refused::extents(&self.extents),
+            Refusal::Picture => unlike(&self.extents),
+            refusal => refused::setting(refusal, setting),
+        }
+    }
 }
 
 /// The extents that `--dims` gives.
@@ -74,12 +145,17 @@ fn filled(extents: &[u32]) -> Vec<u32> {
     four
 }
 
-/// The most raw bytes that these extents may have.
-fn longest(extents: &[u32]) -> u64 {
+/// The cells of these extents, at most as many as a picture has.
+fn cells(extents: &[u32]) -> u64 {
     let cells = extents
         .iter()
         .fold(1, |cells: u64, &extent| cells.saturating_mul(extent.into()));
-    4 * cells.min(MOST_CELLS as u64)
+    cells.min(MOST_CELLS.into())
+}
+
+/// The most raw bytes that these extents may have.
+fn longest(extents: &[u32]) -> u64 {
+    4 * cells(extents)
 }
 
 /// The words of raw bytes. Bytes that are not whole words give none, which no picture has.
@@ -91,15 +167,9 @@ fn words(bytes: &[u8]) -> Vec<u32> {
     bytes.chunks_exact(4).map(word).collect()
 }
 
-/// Why a picture is not made, and what to do.
-fn why(refusal: Refusal, setting: Setting, extents: &[u32], length: &str) -> String {
-    match refusal {
-        Refusal::Extent => refused::extents(extents),
-        Refusal::Picture => {
-            let (text, wanted) = (numbers::joined(extents, "x"), longest(extents));
-            let (cells, wanted) = (grouped(wanted / 4), grouped(wanted));
-            format!("the raw words have {length} bytes; --dims {text} wants {cells} words, {wanted} bytes")
-        }
-        refusal => refused::setting(refusal, setting),
-    }
+/// Why raw words of a length are not a picture of the extents.
+fn unlike(extents: &[u32], length: &str) -> String {
+    let (text, wanted) = (numbers::joined(extents, "x"), longest(extents));
+    let (cells, wanted) = (grouped(wanted / 4), grouped(wanted));
+    format!("the raw words have {length} bytes; --dims {text} wants {cells} words, {wanted} bytes")
 }

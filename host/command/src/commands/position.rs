@@ -3,10 +3,9 @@
 use radar_archive::{Position, Rank};
 
 use crate::arguments::{Command, Given, Operands, Opt};
-use crate::commands::lookup::put_line;
+use crate::commands::lookup::{placed, put_line};
 use crate::failure::Failure;
 use crate::input::Input;
-use crate::json::Object;
 use crate::{numbers, refused};
 
 pub(super) static COMMAND: Command = Command {
@@ -30,10 +29,7 @@ fn run(given: &Given) -> Result<u8, Failure> {
         Failure::refused(&file.path, refusal, message)
     })?;
     if given.has(&Opt::JSON) {
-        let mut object = Object::new();
-        object.number("position", position.into());
-        object.numbers("coordinates", &coordinates);
-        return put_line(&object.line());
+        return put_line(&placed(dimensions, Position(position)).line());
     }
     let coordinates = numbers::joined(&coordinates, ",");
     put_line(format!("{position} {coordinates}\n").as_bytes())

@@ -15,13 +15,13 @@ pub(super) fn output(given: &Given) -> Result<Output, Failure> {
     look(given, given.required(&Opt::OUTPUT)?)
 }
 
-/// Looks at a target, and locks it if the input may be the same file: standard input may be long in coming.
+/// Looks at a target, and locks it where standard input is not read, which may be long in coming.
 pub(super) fn look(given: &Given, name: &OsStr) -> Result<Output, Failure> {
     if name.is_empty() {
         return Err(given.bad_value(&Opt::OUTPUT, "'' names no file"));
     }
     let mut output = Output::look(name, given.has(&Opt::FORCE))?;
-    if given.operands.iter().all(|operand| operand != "-") {
+    if !given.reads_input() {
         output.lock()?;
     }
     Ok(output)

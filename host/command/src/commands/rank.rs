@@ -1,11 +1,12 @@
-//! `rank`: the rank at a place.
+//! `rank`: the rank at a place, or at each of many.
 
 use radar_archive::Rank;
 
 use crate::arguments::{Command, Given, Operands, Opt};
-use crate::commands::lookup::{at_place, put_line};
+use crate::commands::lookup::Lookup;
 use crate::failure::Failure;
 use crate::json::Object;
+use crate::numbers;
 
 pub(super) static COMMAND: Command = Command {
     name: "rank",
@@ -16,12 +17,21 @@ pub(super) static COMMAND: Command = Command {
 };
 
 fn run(given: &Given) -> Result<u8, Failure> {
-    let rank = at_place(given, |archive, position| archive.rank(position))?;
-    let line = match (rank, given.has(&Opt::JSON)) {
-        (Some(Rank(rank)), false) => format!("{rank}\n").into_bytes(),
-        (None, false) => b"empty\n".to_vec(),
-        (Some(Rank(rank)), true) => Object::new().number("rank", rank.into()).line(),
-        (None, true) => Object::new().null("rank").line(),
+    let lookup = Lookup {
+        find: |archive, position| archive.rank(position),
+        text,
+        member,
     };
-    put_line(&line)
+    lookup.run(given)
+}
+
+fn text(line: &mut Vec<u8>, rank: Option<Rank>, _: bool) {
+    match rank {
+        Some(Rank(rank)) => numbers::put(line, rank),
+        None => line.extend_from_slice(b"empty"),
+    }
+}
+
+fn member(object: &mut Object, rank: Option<Rank>) {
+    object.number_or_null("rank", rank.map(|Rank(rank)| rank as usize));
 }

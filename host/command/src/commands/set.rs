@@ -1,4 +1,6 @@
-//! `set`: one cell written.
+//! `set`: one cell written, or many at once.
+
+mod writes;
 
 use radar_archive::{Archive, Refusal};
 
@@ -18,14 +20,18 @@ pub(super) static COMMAND: Command = Command {
 };
 
 fn run(given: &Given) -> Result<u8, Failure> {
+    if given.is_input(&Opt::AT)? {
+        return writes::run(given);
+    }
     let place = given.place(&Opt::AT)?;
-    let word = word(given)?;
+    given.required(&Opt::WORD)?;
+    let word = word(given)?.unwrap_or(Word::Empty);
     let most = given.number(&Opt::MAX_LENGTH)?;
     let output = put_out::output(given)?;
     let file = Input::picture(&given.operands[0])?;
     let archive = file.open()?;
     let position = place_in(given, &file, &archive, &place)?;
-    let word = word.unwrap_or(archive.empty());
+    let word = word.in_picture(archive.empty());
     let stored = archive
         .stored_count()
         .saturating_add(1)
@@ -35,29 +41,55 @@ fn run(given: &Given) -> Result<u8, Failure> {
         archive.setting().longest_file(stored as usize),
         most,
         |destination| archive.write_into(position, word, destination),
-        |refusal| why(refusal, &archive),
+        |refusal| why(refusal, &archive, "this cell"),
     )?;
     put_out::put(output, &written)
 }
 
-/// The word to be written; nothing for the empty word.
-fn word(given: &Given) -> Result<Option<u32>, Failure> {
-    match given.required_text(&Opt::WORD)? {
-        "empty" => Ok(None),
-        text => numbers::of(text)
-            .map(Some)
-            .map_err(|wrong| given.bad_value(&Opt::WORD, &format!("{wrong}, or the word empty"))),
+/// A word to be written.
+#[derive(Clone, Copy, Debug, PartialEq, Eq)]
+enum Word {
+    /// The picture's empty word.
+    Empty,
+    /// This word.
+    Number(u32),
+}
+
+impl Word {
+    /// Reads a word, or says what is wrong with it.
+    fn of(text: &str) -> Result<Word, String> {
+        match text {
+            "empty" => Ok(Word::Empty),
+            text => numbers::of(text)
+                .map(Word::Number)
+                .map_err(|wrong| format!("{wrong}, or the word empty")),
+        }
+    }
+
+    /// The word itself, in a picture of this empty word.
+    fn in_picture(self, empty: u32) -> u32 {
+        match self {
+            Word::Empty => empty,
+            Word::Number(word) => word,
+        }
     }
 }
 
-/// Why a cell is not written, and what to do.
-fn why(refusal: Refusal, archive: &Archive<&[u8]>) -> String {
+/// The word of `--word`, where it is given.
+fn word(given: &Given) -> Result<Option<Word>, Failure> {
+    let bad = |wrong: String| given.bad_value(&Opt::WORD, &wrong);
+    let text = given.text(&Opt::WORD)?;
+    text.map(|text| Word::of(text).map_err(bad)).transpose()
+}
+
+/// Why cells are not written, and what to do.
+fn why(refusal: Refusal, archive: &Archive<&[u8]>, written: &str) -> String {
     let setting = archive.setting();
     let (width, step) = (setting.width, setting.step);
     match refusal {
         Refusal::Unfit => format!(
-            "with this cell written, an offset does not fit width {width} at step {step}; 'change' the file to another width, step or kind first"
+            "with {written} written, an offset does not fit width {width} at step {step}; 'change' the file to another width, step or kind first"
         ),
-        _ => "the cell cannot be written".to_string(),
+        _ => format!("{written} cannot be written"),
     }
 }

@@ -1,6 +1,6 @@
 //! `shorter`: the shorter of two files of one picture.
 
-use radar_archive::{Archive, Dimensions, Position};
+use radar_archive::{Archive, Dimensions, Position, Refusal};
 
 use crate::arguments::{Command, Given, Operands, Opt};
 use crate::commands::lookup::put_line;
@@ -23,14 +23,9 @@ fn run(given: &Given) -> Result<u8, Failure> {
     let first = Input::picture(&given.operands[0])?;
     let second = Input::picture(&given.operands[1])?;
     let (a, b) = (first.open()?, second.open()?);
-    let shorter = a.shorter(&b).map_err(|refusal| {
-        let message = format!("{}: {}", shown::quoted(&second.path), difference(&a, &b));
-        Failure::refused(
-            &first.path,
-            refusal,
-            format!("not the picture of {message}"),
-        )
-    })?;
+    let shorter = a
+        .shorter(&b)
+        .map_err(|refusal| other(refusal, [&first, &second], &difference(&a, &b)))?;
     let is_first = std::ptr::eq(shorter.bytes(), a.bytes());
     let path = if is_first { &first.path } else { &second.path };
     if given.has(&Opt::JSON) {
@@ -42,14 +37,31 @@ fn run(given: &Given) -> Result<u8, Failure> {
     Ok(DONE)
 }
 
+/// The failure that two files are not of one picture.
+pub(super) fn other(refusal: Refusal, files: [&Input; 2], difference: &str) -> Failure {
+    let [first, second] = files;
+    let second = shown::quoted(&second.path);
+    let message = format!("not the picture of {second}: {difference}");
+    Failure::refused(&first.path, refusal, message)
+}
+
+/// In which dimensions two pictures differ, if they do.
+pub(super) fn other_dimensions(a: &Archive<&[u8]>, b: &Archive<&[u8]>) -> Option<String> {
+    let differ = a.dimensions() != b.dimensions();
+    let (a, b) = (extents(a.dimensions()), extents(b.dimensions()));
+    differ.then(|| format!("the dimensions are {a} and {b}"))
+}
+
+/// Which empty words two pictures have, if they differ.
+pub(super) fn other_empty(a: &Archive<&[u8]>, b: &Archive<&[u8]>) -> Option<String> {
+    let (a, b) = (a.empty(), b.empty());
+    (a != b).then(|| format!("the empty words are {a} and {b}"))
+}
+
 /// In what the pictures of two files differ.
 fn difference(a: &Archive<&[u8]>, b: &Archive<&[u8]>) -> String {
-    if a.dimensions() != b.dimensions() {
-        let (a, b) = (extents(a.dimensions()), extents(b.dimensions()));
-        return format!("the dimensions are {a} and {b}");
-    }
-    if a.empty() != b.empty() {
-        return format!("the empty words are {} and {}", a.empty(), b.empty());
+    if let Some(told) = other_dimensions(a, b).or_else(|| other_empty(a, b)) {
+        return told;
     }
     let (words, others) = (a.expand(), b.expand());
     match words

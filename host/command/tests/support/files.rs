@@ -8,6 +8,22 @@ pub const SAMPLE: [u32; 12] = [0, 0, 7, 9, 0, 5, 0, 0, 0, 0, 300, 0];
 /// The settings of M1 to M5.
 pub const SETTINGS: [[u32; 3]; 5] = [[1, 0, 0], [2, 0, 0], [3, 1, 2], [4, 1, 0], [5, 0, 2]];
 
+/// Settings of every kind, among them the ends of the ranges.
+pub const ALL_KINDS: [[u32; 3]; 12] = [
+    [1, 0, 0],
+    [2, 0, 0],
+    [3, 1, 1],
+    [3, 2, 1],
+    [3, 2, 2],
+    [3, 2, 255],
+    [4, 1, 0],
+    [4, 2, 0],
+    [5, 0, 2],
+    [5, 0, 3],
+    [5, 0, 17],
+    [5, 0, 64],
+];
+
 /// A picture: extents, empty word, words.
 #[derive(Clone)]
 pub struct Picture {
@@ -83,6 +99,26 @@ impl Picture {
         let extents: Vec<_> = self.extents.iter().map(u32::to_string).collect();
         extents.join("x")
     }
+}
+
+/// Pictures of one to four dimensions: no cell stored, all, and some.
+pub fn pictures() -> Vec<Picture> {
+    vec![
+        Picture::sample(),
+        Picture::of(&[1], 0, vec![0]),
+        Picture::of(&[1, 1, 1, 1], 5, vec![0]),
+        Picture::of(&[12], 0, vec![0; 12]),
+        Picture::of(&[4, 3], 0, vec![1; 12]),
+        Picture::scattered(&[50, 60], 0, 2),
+        Picture::scattered(&[5, 20, 30], 0xffff_ffff, 10),
+        Picture::scattered(&[2, 5, 30, 40], 7, 200),
+    ]
+}
+
+/// A setting as options.
+pub fn options(setting: [u32; 3]) -> String {
+    let [kind, width, step] = setting;
+    format!("--kind {kind} --width {width} --step {step}")
 }
 
 /// Words, lowest byte first.

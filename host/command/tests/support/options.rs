@@ -4,7 +4,7 @@
 pub type Command = (&'static str, &'static [&'static str]);
 
 /// The commands on files.
-pub const COMMANDS: [Command; 13] = [
+pub const COMMANDS: [Command; 14] = [
     (
         "check",
         &["--json", "-q", "--quiet", "--all", "--no-progress"],
@@ -24,6 +24,7 @@ pub const COMMANDS: [Command; 13] = [
     (
         "make",
         &[
+            "--list",
             "--dims",
             "--empty",
             "--kind",
@@ -62,6 +63,7 @@ pub const COMMANDS: [Command; 13] = [
         ],
     ),
     ("shorter", &["--json"]),
+    ("diff", &["--hex", "--json", "-q", "--quiet"]),
     ("best", &["-o", "--output", "-f", "--force", "--max-length"]),
 ];
 
