@@ -2,7 +2,7 @@
 # ~/.local/share/bash-completion/completions/radar-archive.
 
 _radar_archive() {
-    local commands="check info list cell rank position box expand make set change shorter best completion man help"
+    local commands="check info list cell rank position box expand make set change shorter best manifest completion man help"
     local word=${COMP_WORDS[COMP_CWORD]}
     local before=${COMP_WORDS[COMP_CWORD - 1]}
     local options=
@@ -39,7 +39,7 @@ _radar_archive() {
             compopt +o default 2>/dev/null
             return
             ;;
-        -o | --output)
+        -o | --output | -m | --manifest)
             return
             ;;
     esac
@@ -58,6 +58,7 @@ _radar_archive() {
         change) options="--kind --width --step --output -o --force -f --max-length" ;;
         shorter) options="--json" ;;
         best) options="--output -o --force -f --max-length" ;;
+        manifest) options="--output -o --force -f --manifest -m --quiet -q --json --all --no-progress" ;;
         completion)
             COMPREPLY=($(compgen -W "bash zsh fish --help" -- "$word"))
             return
@@ -69,6 +70,11 @@ _radar_archive() {
     esac
     case $word in
         -*) COMPREPLY=($(compgen -W "$options --help -h" -- "$word")) ;;
+        *)
+            if [ "${COMP_WORDS[1]} $COMP_CWORD" = "manifest 2" ]; then
+                COMPREPLY=($(compgen -W "write verify" -- "$word"))
+            fi
+            ;;
     esac
 }
 

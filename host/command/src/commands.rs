@@ -13,6 +13,7 @@ mod list;
 mod lookup;
 mod make;
 mod man;
+mod manifest;
 mod position;
 mod put_out;
 mod rank;
@@ -34,7 +35,7 @@ use crate::output::Results;
 use crate::{shown, version};
 
 /// All commands, in the order of the program's help.
-pub static ALL: [&Command; 16] = [
+pub static ALL: [&Command; 17] = [
     &check::COMMAND,
     &info::COMMAND,
     &list::COMMAND,
@@ -48,6 +49,7 @@ pub static ALL: [&Command; 16] = [
     &change::COMMAND,
     &shorter::COMMAND,
     &best::COMMAND,
+    &manifest::COMMAND,
     &completion::COMMAND,
     &man::COMMAND,
     &help::COMMAND,

@@ -4,7 +4,7 @@
 pub type Command = (&'static str, &'static [&'static str]);
 
 /// The commands on files.
-pub const COMMANDS: [Command; 13] = [
+pub const COMMANDS: [Command; 14] = [
     (
         "check",
         &["--json", "-q", "--quiet", "--all", "--no-progress"],
@@ -63,6 +63,22 @@ pub const COMMANDS: [Command; 13] = [
     ),
     ("shorter", &["--json"]),
     ("best", &["-o", "--output", "-f", "--force", "--max-length"]),
+    (
+        "manifest",
+        &[
+            "-o",
+            "--output",
+            "-f",
+            "--force",
+            "-m",
+            "--manifest",
+            "-q",
+            "--quiet",
+            "--json",
+            "--all",
+            "--no-progress",
+        ],
+    ),
 ];
 
 /// The commands that read no file.
