@@ -35,7 +35,7 @@ impl State {
         }
         match (listed.was, &now.what) {
             (Some(Was::Picture(was)), What::Picture(sum, setting)) if was == *sum => {
-                State::ReEncoded(re_encoded(listed.setting, *setting))
+                re_encoded(listed.setting, *setting)
             }
             (was, what) => State::Changed(changed(was, what)),
         }
@@ -94,6 +94,10 @@ impl State {
     }
 }
 
+/// What is said where the lines of the manifest about a file cannot all be true.
+const DAMAGED: &str =
+    "or the manifest is: its lines about this file contradict each other, so it is damaged itself";
+
 /// Bytes that are as they were. What the manifest says of their picture has to be right too.
 fn same_bytes(listed: &Listed, now: &Facts) -> State {
     let right = match (listed.was, &now.what) {
@@ -107,16 +111,19 @@ fn same_bytes(listed: &Listed, now: &Facts) -> State {
     if right {
         return State::Unchanged;
     }
-    let message = "not in its bytes: the manifest says something else of their picture or refusal, and is damaged itself";
-    State::Changed(message.to_string())
+    State::Changed(DAMAGED.to_string())
 }
 
-/// What is said of a file in another setting.
-fn re_encoded(was: Option<Setting>, now: Setting) -> String {
+/// Other bytes of the same picture. They have another setting: a picture has one file in each.
+fn re_encoded(was: Option<Setting>, now: Setting) -> State {
+    if was == Some(now) {
+        return State::Changed(DAMAGED.to_string());
+    }
     let before = was.map_or(String::new(), |was| {
         format!("{} before, ", best::written(was))
     });
-    format!("the same picture: {before}{} now", best::written(now))
+    let now = best::written(now);
+    State::ReEncoded(format!("the same picture: {before}{now} now"))
 }
 
 /// What is said of a file that changed.
