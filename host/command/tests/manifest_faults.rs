@@ -177,7 +177,7 @@ fn a_file_that_disappears_or_changes_during_the_run() {
     }
     folder.write("d/b", &b);
     fs::File::create(folder.path("d/long"))
-        .and_then(|file| file.set_len(200_000_000))
+        .and_then(|file| file.set_len(168_000_000))
         .expect("a long file");
     fake(&folder, "printf x >> d/long; exec $real");
     let changed = "d/long: cannot be read: it changed while it was read; ";
@@ -237,9 +237,9 @@ fn started(folder: &Folder, call: &str) -> Child {
 
 /// The processes that a process started, and that have not ended.
 fn children(folder: &Folder, parent: u32) -> String {
-    folder
-        .bash(&format!("cat /proc/{parent}/task/*/children 2>/dev/null"))
-        .text()
+    let all = "cat /proc/[0-9]*/stat 2> /dev/null";
+    let of_it = format!("{all} | grep ') [^Z] {parent} ' | cut -d ' ' -f 1");
+    folder.bash(&of_it).text()
 }
 
 #[test]
@@ -253,6 +253,7 @@ fn a_signal_ends_the_run_and_its_child() {
         let mut child = started(&folder, "manifest write d --force");
         sleep(Duration::from_millis(200));
         let of_it = children(&folder, child.id());
+        assert_ne!(of_it, "", "no child");
         process::signal(&child, name);
         let status = process::end(&mut child, Duration::from_secs(60));
         assert_eq!(
@@ -262,8 +263,9 @@ fn a_signal_ends_the_run_and_its_child() {
         assert_eq!(folder.names(), names);
         assert_eq!(folder.state("d/MANIFEST.sha256"), state);
         for id in of_it.split_whitespace() {
+            let lives = format!("grep -qs ') [^Z] ' /proc/{id}/stat");
             let gone =
-                format!("for i in {{1..100}}; do kill -0 {id} || exit 0; sleep 0.1; done; exit 1");
+                format!("for i in {{1..100}}; do {lives} || exit 0; sleep 0.1; done; exit 1");
             folder.bash(&gone).ended(0);
         }
     }
@@ -272,9 +274,13 @@ fn a_signal_ends_the_run_and_its_child() {
 #[test]
 fn no_child_is_left_unwaited_for() {
     let folder = folder();
-    fake(&folder, "ps -o stat= --ppid $PPID >> states; exec $real");
+    let all = "cat /proc/[0-9]*/stat 2> /dev/null";
+    fake(
+        &folder,
+        &format!("{all} | grep -E \") [A-Z] $PPID \" >> states; exec $real"),
+    );
     with_bin(&folder, "manifest verify -q d").printed("");
     let states = String::from_utf8(folder.read("states")).expect("text");
     assert!(states.lines().count() >= 4, "{states}");
-    assert!(!states.contains('Z'), "{states}");
+    assert!(!states.contains(") Z "), "{states}");
 }
