@@ -156,7 +156,13 @@ fn an_unreadable_file_and_folder() {
     folder.run("manifest write d --force").failed(pipe);
     folder.run("manifest verify d").failed(pipe);
     assert_eq!(folder.state("d/MANIFEST.sha256"), state);
-    for (other, why) in [("missing", "No such file"), ("d/a", "it is not a folder")] {
+    folder.folder("-");
+    let others = [
+        ("missing", "No such file"),
+        ("d/a", "it is not a folder"),
+        ("-", "it is standard input"),
+    ];
+    for (other, why) in others {
         for act in ["write", "verify"] {
             let run = folder.run(&format!("manifest {act} {other}"));
             run.failed(&format!("radar-archive: {other}: cannot be read: {why}"));

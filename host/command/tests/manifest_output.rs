@@ -194,3 +194,31 @@ fn at_a_terminal() {
     assert_eq!(told.matches(": unchanged\r\n").count(), 6, "{told}");
     assert!(!told.contains('\u{1b}'), "{told}");
 }
+
+#[test]
+fn nothing_is_opened_because_of_a_manifest() {
+    let folder = Folder::new();
+    folder.folder("d/sub");
+    folder.folder("outside");
+    folder.bash("mkfifo outside/pipe").ended(0);
+    std::os::unix::fs::symlink("../outside", folder.path("d/link")).expect("a link");
+    folder.write("d/sub/x", &Picture::sample().file(SETTINGS[0]));
+    folder.run("manifest write d").printed("");
+    let text = String::from_utf8(folder.read("d/MANIFEST.sha256")).expect("text");
+    let sum = "0123456789abcdef".repeat(4);
+    let paths = ["link/pipe", "link", "sub", "sub/x/y", "none/pipe"];
+    let lines = paths.map(|path| format!("{sum}  {path}\n")).concat();
+    folder.write("d/MANIFEST.sha256", format!("{text}{lines}").as_bytes());
+    let run = folder.bash("timeout 20 radar-archive manifest verify d");
+    assert_eq!(
+        run.ended(1).text().matches(": missing, ").count(),
+        5,
+        "{}",
+        run.story()
+    );
+    assert!(
+        run.text().starts_with("d/sub/x: unchanged\n"),
+        "{}",
+        run.story()
+    );
+}

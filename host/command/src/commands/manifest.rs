@@ -84,6 +84,9 @@ fn named(given: &Given, option: &Opt) -> Result<OsString, Failure> {
 /// Wants a folder.
 fn is_folder(name: &OsStr) -> Result<(), Failure> {
     let failed = |why: &str| Err(Failure::file(name, format!("cannot be read: {why}")));
+    if name == "-" {
+        return failed("it is standard input; a folder of that name is './-'");
+    }
     match fs::metadata(name) {
         Ok(found) if found.is_dir() => Ok(()),
         Ok(_) => failed("it is not a folder; name the folder that the files are in"),

@@ -128,7 +128,8 @@ impl Verify {
             self.results.put(&self.tally.object().line())?;
         }
         let finished = self.results.finish();
-        if !self.json && !(self.quiet && self.tally.all_unchanged()) {
+        let silent = self.quiet && self.tally.all_unchanged();
+        if !self.json && !silent {
             tell(&format!("{}\n", self.tally.sentence()));
         }
         finished.map(|()| self.tally.status())

@@ -31,11 +31,11 @@ pub(super) fn run(given: &Given, folder: &OsStr, name: &OsStr) -> Result<u8, Fai
         unread: 0,
     };
     write.all(&members.all)?;
+    let name = Some(name).filter(|name| *name != "-");
+    let name = name.unwrap_or("standard output".as_ref());
     write.fits(name)?;
     output.put(&write.text, Content::Text)?;
-    let name = Some(name).filter(|name| *name != "-");
-    let summary = write.summary(members.hidden);
-    note(name.unwrap_or("standard output".as_ref()), &summary);
+    note(name, &write.summary(members.hidden));
     Ok(if write.refused == 0 { DONE } else { REFUSED })
 }
 
