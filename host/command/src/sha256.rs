@@ -9,6 +9,7 @@ use std::process::{Child, ChildStdin, Command, ExitStatus, Stdio};
 use std::thread;
 
 use crate::failure::{reason, Failure};
+use crate::signals;
 
 /// The program.
 const PROGRAM: &str = "sha256sum";
@@ -68,6 +69,7 @@ pub struct Sha256(());
 impl Sha256 {
     /// Looks for the program, and asks it for a sum that is known.
     pub fn look() -> Result<Sha256, Failure> {
+        signals::wait_for_children();
         let program = Sha256(());
         if program.of(KNOWN)?.to_string() != KNOWN_SUM {
             return Err(failed("gives a wrong sum of a text whose sum is published"));

@@ -289,4 +289,6 @@ fn no_child_is_left_unwaited_for() {
     let states = String::from_utf8(folder.read("states")).expect("text");
     assert!(states.lines().count() >= 4, "{states}");
     assert!(!states.contains(") Z "), "{states}");
+    let ignored = "trap '' CHLD; exec radar-archive manifest verify -q d";
+    folder.bash(ignored).printed("").quiet();
 }
