@@ -1,14 +1,13 @@
-//! `manifest`: what cannot be read or run, what changes during the run, and runs that are ended.
+//! `manifest`: what cannot be read or written, and what changes during the run.
 
 mod support;
 
 use std::fs;
 use std::os::unix::fs::PermissionsExt;
 use std::os::unix::process::CommandExt;
-use std::process::{Child, Command, Stdio};
-use std::thread::sleep;
-use std::time::{Duration, Instant};
+use std::process::Command;
 use support::files::{Picture, SETTINGS};
+use support::sums::{fake, with_bin};
 use support::{process, Folder, Outcome};
 
 /// A folder whose folder `d` has two files and a manifest, and an empty folder `bin`.
@@ -22,94 +21,18 @@ fn folder() -> Folder {
     folder
 }
 
-/// Puts a script in the place of sha256sum; in it `real` is the program itself.
-fn fake(folder: &Folder, script: &str) {
-    let real = folder.bash("command -v sha256sum").text();
-    let script = format!("#!/bin/bash\nreal={real}{script}\n");
-    folder.write("bin/sha256sum", script.as_bytes());
-    let bits = PermissionsExt::from_mode(0o755);
-    fs::set_permissions(folder.path("bin/sha256sum"), bits).expect("bits");
-}
-
-/// Runs a call with the folder `bin` before all others of the path.
-fn with_bin(folder: &Folder, call: &str) -> Outcome {
-    folder.bash(&format!(
-        "PATH=$PWD/bin:$PATH; exec timeout 60 radar-archive {call}"
-    ))
-}
-
-#[test]
-fn no_sha256sum() {
-    let folder = folder();
-    let (names, state) = (folder.names(), folder.state("d/MANIFEST.sha256"));
-    for path in ["", "/nowhere", "bin"] {
-        for call in [
-            "write d --force",
-            "write d -o new",
-            "write d -o -",
-            "verify d",
-        ] {
-            let mut command = folder.command();
-            let words = call.split(' ');
-            command.arg("manifest").args(words).env("PATH", path);
-            let run = process::run(&mut command, None);
-            run.failed("sha256sum: cannot be run: No such file or directory; ");
-            assert_eq!(run.text(), "", "{}", run.story());
-            assert_eq!(folder.names(), names);
-            assert_eq!(folder.state("d/MANIFEST.sha256"), state);
-        }
+/// Runs a call as a user without any right of its own, by a copy of the program that everybody can reach.
+fn as_nobody(folder: &Folder, call: &str) -> Outcome {
+    let program = folder.path("program");
+    if !program.exists() {
+        fs::copy(support::PROGRAM, &program).expect("the program");
     }
-}
-
-#[test]
-fn a_sha256sum_that_fails_or_lies() {
-    let folder = folder();
-    folder.write(
-        "d/large",
-        &Picture::scattered(&[300, 300], 0, 2).file(SETTINGS[0]),
-    );
-    folder.run("manifest write d --force").printed("");
-    let state = folder.state("d/MANIFEST.sha256");
-    let good_at_first = "n=$(cat n); echo $((n + 1)) > n; [ $n -lt 3 ] && exec $real";
-    let cases = [
-        ("exit 7", "failed with status 7"),
-        ("kill -9 $$", "failed: signal: 9"),
-        ("echo no sum", "failed"),
-        (
-            "exec 1>&-; cat > /dev/null",
-            "failed: what it printed is no sum",
-        ),
-        ("yes", "failed"),
-        ("cat > /dev/null; yes 0 | tr -d '\\n'", "failed"),
-        ("(echo more; cat) | $real", "gives a wrong sum"),
-    ];
-    for (script, why) in cases {
-        for (first, script) in [
-            ("", script.to_string()),
-            (good_at_first, format!("\n{script}")),
-        ] {
-            if why.starts_with("gives") && !first.is_empty() {
-                continue;
-            }
-            fake(&folder, &format!("{first}{script}"));
-            for call in [
-                "manifest write d --force",
-                "manifest write d -o new",
-                "manifest verify -q d",
-            ] {
-                folder.write("n", b"0");
-                let run = with_bin(&folder, call);
-                run.failed(&format!("radar-archive: sha256sum: {why}"));
-                assert_eq!(run.text(), "", "{}", run.story());
-                assert_eq!(folder.state("d/MANIFEST.sha256"), state);
-                assert!(!folder.path("new").exists());
-            }
-        }
+    let mut command = Command::new(program);
+    command.args(call.split(' ')).current_dir(folder.path(""));
+    if process::is_root() {
+        command.uid(65534).gid(65534);
     }
-    fake(&folder, "exec $real");
-    with_bin(&folder, "manifest verify -q d")
-        .printed("")
-        .quiet();
+    process::run(&mut command, None)
 }
 
 #[test]
@@ -124,33 +47,27 @@ fn an_unreadable_file_and_folder() {
         fs::set_permissions(folder.path(name), PermissionsExt::from_mode(bits)).expect("bits");
     };
     bits("open", 0o777);
-    let program = folder.path("program");
-    fs::copy(support::PROGRAM, &program).expect("the program");
-    let as_nobody = |call: &str| {
-        let mut command = Command::new(&program);
-        command.args(call.split(' ')).current_dir(folder.path(""));
-        if process::is_root() {
-            command.uid(65534).gid(65534);
-        }
-        process::run(&mut command, None)
-    };
-    as_nobody("manifest verify -q d").printed("").quiet();
-    for (closed, told) in [("d/b", "d/b"), ("d/closed", "d/closed")] {
+    as_nobody(&folder, "manifest verify -q d").quiet();
+    for closed in ["d/b", "d/closed"] {
         bits(closed, 0);
-        let run = as_nobody("manifest write d -o open/new");
-        run.failed(&format!("{told}: cannot be read: Permission denied"));
+        let denied = format!("{closed}: cannot be read: Permission denied");
+        let run = as_nobody(&folder, "manifest write d -o open/new");
+        run.failed(&denied);
         run.failed("open/new: not written: 1 of the names below the folder cannot be read");
         assert!(!folder.path("open/new").exists());
-        let run = as_nobody("manifest verify -q d");
-        run.failed(&format!("{told}: cannot be read: Permission denied"));
-        assert!(
-            run.notes().contains(" 0 missing, 0 new, "),
-            "{}",
-            run.story()
-        );
+        let run = as_nobody(&folder, "manifest verify -q d");
+        run.failed(&denied);
+        let none = run.notes().contains(" 0 missing, 0 new, ");
+        assert!(none, "{}", run.story());
         bits(closed, 0o755);
     }
     assert_eq!(folder.state("d/MANIFEST.sha256"), state);
+}
+
+#[test]
+fn a_pipe_and_what_is_no_folder() {
+    let folder = folder();
+    let state = folder.state("d/MANIFEST.sha256");
     folder.bash("mkfifo d/pipe").ended(0);
     let pipe = "d/pipe: cannot be read: it is a pipe, socket or device, not a file";
     folder.run("manifest write d --force").failed(pipe);
@@ -226,69 +143,19 @@ fn a_full_disk_leaves_the_old_manifest() {
         .failed("standard output");
 }
 
-/// Starts a call, and waits until a child of it runs.
-fn started(folder: &Folder, call: &str) -> Child {
-    let mut command = folder.command();
-    command.args(call.split(' ')).stdin(Stdio::null());
-    command.stdout(Stdio::piped()).stderr(Stdio::piped());
-    let child = process::ended_by_signals(&mut command)
-        .spawn()
-        .expect("the program");
-    let begin = Instant::now();
-    while children(folder, child.id()).is_empty() {
-        assert!(begin.elapsed() < Duration::from_secs(20), "no child");
-    }
-    child
-}
-
-/// The processes that a process started, and that have not ended.
-fn children(folder: &Folder, parent: u32) -> String {
-    let all = "cat /proc/[0-9]*/stat 2> /dev/null";
-    let of_it = format!("{all} | grep ') [^Z] {parent} ' | cut -d ' ' -f 1");
-    folder.bash(&of_it).text()
-}
-
 #[test]
-fn a_signal_ends_the_run_and_its_child() {
+fn no_manifest_and_what_is_no_file() {
     let folder = folder();
-    fs::File::create(folder.path("d/long"))
-        .and_then(|file| file.set_len(8_000_000_000))
-        .expect("a long file");
-    let (names, state) = (folder.names(), folder.state("d/MANIFEST.sha256"));
-    for (name, number) in [("INT", 2), ("TERM", 15), ("HUP", 1), ("KILL", 9)] {
-        let mut child = started(&folder, "manifest write d --force");
-        sleep(Duration::from_millis(200));
-        let of_it = children(&folder, child.id());
-        assert_ne!(of_it, "", "no child");
-        process::signal(&child, name);
-        let status = process::end(&mut child, Duration::from_secs(60));
-        assert_eq!(
-            std::os::unix::process::ExitStatusExt::signal(&status),
-            Some(number)
-        );
-        assert_eq!(folder.names(), names);
-        assert_eq!(folder.state("d/MANIFEST.sha256"), state);
-        for id in of_it.split_whitespace() {
-            let lives = format!("grep -qs ') [^Z] ' /proc/{id}/stat");
-            let gone =
-                format!("for i in {{1..100}}; do {lives} || exit 0; sleep 0.1; done; exit 1");
-            folder.bash(&gone).ended(0);
-        }
-    }
-}
-
-#[test]
-fn no_child_is_left_unwaited_for() {
-    let folder = folder();
-    let all = "cat /proc/[0-9]*/stat 2> /dev/null";
-    fake(
-        &folder,
-        &format!("{all} | grep -E \") [A-Z] $PPID \" >> states; exec $real"),
-    );
-    with_bin(&folder, "manifest verify -q d").printed("");
-    let states = String::from_utf8(folder.read("states")).expect("text");
-    assert!(states.lines().count() >= 4, "{states}");
-    assert!(!states.contains(") Z "), "{states}");
-    let ignored = "trap '' CHLD; exec radar-archive manifest verify -q d";
-    folder.bash(ignored).printed("").quiet();
+    folder.remove("d/MANIFEST.sha256");
+    let cannot = "d/MANIFEST.sha256: cannot be read: ";
+    folder.run("manifest verify d").failed(cannot);
+    folder.folder("d/MANIFEST.sha256");
+    folder.run("manifest verify d").failed("it is a folder");
+    let run = folder.run("manifest write d");
+    run.failed("d/MANIFEST.sha256: is a folder, not a file");
+    folder
+        .run("manifest verify d -m /dev/null")
+        .failed("line 1");
+    let run = folder.run("manifest verify d -m /dev/zero");
+    run.failed("/dev/zero: is no manifest: it has more than 1,073,741,824 bytes");
 }

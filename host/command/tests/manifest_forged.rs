@@ -2,6 +2,7 @@
 
 mod support;
 
+use std::os::unix::fs::symlink;
 use support::files::{Picture, SETTINGS};
 use support::Folder;
 
@@ -12,7 +13,7 @@ fn sum() -> String {
     "0123456789abcdef".repeat(4)
 }
 
-/// A folder `d` with a file and a pipe that would never end a run that opens it, and a file outside.
+/// A folder `d` with a file, and a file outside.
 fn folder() -> Folder {
     let folder = Folder::new();
     folder.folder("d");
@@ -21,9 +22,11 @@ fn folder() -> Folder {
     folder
 }
 
-/// Wants that a manifest is refused for this line and reason, and that no file was read: there is no other line.
+/// Wants that a manifest is refused for this line and reason, and that the folder was not gone through: a link that leads nowhere is not
+/// told.
 #[track_caller]
 fn refused(folder: &Folder, manifest: &[u8], line: usize, reason: &str) {
+    let _ = symlink("nowhere", folder.path("d/nowhere")); // it stands there from the second time on
     folder.write("d/MANIFEST.sha256", manifest);
     let run = folder.run("manifest verify d");
     run.printed_nothing(3);
@@ -71,6 +74,11 @@ fn paths_that_lead_out_or_twice_to_one_file() {
             refused(&folder, manifest.as_bytes(), 2, reason);
         }
     }
+}
+
+#[test]
+fn a_path_twice() {
+    let folder = folder();
     let sum = sum();
     let twice = format!("{FIRST}{sum}  x\n# between\n{sum}  y\n{sum} *x\n");
     refused(
@@ -151,6 +159,12 @@ fn lines_about_a_picture() {
         let manifest = format!("{FIRST}{line}\n{sum}  x\n");
         refused(&folder, manifest.as_bytes(), 2, reason);
     }
+}
+
+#[test]
+fn lines_about_a_picture_twice_or_of_no_file() {
+    let folder = folder();
+    let sum = sum();
     let picture = format!("# picture {sum}\n");
     for second in [&picture, "# refused 5 counts\n"] {
         let manifest = format!("{FIRST}{picture}{second}{sum}  x\n");
@@ -189,6 +203,13 @@ fn first_lines() {
             "another version of manifests",
         );
     }
+}
+
+#[test]
+fn other_files_than_manifests() {
+    let folder = folder();
+    let line = format!("{}  x\n", sum());
+    let not = "it is not '# radar-archive manifest 1'";
     let ended = format!("{FIRST}{line}").replace('\n', "\r\n");
     refused(
         &folder,
@@ -257,22 +278,6 @@ fn every_byte_changed_is_refused_or_told() {
             assert!(right || free, "{at}: {}", run.story());
         }
     }
-}
-
-#[test]
-fn no_file_at_all() {
-    let folder = folder();
-    let cannot = "d/MANIFEST.sha256: cannot be read: ";
-    folder.run("manifest verify d").failed(cannot);
-    folder.folder("d/MANIFEST.sha256");
-    folder.run("manifest verify d").failed("it is a folder");
-    let run = folder.run("manifest write d");
-    run.failed("d/MANIFEST.sha256: is a folder, not a file");
-    folder
-        .run("manifest verify d -m /dev/null")
-        .failed("line 1");
-    let run = folder.run("manifest verify d -m /dev/zero");
-    run.failed("/dev/zero: is no manifest: it has more than 1,073,741,824 bytes");
 }
 
 #[test]

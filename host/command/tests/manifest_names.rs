@@ -5,7 +5,6 @@ mod support;
 use std::ffi::{OsStr, OsString};
 use std::os::unix::ffi::OsStrExt;
 use std::os::unix::fs::symlink;
-use std::path::Path;
 use support::files::{with_field, Picture, SETTINGS};
 use support::{Folder, Outcome};
 
@@ -238,47 +237,52 @@ fn a_copy_of_the_manifest_in_another_place() {
         .failed("d/MANIFEST.sha256: cannot be read: ");
 }
 
-#[test]
-fn links_to_files_folders_and_nowhere() {
+/// A folder `d` with a link to a file outside, links to folders, and a manifest.
+fn with_links() -> Folder {
     let folder = with_d();
     folder.folder("elsewhere");
     folder.write("elsewhere/x", &file());
     folder.write("elsewhere/y", b"refused");
-    let link = |to: &str, name: &str| {
-        symlink(to, folder.path(Path::new("d").join(name))).expect("a link");
-    };
-    link("../elsewhere/x", "file");
-    link("../elsewhere", "folder");
-    link(".", "loop");
+    let links = [
+        ("../elsewhere/x", "file"),
+        ("../elsewhere", "folder"),
+        (".", "loop"),
+    ];
+    for (to, name) in links {
+        symlink(to, folder.path("d").join(name)).expect("a link");
+    }
     let run = folder.run("manifest write d");
     run.printed("");
-    assert!(run
-        .notes()
-        .contains("d/folder: a symbolic link to a folder, not followed\n"));
+    let note = "d/folder: a symbolic link to a folder, not followed\n";
+    assert!(run.notes().contains(note), "{}", run.story());
+    folder
+}
+
+#[test]
+fn links_to_files_are_followed_and_links_to_folders_are_not() {
+    let folder = with_links();
     assert_eq!(listed(&folder, "d/MANIFEST.sha256"), ["file"]);
     folder.run("manifest verify -q d").printed("").quiet();
-    folder.write("elsewhere/x", &Picture::sample().file(SETTINGS[1]));
+    let other = Picture::sample().file(SETTINGS[1]);
+    folder.write("elsewhere/x", &other);
     let run = folder.run("manifest verify -q d");
-    assert!(
-        run.ended(0).text().starts_with("d/file: re-encoded, "),
-        "{}",
-        run.story()
-    );
-    folder.remove("elsewhere/x");
-    let run = folder.run("manifest verify d");
-    run.failed("d/file: cannot be read: ");
-    assert!(
-        run.notes().ends_with(" 0 missing, 0 new, 1 not read\n"),
-        "{}",
-        run.story()
-    );
+    let told = run.ended(0).text();
+    assert!(told.starts_with("d/file: re-encoded, "), "{told}");
+}
+
+#[test]
+fn a_link_that_leads_nowhere_cannot_be_read() {
+    let folder = with_links();
     let state = folder.state("d/MANIFEST.sha256");
-    folder
-        .run("manifest write d --force")
-        .failed("d/file: cannot be read: ");
-    folder
-        .run("manifest write d -o new")
-        .failed("new: not written: 1 of the names");
+    folder.remove("elsewhere/x");
+    let cannot = "d/file: cannot be read: ";
+    let run = folder.run("manifest verify d");
+    run.failed(cannot);
+    let summary = " 0 missing, 0 new, 1 not read\n";
+    assert!(run.notes().ends_with(summary), "{}", run.story());
+    folder.run("manifest write d --force").failed(cannot);
+    let run = folder.run("manifest write d -o new");
+    run.failed("new: not written: 1 of the names");
     assert_eq!(folder.state("d/MANIFEST.sha256"), state);
     assert!(!folder.path("new").exists());
 }

@@ -67,59 +67,66 @@ fn sum(folder: &Folder, name: &str) -> Json {
     Json::String(text.split(' ').next().expect("a sum").to_string())
 }
 
-#[test]
-fn json_of_each_state() {
+/// A folder with a file of each state.
+fn of_each_state() -> Folder {
     let folder = folder();
-    let picture = sum(&folder, "2");
-    let old = sum(&folder, "1");
     folder.write("d/1", &Picture::sample().file([4, 2, 0]));
     folder.write("d/3", &with_field(&folder.read("d/3"), 20, 77));
     folder.write("d/4", b"");
     folder.remove("d/5");
     folder.write("d/new", b"");
     std::os::unix::fs::symlink("nowhere", folder.path("d/unread")).expect("a link");
+    folder
+}
+
+#[test]
+fn json_of_each_state() {
+    let folder = of_each_state();
     let run = folder.run("manifest verify --json d");
     let lines = run.ended(3).json_lines();
     assert_eq!(run.notes(), "", "{}", run.story());
-    let states = lines.iter().take(8).map(|line| {
-        let path = line.at("path").text().trim_start_matches("d/");
-        format!("{path} {}", line.at("state").text())
-    });
     let wanted = [
-        "1 re-encoded",
-        "2 unchanged",
-        "3 changed",
-        "4 changed",
-        "new new",
-        "refused unchanged",
-        "unread unread",
-        "5 missing",
+        ("1", "re-encoded", "file manifest message path state"),
+        ("2", "unchanged", "file manifest path state"),
+        ("3", "changed", "file manifest message path state"),
+        ("4", "changed", "file manifest message path state"),
+        ("new", "new", "message path state"),
+        ("refused", "unchanged", "file manifest path state"),
+        ("unread", "unread", "error path state"),
+        ("5", "missing", "manifest message path state"),
     ];
-    assert_eq!(states.collect::<Vec<_>>(), wanted);
-    let (was, now) = (lines[0].at("manifest"), lines[0].at("file"));
-    assert_eq!((was.at("sha256"), was.at("picture")), (&old, &picture));
-    assert_eq!(
-        (now.at("sha256"), now.at("picture")),
-        (&sum(&folder, "1"), &picture)
-    );
-    let setting = |facts: &Json| ["kind", "width", "step"].map(|key| facts.at(key).clone());
-    assert_eq!(setting(was), [1, 0, 0].map(Json::Number));
-    assert_eq!(setting(now), [4, 2, 0].map(Json::Number));
-    assert_eq!(lines[1].keys(), ["file", "manifest", "path", "state"]);
-    assert_eq!(lines[2].at("message").text(), "another picture");
-    let refused = lines[3].at("file").at("refused");
-    assert_eq!(refused.at("number"), &Json::Number(1));
-    assert_eq!(refused.keys(), ["byte", "message", "number", "word"]);
-    assert_eq!(lines[4].keys(), ["message", "path", "state"]);
-    let listed = lines[5].at("manifest").at("refused");
-    assert_eq!(listed, &Json::of(r#"{"number":1,"word":"short"}"#));
-    assert_eq!(lines[6].keys(), ["error", "path", "state"]);
-    assert_eq!(lines[7].keys(), ["manifest", "message", "path", "state"]);
+    assert_eq!(lines.len(), wanted.len() + 1, "{}", run.story());
+    for (line, (name, state, keys)) in lines.iter().zip(wanted) {
+        assert_eq!(line.at("path").text(), format!("d/{name}"));
+        assert_eq!(line.at("state").text(), state);
+        assert_eq!(line.keys().join(" "), keys);
+    }
     let summary = r#"{"summary":{"files":8,"unchanged":2,"re_encoded":1,"changed":2,"missing":1,
                       "new":1,"unread":1,"hidden":0}}"#;
     assert_eq!(lines[8], Json::of(summary));
     let quiet = folder.run("manifest verify --json --quiet d");
     assert_eq!(quiet.ended(3).json_lines().len(), 7);
+}
+
+#[test]
+fn json_of_manifest_and_file() {
+    let whole = folder();
+    let (old, picture) = (sum(&whole, "1"), sum(&whole, "2"));
+    let folder = of_each_state();
+    let lines = folder.run("manifest verify --json d").json_lines();
+    let (was, now) = (lines[0].at("manifest"), lines[0].at("file"));
+    let sums = |facts: &Json| ["sha256", "picture"].map(|key| facts.at(key).clone());
+    assert_eq!(sums(was), [old, picture.clone()]);
+    assert_eq!(sums(now), [sum(&folder, "1"), picture]);
+    let setting = |facts: &Json| ["kind", "width", "step"].map(|key| facts.at(key).clone());
+    assert_eq!(setting(was), [1, 0, 0].map(Json::Number));
+    assert_eq!(setting(now), [4, 2, 0].map(Json::Number));
+    assert_eq!(lines[2].at("message").text(), "another picture");
+    let refused = lines[3].at("file").at("refused");
+    assert_eq!(refused.at("number"), &Json::Number(1));
+    assert_eq!(refused.keys(), ["byte", "message", "number", "word"]);
+    let listed = lines[5].at("manifest").at("refused");
+    assert_eq!(listed, &Json::of(r#"{"number":1,"word":"short"}"#));
 }
 
 #[test]
