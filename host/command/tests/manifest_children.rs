@@ -46,7 +46,7 @@ fn no_sha256sum() {
 }
 
 /// Scripts in the place of sha256sum, and what is said of them.
-const FAKES: [(&str, &str); 7] = [
+const FAKES: [(&str, &str); 8] = [
     ("exit 7", "failed with status 7"),
     ("kill -9 $$", "failed: signal: 9"),
     ("echo no sum", "failed"),
@@ -55,6 +55,7 @@ const FAKES: [(&str, &str); 7] = [
         "failed: what it printed is no sum",
     ),
     ("yes", "failed"),
+    ("head -c 1000 | $real", "failed: Broken pipe"),
     ("cat > /dev/null; yes 0 | tr -d '\\n'", "failed"),
     ("(echo more; cat) | $real", "gives a wrong sum"),
 ];
