@@ -2,7 +2,7 @@
 # ~/.local/share/bash-completion/completions/radar-archive.
 
 _radar_archive() {
-    local commands="check info list cell rank position box expand make set change shorter diff best completion man help"
+    local commands="check info list cell rank position box expand make set change shorter diff best manifest completion man help"
     local word=${COMP_WORDS[COMP_CWORD]}
     local before=${COMP_WORDS[COMP_CWORD - 1]}
     local options=
@@ -39,7 +39,7 @@ _radar_archive() {
             compopt +o default 2>/dev/null
             return
             ;;
-        -o | --output | --list)
+        -o | --output | --list | -m | --manifest)
             return
             ;;
     esac
@@ -59,6 +59,7 @@ _radar_archive() {
         shorter) options="--json" ;;
         diff) options="--hex --json --quiet -q" ;;
         best) options="--output -o --force -f --max-length" ;;
+        manifest) options="--output -o --force -f --manifest -m --quiet -q --json --all --no-progress" ;;
         completion)
             COMPREPLY=($(compgen -W "bash zsh fish --help" -- "$word"))
             return
@@ -70,6 +71,11 @@ _radar_archive() {
     esac
     case $word in
         -*) COMPREPLY=($(compgen -W "$options --help -h" -- "$word")) ;;
+        *)
+            if [ "${COMP_WORDS[1]} $COMP_CWORD" = "manifest 2" ]; then
+                COMPREPLY=($(compgen -W "write verify" -- "$word"))
+            fi
+            ;;
     esac
 }
 

@@ -36,22 +36,25 @@ complete -c radar-archive -n __radar_archive_no_command -a change -d 'a file in 
 complete -c radar-archive -n __radar_archive_no_command -a shorter -d 'the shorter of two files of one picture'
 complete -c radar-archive -n __radar_archive_no_command -a diff -d 'the cells in which two pictures differ'
 complete -c radar-archive -n __radar_archive_no_command -a best -d 'a file in the kind, width and step that make it shortest'
+complete -c radar-archive -n __radar_archive_no_command -a manifest -d 'the sums of the files of a folder, written and compared'
 complete -c radar-archive -n __radar_archive_no_command -a completion -d 'the completion script of a shell'
 complete -c radar-archive -n __radar_archive_no_command -a man -d 'the man page'
 complete -c radar-archive -n __radar_archive_no_command -a help -d 'the help of a command'
 
 # The operands.
 __radar_archive_offer 'check info list cell rank position box expand make set change shorter diff best' -F
+__radar_archive_offer manifest -a '(__fish_complete_directories)'
+complete -c radar-archive -n '__radar_archive_command manifest; and test (count (commandline -opc)) -eq 2' -a 'write verify'
 __radar_archive_offer completion -a 'bash zsh fish'
-__radar_archive_offer help -a 'check info list cell rank position box expand make set change shorter diff best completion man help'
+__radar_archive_offer help -a 'check info list cell rank position box expand make set change shorter diff best manifest completion man help'
 
 # The options.
-__radar_archive_offer 'check info list cell rank position box expand make set change shorter diff best completion man help' -s h -l help -d 'show the help'
-__radar_archive_offer 'check info cell rank position box shorter diff' -l json -d 'put JSON'
-__radar_archive_offer check -s q -l quiet -d 'tell only the files that are not accepted'
+__radar_archive_offer 'check info list cell rank position box expand make set change shorter diff best manifest completion man help' -s h -l help -d 'show the help'
+__radar_archive_offer 'check info cell rank position box shorter diff manifest' -l json -d 'put JSON'
+__radar_archive_offer 'check manifest' -s q -l quiet -d 'tell only the files that are not accepted or unchanged'
 __radar_archive_offer diff -s q -l quiet -d 'print nothing'
-__radar_archive_offer check -l all -d 'check files whose names begin with a dot, too'
-__radar_archive_offer check -l no-progress -d 'draw no progress bar'
+__radar_archive_offer 'check manifest' -l all -d 'take files whose names begin with a dot, too'
+__radar_archive_offer 'check manifest' -l no-progress -d 'draw no progress bar'
 __radar_archive_offer 'cell box diff' -l hex -d 'words in hexadecimal'
 __radar_archive_offer 'cell rank set' -x -l at -d 'the place, as 3,17,200 or @3163336'
 __radar_archive_offer box -x -l low -d 'the low corner, as 3,16,198'
@@ -65,7 +68,8 @@ __radar_archive_offer 'make change' -x -l kind -a 'runs positions base-offset ju
 __radar_archive_offer 'make change' -x -l width -a '1 2' -d 'bytes of an offset or difference'
 __radar_archive_offer 'make change' -x -l step -d 'the step of kinds 3 and 5'
 __radar_archive_offer 'make set change best' -x -l max-length -d 'refuse a longer file'
-__radar_archive_offer 'box expand make set change best' -r -F -s o -l output -d 'the file to write'
-__radar_archive_offer 'box expand make set change best' -s f -l force -d 'replace an existing file'
+__radar_archive_offer 'box expand make set change best manifest' -r -F -s o -l output -d 'the file to write'
+__radar_archive_offer 'box expand make set change best manifest' -s f -l force -d 'replace an existing file'
+__radar_archive_offer manifest -r -F -s m -l manifest -d 'the manifest to compare with'
 
 functions -e __radar_archive_offer

@@ -18,6 +18,7 @@ _radar-archive_commands() {
         'shorter:the shorter of two files of one picture'
         'diff:the cells in which two pictures differ'
         'best:a file in the kind, width and step that make it shortest'
+        'manifest:the sums of the files of a folder, written and compared'
         'completion:the completion script of a shell'
         'man:the man page'
         'help:the help of a command'
@@ -31,15 +32,17 @@ _radar-archive_command() { # NAMES -- OPERANDS
         -h         '(- *)-h[show the help]'
         --help     '(- *)--help[show the help]'
         --json     '--json[put JSON]'
-        -q         '(-q --quiet)-q[tell only the files that are not accepted; of diff nothing]'
-        --quiet    '(-q --quiet)--quiet[tell only the files that are not accepted; of diff nothing]'
-        --all      '--all[check files whose names begin with a dot, too]'
+        -q         '(-q --quiet)-q[tell only the files that are not accepted or unchanged; of diff nothing]'
+        --quiet    '(-q --quiet)--quiet[tell only the files that are not accepted or unchanged; of diff nothing]'
+        --all      '--all[take files whose names begin with a dot, too]'
         --no-progress '--no-progress[draw no progress bar]'
         --hex      '--hex[words in hexadecimal]'
         -f         '(-f --force)-f[replace an existing file]'
         --force    '(-f --force)--force[replace an existing file]'
         -o         '(-o --output)-o+[the file to write]:file:_files'
         --output   '(-o --output)--output=[the file to write]:file:_files'
+        -m         '(-m --manifest)-m+[the manifest to compare with]:file:_files'
+        --manifest '(-m --manifest)--manifest=[the manifest to compare with]:file:_files'
         --at       '--at=[the place]:place, as 3,17,200 or @3163336: '
         --low      '--low=[the low corner]:place, as 3,17,200 or @3163336: '
         --high     '--high=[the high corner, which belongs to the box]:place, as 3,17,200 or @3163336: '
@@ -88,6 +91,7 @@ _radar-archive() {
         shorter) options=(--json) operands=('1:file:_files' '2:file:_files') ;;
         diff) options=(--hex --json -q --quiet) operands=('1:file:_files' '2:file:_files') ;;
         best) options=(-o --output -f --force --max-length) ;;
+        manifest) options=(-o --output -f --force -m --manifest -q --quiet --json --all --no-progress) operands=('1:what to do:(write verify)' '2:folder:_files -/') ;;
         completion) operands=('1:shell:(bash zsh fish)') ;;
         man) operands=() ;;
         help) operands=('1:command:_radar-archive_commands') ;;

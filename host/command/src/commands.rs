@@ -14,6 +14,7 @@ mod list;
 mod lookup;
 mod make;
 mod man;
+mod manifest;
 mod position;
 mod put_out;
 mod rank;
@@ -35,7 +36,7 @@ use crate::output::Results;
 use crate::{shown, version};
 
 /// All commands, in the order of the program's help.
-pub static ALL: [&Command; 17] = [
+pub static ALL: [&Command; 18] = [
     &check::COMMAND,
     &info::COMMAND,
     &list::COMMAND,
@@ -50,6 +51,7 @@ pub static ALL: [&Command; 17] = [
     &shorter::COMMAND,
     &diff::COMMAND,
     &best::COMMAND,
+    &manifest::COMMAND,
     &completion::COMMAND,
     &man::COMMAND,
     &help::COMMAND,

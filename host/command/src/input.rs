@@ -13,7 +13,7 @@ use crate::numbers::grouped;
 pub const LONGEST_PICTURE: u64 = 52 + 10 * MOST_CELLS as u64;
 
 /// The bytes of a file's header.
-const HEADER_LENGTH: u64 = 52;
+pub const HEADER_LENGTH: u64 = 52;
 
 /// What was read of a file.
 #[derive(Clone, Debug, PartialEq, Eq)]
@@ -44,7 +44,10 @@ impl Input {
         let path = path.to_owned();
         match contents(&path, LONGEST_PICTURE)? {
             Contents::Whole(bytes) => Ok(Input { path, bytes }),
-            Contents::Longer { begin, length } => Err(too_long(path, &begin, &length)),
+            Contents::Longer { begin, length } => {
+                let fault = too_long(&begin, &length);
+                Err(Failure::Refused { path, fault })
+            }
         }
     }
 
@@ -62,17 +65,20 @@ impl Input {
     }
 }
 
-/// The failure that a picture file is too long: its length is not the layout's, if its header has no fault that comes before.
-fn too_long(path: OsString, begin: &[u8], length: &str) -> Failure {
+/// What is wrong with a file that is longer than any picture's: its length is not the layout's, if its header has no fault that comes
+/// before.
+pub fn too_long(begin: &[u8], length: &str) -> Fault {
     if let Err(refusal) = calls::check(begin) {
         if refusal.number() < Refusal::Counts.number() {
-            let fault = diagnosis::of(begin, refusal);
-            return Failure::Refused { path, fault };
+            return diagnosis::of(begin, refusal);
         }
     }
     let most = grouped(LONGEST_PICTURE);
-    let message = format!("the file has {length} bytes, and no picture file has more than {most}");
-    Failure::refused(&path, Refusal::Counts, message)
+    Fault {
+        refusal: Refusal::Counts,
+        message: format!("the file has {length} bytes, and no picture file has more than {most}"),
+        byte: None,
+    }
 }
 
 /// Reads a file that may have so many bytes.

@@ -16,6 +16,7 @@ pub mod output;
 pub mod place;
 pub mod progress;
 pub mod refused;
+pub mod sha256;
 pub mod shown;
 #[allow(unsafe_code)]
 pub mod signals;

@@ -16,6 +16,7 @@ use radar_archive::calls;
 
 use crate::failure::Failure;
 
+pub use leftover::is_temporary;
 use lock::PATIENCE;
 pub use standard::Results;
 use target::Target;
@@ -27,6 +28,8 @@ pub enum Content {
     Picture,
     /// Raw words.
     Raw,
+    /// Text.
+    Text,
 }
 
 /// Where a command's file goes.
@@ -38,15 +41,20 @@ pub struct Output {
 impl Output {
     /// Looks at the target that `-o` names; one that may not be written is refused here, before anything is computed.
     pub fn look(name: &OsStr, force: bool) -> Result<Output, Failure> {
-        if name != "-" {
-            let target = Some(Target::look(name, force)?);
-            return Ok(Output { target });
-        }
-        if io::stdout().is_terminal() && !force {
+        if name == "-" && io::stdout().is_terminal() && !force {
             let message = "is a terminal; these are bytes, not text: name a file, pipe them on, or use --force";
             return Err(Failure::file("standard output", message));
         }
-        Ok(Output { target: None })
+        Output::look_for_text(name, force)
+    }
+
+    /// The same for text, which may go to a terminal too.
+    pub fn look_for_text(name: &OsStr, force: bool) -> Result<Output, Failure> {
+        let target = match name == "-" {
+            true => None,
+            false => Some(Target::look(name, force)?),
+        };
+        Ok(Output { target })
     }
 
     /// Locks the file that is to be replaced from now on, before it is read; without this call it is locked when it is replaced.

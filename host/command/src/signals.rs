@@ -12,6 +12,9 @@ use std::sync::Once;
 /// Hang-up, interrupt, termination, and a file past the limit of its size.
 const CAUGHT: [c_int; 4] = [1, 2, 15, 25];
 
+/// The end of a child.
+const CHILD: c_int = 17;
+
 /// The handlers that stand for what a signal does by itself, and for ignoring it.
 const DEFAULT: usize = 0;
 const IGNORED: usize = 1;
@@ -48,6 +51,12 @@ pub fn catch() {
             }
         }
     });
+}
+
+/// Lets children be waited for. Where the program was started with their ends ignored, the system forgets how they ended.
+pub fn wait_for_children() {
+    // SAFETY: the handler is one that the system knows.
+    unsafe { signal(CHILD, DEFAULT) };
 }
 
 /// The handler.

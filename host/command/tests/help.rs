@@ -164,6 +164,12 @@ fn the_completion_completes_commands() {
     let folder = Folder::new();
     assert_eq!(completed(&folder, "radar-archive ch"), ["change", "check"]);
     assert_eq!(completed(&folder, "radar-archive sh"), ["shorter"]);
+    let acts = completed(&folder, "radar-archive manifest ''");
+    assert_eq!(acts, ["verify", "write"]);
+    assert_eq!(
+        completed(&folder, "radar-archive manifest write w"),
+        [""; 0]
+    );
     let mut all: Vec<_> = names().collect();
     all.sort_unstable();
     let offers = completed(&folder, "radar-archive ''");

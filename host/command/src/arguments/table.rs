@@ -93,6 +93,12 @@ impl Opt {
         short: Some('o'),
         value: Some("FILE"),
     };
+    /// `--manifest`, `-m`.
+    pub const MANIFEST: Opt = Opt {
+        long: "manifest",
+        short: Some('m'),
+        value: Some("FILE"),
+    };
     /// `--at`.
     pub const AT: Opt = Opt::with("at", "PLACE");
     /// `--low`.

@@ -3,7 +3,10 @@
 mod tally;
 mod told;
 
+use std::ffi::{OsStr, OsString};
+
 use crate::arguments::{Command, Given, Operands, Opt};
+use crate::commands::manifest::is_manifest;
 use crate::commands::walk::{Found, Walk};
 use crate::failure::{note, tell, Failure, DONE};
 use crate::input::Input;
@@ -37,7 +40,9 @@ fn run(given: &Given) -> Result<u8, Failure> {
             ..Tally::default()
         },
     };
-    walk.found.iter().try_for_each(|found| check.take(found))?;
+    for found in &walk.found {
+        check.take(found, &given.operands)?;
+    }
     check.end()
 }
 
@@ -51,10 +56,13 @@ struct Check {
 }
 
 impl Check {
-    /// Checks one file, or tells what else was met.
-    fn take(&mut self, found: &Found) -> Result<(), Failure> {
+    /// Checks one file, or tells what else was met. A manifest that is no operand itself is said and not checked.
+    fn take(&mut self, found: &Found, operands: &[OsString]) -> Result<(), Failure> {
         match found {
             Found::File(path) => match Input::picture(path) {
+                Ok(file) if is_manifest(&file.bytes) && !operands.contains(path) => {
+                    self.manifest(path)?;
+                }
                 Ok(file) => self.told(Told::file(&file))?,
                 Err(Failure::File { message, .. }) => self.told(Told::unread(path, message))?,
                 Err(Failure::Refused { fault, .. }) => self.told(Told::too_long(path, fault))?,
@@ -73,6 +81,18 @@ impl Check {
             }
         }
         self.progress.step();
+        Ok(())
+    }
+
+    /// Says that a manifest was met.
+    fn manifest(&mut self, path: &OsStr) -> Result<(), Failure> {
+        if !self.quiet {
+            self.before_error_line()?;
+            note(
+                path,
+                "a manifest, not checked; 'manifest verify' compares it",
+            );
+        }
         Ok(())
     }
 

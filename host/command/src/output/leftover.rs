@@ -28,7 +28,7 @@ pub(super) fn remove(folder: &Path, target: &OsStr, held: Option<&Lock>) {
 }
 
 /// Whether a name is that of a temporary file of this target, of any process.
-fn is_temporary(name: &OsStr, target: &OsStr) -> bool {
+pub fn is_temporary(name: &OsStr, target: &OsStr) -> bool {
     let text = name.to_string_lossy();
     let numbers = || {
         let (_, end) = text.rsplit_once(MARK)?;

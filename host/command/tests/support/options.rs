@@ -4,7 +4,7 @@
 pub type Command = (&'static str, &'static [&'static str]);
 
 /// The commands on files.
-pub const COMMANDS: [Command; 14] = [
+pub const COMMANDS: [Command; 15] = [
     (
         "check",
         &["--json", "-q", "--quiet", "--all", "--no-progress"],
@@ -65,6 +65,22 @@ pub const COMMANDS: [Command; 14] = [
     ("shorter", &["--json"]),
     ("diff", &["--hex", "--json", "-q", "--quiet"]),
     ("best", &["-o", "--output", "-f", "--force", "--max-length"]),
+    (
+        "manifest",
+        &[
+            "-o",
+            "--output",
+            "-f",
+            "--force",
+            "-m",
+            "--manifest",
+            "-q",
+            "--quiet",
+            "--json",
+            "--all",
+            "--no-progress",
+        ],
+    ),
 ];
 
 /// The commands that read no file.
