@@ -126,15 +126,27 @@ uint32_t ra_check(const uint8_t *file, size_t len);
  *   dst, dst_len   the destination, in numbers
  *
  * Answers 0, or the first of 1 to 6, 10. Accepted: RA_INFO_NUMBERS numbers stand in the destination's first elements: kind, width, step, the
- * number of dimensions, cells, E, N, and the four extents, 1 past the number of dimensions.
+ * number of dimensions, cells, E, N, and the four extents, 1 past the number of dimensions. RA_INFO_KIND to RA_INFO_EXTENTS are their places.
  *
  * Example:
  *     uint32_t info[RA_INFO_NUMBERS];
  *     assert(ra_info(file, 84, info, RA_INFO_NUMBERS) == 0);
- *     assert(info[0] == 2 && info[3] == 1 && info[4] == 12 && info[5] == 0 && info[6] == 4 && info[7] == 12);
+ *     assert(info[RA_INFO_KIND] == 2 && info[RA_INFO_CELLS] == 12 && info[RA_INFO_STORED] == 4);
+ *     for (uint32_t i = 0; i < info[RA_INFO_DIMS]; i++)
+ *         assert(info[RA_INFO_EXTENTS + i] == extents[i]);
  *     assert(ra_info(file, 84, info, 10) == 10);
  */
 #define RA_INFO_NUMBERS 11
+enum {
+    RA_INFO_KIND,
+    RA_INFO_WIDTH,
+    RA_INFO_STEP,
+    RA_INFO_DIMS,
+    RA_INFO_CELLS,
+    RA_INFO_EMPTY,
+    RA_INFO_STORED,
+    RA_INFO_EXTENTS
+};
 uint32_t ra_info(const uint8_t *file, size_t len, uint32_t *dst, size_t dst_len);
 
 /*

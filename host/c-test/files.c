@@ -63,10 +63,10 @@ void reads_as(const uint8_t *file, size_t len, const uint32_t *words, uint32_t c
     uint32_t *info = lend(4 * RA_INFO_NUMBERS, AT_END);
     EQUAL(ra_info(file, len, info, RA_INFO_NUMBERS - 1), RA_SMALL);
     EQUAL(ra_info(file, len, info, RA_INFO_NUMBERS), 0);
-    EQUAL(info[0], file[0]);
-    EQUAL(info[4], cells);
-    EQUAL(info[5], 0);
-    EQUAL(info[6], rank);
+    EQUAL(info[RA_INFO_KIND], file[0]);
+    EQUAL(info[RA_INFO_CELLS], cells);
+    EQUAL(info[RA_INFO_EMPTY], 0);
+    EQUAL(info[RA_INFO_STORED], rank);
     uint32_t *all = lend(4 * (size_t)cells, AT_END);
     EQUAL(ra_expand(file, len, all, cells - 1), 10);
     EQUAL(ra_expand(file, len, all, cells), 0);

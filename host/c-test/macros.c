@@ -1,4 +1,4 @@
-/* The macros of the header: the version, the numbers by their words, the longest file. */
+/* What the header has beside the calls: the version, the numbers by their words and the words of numbers, the places of ra_info, the longest file. */
 #include "files.h"
 #include "harness.h"
 #include "tests.h"
@@ -38,6 +38,41 @@ void numbers_by_their_words(void)
     EQUAL(RA_CODE(ra_rank(file, len, 0)), RA_EMPTY);
     set_field(file, 52, 12);
     EQUAL(ra_check(file, len), RA_BODY);
+}
+
+/* The word of each number, and of numbers that have none. */
+void words_of_numbers(void)
+{
+    static const char *const words[] = {"accepted", "short",   "kind",   "setting", "extent", "counts",
+                                        "body",     "picture", "beyond", "unfit",   "small",  "other"};
+    static const uint32_t unknown[] = {12, 254, 256, UINT32_MAX};
+    for (uint32_t number = 0; number <= RA_OTHER; number++)
+        HOLDS(strcmp(ra_word(number), words[number]) == 0);
+    HOLDS(strcmp(ra_word(RA_EMPTY), "empty") == 0);
+    for (size_t i = 0; i < sizeof unknown / sizeof *unknown; i++)
+        HOLDS(strcmp(ra_word(unknown[i]), "unknown") == 0);
+}
+
+/* Each number that ra_info puts out stands at its place: a picture whose numbers up to the extents are all different. */
+void places_of_info(void)
+{
+    static const uint32_t extents[4] = {4, 5, 1, 1};
+    uint32_t words[20], info[RA_INFO_NUMBERS + 1] = {[RA_INFO_NUMBERS] = 99};
+    uint8_t file[200];
+    for (uint32_t p = 0; p < 20; p++)
+        words[p] = p < 6 ? p : 77;
+    EQUAL(ra_make(3, 1, 7, 2, extents, 4, 77, words, 20, file, 200), 0);
+    EQUAL(ra_info(file, field(file, 48), info, RA_INFO_NUMBERS + 1), 0);
+    EQUAL(info[RA_INFO_KIND], 3);
+    EQUAL(info[RA_INFO_WIDTH], 1);
+    EQUAL(info[RA_INFO_STEP], 7);
+    EQUAL(info[RA_INFO_DIMS], 2);
+    EQUAL(info[RA_INFO_CELLS], 20);
+    EQUAL(info[RA_INFO_EMPTY], 77);
+    EQUAL(info[RA_INFO_STORED], 6);
+    HOLDS(memcmp(info + RA_INFO_EXTENTS, extents, sizeof extents) == 0);
+    EQUAL(RA_INFO_EXTENTS + 4, RA_INFO_NUMBERS);
+    EQUAL(info[RA_INFO_NUMBERS], 99);
 }
 
 /* A picture whose file is as long as any can be: every cell stored, kind 3 with a base and two bytes of offset for each. */

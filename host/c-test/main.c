@@ -10,6 +10,8 @@ int main(void)
 {
     version_macros();
     numbers_by_their_words();
+    words_of_numbers();
+    places_of_info();
     longest_file();
     sample_files();
     sample_full();

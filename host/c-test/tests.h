@@ -5,6 +5,8 @@
 /* macros.c */
 void version_macros(void);
 void numbers_by_their_words(void);
+void words_of_numbers(void);
+void places_of_info(void);
 void longest_file(void);
 
 /* sample.c */

@@ -2,7 +2,8 @@
 //!
 //! [`run`] is the whole program. A command of [`commands`] reads its files by [`input`], asks the engine through the crate
 //! `radar_archive`, and puts results on standard output or, by [`output`], in a file. What goes wrong is a [`failure::Failure`].
-#![deny(missing_docs, unsafe_code)]
+#![deny(unsafe_code)]
+#![warn(missing_docs)]
 
 pub mod arguments;
 pub mod commands;

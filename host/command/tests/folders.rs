@@ -194,9 +194,7 @@ fn an_unreadable_file_and_folder() {
         let none = PermissionsExt::from_mode(0o000);
         std::fs::set_permissions(folder.path(name), none).expect("permissions");
     }
-    let program = folder.path("program");
-    std::fs::copy(support::PROGRAM, &program).expect("the program");
-    let mut command = Command::new(program);
+    let mut command = Command::new(folder.open_program());
     command.args(["check", "d"]).current_dir(folder.path(""));
     if process::is_root() {
         use std::os::unix::process::CommandExt;

@@ -109,11 +109,7 @@ fn a_full_disk() {
 
 /// Runs a call as a user without any right of its own, by a copy of the program that everybody can reach.
 fn as_nobody(folder: &Folder, call: &str) -> support::Outcome {
-    let program = folder.path("program");
-    if !program.exists() {
-        fs::copy(support::PROGRAM, &program).expect("the program");
-    }
-    let mut command = Command::new(program);
+    let mut command = Command::new(folder.open_program());
     command.args(call.split(' ')).current_dir(folder.path(""));
     if process::is_root() {
         command.uid(65534).gid(65534);

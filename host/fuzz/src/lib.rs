@@ -2,7 +2,7 @@
 //!
 //! An input is a control block of [`control::LENGTH`] bytes and a body. The body is a file, or a header with a description of a picture
 //! from which the second reading makes a file. Any difference between the engine and the second reading panics.
-#![deny(missing_docs)]
+#![warn(missing_docs)]
 
 pub mod accepted;
 pub mod control;

@@ -60,6 +60,7 @@ fn calls(sides: &mut Sides, file: &[u8], control: &Control, fences: &mut [Fence;
     let [first, second] = fences;
     let lent = first.lend(file, control.leading);
     let parsed = sides.check(lent);
+    sides.info(lent, &parsed);
     match &parsed {
         Ok(says) if says.cells() > MOST_CELLS as usize => huge(sides, lent, &parsed, control),
         Ok(says) => {

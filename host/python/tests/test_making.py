@@ -50,10 +50,14 @@ class Settings(Refusing):
 
     def test_refused(self):
         for kind in (0, 6, -1, 257, 1 << 32, (1 << 32) + 1, "run", "RUNS", ""):
-            self.refused(2, lambda: make(SAMPLE, kind=kind), "the kinds are 1 runs, 2 positions, 3 base-offset, 4 jumps, 5 paged-runs")
+            sentence = f"no kind {kind!r}; the kinds are 1 runs, 2 positions, 3 base-offset, 4 jumps, 5 paged-runs"
+            self.refused(2, lambda: make(SAMPLE, kind=kind), sentence)
+            self.refused(2, lambda: make(SAMPLE, kind=1).change(kind=kind), sentence)
         for setting in [(1, 1, 0), (2, 0, 1), (3, 0, 1), (3, 3, 1), (3, 1, 0), (3, 1, 256), (4, 0, 0), (4, 1, 1), (5, 0, 1), (5, 0, 65), (5, 1, 2),
                         (3, (1 << 32) + 1, 1), (3, 1, -1), (4, 257, 0)]:
-            self.refused(3, lambda: make(SAMPLE, **keywords(setting)), "it takes")
+            sentence = f"width {setting[1]} and step {setting[2]}; it takes"
+            self.refused(3, lambda: make(SAMPLE, **keywords(setting)), sentence)
+            self.refused(3, lambda: make(SAMPLE, kind=1).change(**keywords(setting)), sentence)
         self.refused(9, lambda: make([1] + [0] * 255 + [1], kind=3, width=1, step=2), "use width 2 or a smaller step")
         self.refused(9, lambda: make([1] + [0] * 65535 + [1], kind=3, width=2, step=2), "; use a smaller step")
         for setting in [{"kind": 1.0}, {"kind": None}, {"kind": True}, {"kind": 3, "width": 1.0, "step": 1}, {"kind": 3, "width": 1, "step": "1"}]:

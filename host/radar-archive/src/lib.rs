@@ -28,7 +28,8 @@
 //! # Ok::<(), radar_archive::Refusal>(())
 //! ```
 #![no_std]
-#![deny(missing_docs, unsafe_code)]
+#![deny(unsafe_code)]
+#![warn(missing_docs)]
 
 extern crate alloc;
 

@@ -7,7 +7,7 @@
 //! A `room` parameter is the length of the destination that the caller would lend: bytes for files,
 //! words for expand and box, numbers for coordinates. An accepted call returns the elements that
 //! fill the destination's beginning; a refused one returns its number of the signal list.
-#![deny(missing_docs)]
+#![warn(missing_docs)]
 #![forbid(unsafe_code)]
 
 mod calls;

@@ -2,7 +2,7 @@
 //!
 //! [`sides::Sides`] makes one call on both and compares the number, the value and every element of the destination with guards around
 //! it. The binary `side-by-side` does so on many pictures and files from a seed; the tests do it on all small ones.
-#![deny(missing_docs)]
+#![warn(missing_docs)]
 #![forbid(unsafe_code)]
 
 pub mod agreeing;

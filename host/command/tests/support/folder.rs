@@ -3,7 +3,7 @@
 use super::{process, Outcome, PROGRAM, SAMPLES};
 use std::ffi::{OsStr, OsString};
 use std::fs;
-use std::os::unix::fs::MetadataExt;
+use std::os::unix::fs::{MetadataExt, PermissionsExt};
 use std::path::{Path, PathBuf};
 use std::process::Command;
 use std::sync::atomic::{AtomicU32, Ordering};
@@ -18,6 +18,7 @@ pub struct Folder {
 impl Folder {
     /// An empty folder.
     pub fn new() -> Folder {
+        process::usual_mask();
         let number = NUMBER.fetch_add(1, Ordering::Relaxed);
         let name = format!("radar-archive-test-{}-{number}", std::process::id());
         let path = std::env::temp_dir().join(name);
@@ -78,6 +79,17 @@ impl Folder {
         let path = self.path(name.as_ref());
         let inode = fs::symlink_metadata(path).expect("a file").ino();
         (inode, self.read(name))
+    }
+
+    /// A copy of the program in this folder, which everybody may run.
+    pub fn open_program(&self) -> PathBuf {
+        let program = self.path("program");
+        if !program.exists() {
+            fs::copy(PROGRAM, &program).expect("the program");
+            let bits = PermissionsExt::from_mode(0o755);
+            fs::set_permissions(&program, bits).expect("permissions");
+        }
+        program
     }
 
     /// The program, to be run in this folder.

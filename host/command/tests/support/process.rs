@@ -21,7 +21,14 @@ const DEFAULT: usize = 0;
 mod system {
     extern "C" {
         pub fn signal(number: super::c_int, handler: usize) -> usize;
+        pub fn umask(mask: u32) -> u32;
     }
+}
+
+/// Has new files and folders readable by everybody, also where the tests were started with another mask.
+pub fn usual_mask() {
+    // SAFETY: the call takes a plain number.
+    unsafe { system::umask(0o022) };
 }
 
 /// Has signals end the program, also where the tests were started with some of them ignored, as by nohup or in the background.

@@ -277,10 +277,9 @@ class Archive:
 
     def _changed(self, numbers: tuple[int, int, int]) -> bytes:
         """The file in another setting."""
-        lent_file, longest = self._lend(), longest_file(numbers, self.stored)
-        return put_out(
-            longest, lambda *room: int(engine().ra_change(*lent_file, *numbers, *room)), lambda number: explain_setting(number, numbers)
-        )
+        before_room = (*self._lend(), *map(lent, numbers))
+        longest = longest_file(numbers, self.stored)
+        return put_out(longest, lambda *room: int(engine().ra_change(*before_room, *room)), lambda number: explain_setting(number, numbers))
 
     def shorter(self, other: "Archive") -> "Archive":
         """The shorter of two archives of one picture, this one on equal length. Refuses with 11."""

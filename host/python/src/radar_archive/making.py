@@ -7,7 +7,7 @@ from numpy.typing import ArrayLike, NDArray
 
 from radar_archive.engine import engine
 from radar_archive.header import Dimensions
-from radar_archive.numbers import word_of
+from radar_archive.numbers import lent, word_of
 from radar_archive.refusal import Explain, accept
 from radar_archive.setting import MOST_CELLS, KindLike, explain_setting, longest_file, setting_numbers
 from radar_archive.words import integers, words_of
@@ -35,13 +35,13 @@ def made_file(picture: ArrayLike, kind: KindLike, width: SupportsIndex, step: Su
         return _explain_shape(array.shape) if number == 4 else explain_setting(number, numbers)
 
     make = engine().ra_make
-    number = make(*numbers, *dimensions.lent, empty_word, None, 0, None, 0)
+    before_words = (*map(lent, numbers), *dimensions.lent, empty_word)
+    number = make(*before_words, None, 0, None, 0)
     if number != _NO_WORDS:
         accept(number, explain)
     words = words_of(array)
     longest = longest_file(numbers, _stored(words, empty_word))
-    lent = (*numbers, *dimensions.lent, empty_word, words.ctypes.data, words.size)
-    return put_out(longest, lambda room, size: int(make(*lent, room, size)), explain)
+    return put_out(longest, lambda *room: int(make(*before_words, words.ctypes.data, words.size, *room)), explain)
 
 
 def _stored(words: NDArray[np.uint32], empty: int) -> int:

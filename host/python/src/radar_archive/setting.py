@@ -3,7 +3,7 @@ from collections.abc import Iterator
 from enum import IntEnum
 from typing import NamedTuple, SupportsIndex
 
-from radar_archive.numbers import lent, whole
+from radar_archive.numbers import whole
 from radar_archive.refusal import refusal
 
 #: The bytes before the first part of a file.
@@ -55,12 +55,12 @@ class Setting(NamedTuple):
 
 
 def setting_numbers(kind: KindLike, width: SupportsIndex, step: SupportsIndex) -> tuple[int, int, int]:
-    """The three numbers of a setting, to be lent to the engine, which judges them."""
+    """The three numbers of a setting as they were given; the engine judges them."""
     if isinstance(kind, str):
         if kind not in _NAMES:
             raise refusal(2, unknown_kind(repr(kind)))
         kind = _NAMES[kind]
-    return lent(whole(kind, "kind")), lent(whole(width, "width")), lent(whole(step, "step"))
+    return whole(kind, "kind"), whole(width, "width"), whole(step, "step")
 
 
 def all_settings() -> Iterator[Setting]:

@@ -37,6 +37,11 @@ impl<'a> Beyond<'a> {
         position >= self.cells
     }
 
+    /// By how much the highest position met is past the last cell.
+    pub(super) fn past(&self) -> u64 {
+        self.highest.saturating_sub(self.cells - 1)
+    }
+
     /// Meets the entry at `at`, which `says` that a stored cell is at a position past the last cell.
     pub(super) fn meet(&mut self, position: u64, at: usize, says: impl Fn() -> String) {
         self.highest = self.highest.max(position);

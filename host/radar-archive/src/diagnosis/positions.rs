@@ -27,9 +27,14 @@ pub(super) fn rising(header: &Header, test: impl FnOnce(&mut Rising) -> Test) ->
     let mut rising = Rising {
         rank: 0,
         before: None,
+        slack: 0,
+        reach: 0,
         beyond: Beyond::new(header),
     };
     let found = test(&mut rising);
+    if rising.beyond.past() > rising.reach {
+        rising.beyond.never_one();
+    }
     rising.beyond.told(found)
 }
 
@@ -39,6 +44,10 @@ pub(super) struct Rising<'a> {
     rank: u64,
     /// The position of the rank before it; nothing before rank 0.
     before: Option<u64>,
+    /// The most by which the last position can be too high for one wrong entry.
+    slack: u64,
+    /// The same of the first position past the last cell; those that follow it are no more so.
+    reach: u64,
     beyond: Beyond<'a>,
 }
 
@@ -50,7 +59,9 @@ impl Rising<'_> {
 
     /// Tests the next position, which its entry has as it is; `says` is the beginning of the message.
     pub(super) fn place(&mut self, position: u64, at: usize, says: impl Fn() -> String) -> Test {
+        self.slack = self.room_below(position);
         if self.beyond.is(position) {
+            self.reach_first();
             self.beyond.meet_other(position, at, &says);
         }
         self.add(position, at, says)
@@ -58,10 +69,25 @@ impl Rising<'_> {
 
     /// Tests the next position, which its entry has by way of one before it; `says` is the beginning of the message.
     pub(super) fn follow(&mut self, position: u64, at: usize, says: impl Fn() -> String) -> Test {
+        self.slack = self.slack.max(self.room_below(position));
         if self.beyond.is(position) {
+            self.reach_first();
             self.beyond.meet(position, at, &says);
         }
         self.add(position, at, says)
+    }
+
+    /// The cells between the position before the next one and the next one.
+    fn room_below(&self, position: u64) -> u64 {
+        let lowest = self.before.map_or(0, |before| before + 1);
+        position.saturating_sub(lowest)
+    }
+
+    /// Keeps the slack of the first position past the last cell.
+    fn reach_first(&mut self) {
+        if self.beyond.past() == 0 {
+            self.reach = self.slack;
+        }
     }
 
     /// Tests that the next position is above the one before it.

@@ -84,6 +84,10 @@ fn too_few_cells() -> Vec<Row> {
     let by_four = |at, extent| with_field(of_extents(&[3, 4], Setting::positions()), at, extent);
     let by_three = |at, extent| with_field(of_extents(&[4, 3], Setting::paged_runs(2)), at, extent);
     let line = |kind, extent| with_field(sample(kind), 4, extent);
+    // No entry by itself could be lower: the one before it is at the last cell.
+    let all_in_a_row = |setting| with_field(of_extents(&[12], setting), 4, 11);
+    // The first jump, to position 4, could be 4 lower, and with it all that follow.
+    let of_jumps = with_field(of_extents(&[3, 4], Setting::jumps(1)), 4, 2);
     vec![
         five(by_four(4, 1), "the header says 8 stored cells of 4 cells", 4),
         five(by_four(8, 1), "the header says 8 stored cells of 3 cells", 8),
@@ -93,6 +97,10 @@ fn too_few_cells() -> Vec<Row> {
         six(line(2, 5), "the last stored cell is at position 10; by the extents the last cell is at position 4", 4),
         six(line(1, 10), "the last stored cell is at position 10; by the extents the last cell is at position 9", 4),
         six(line(5, 10), "the last stored cell is at position 10; by the extents the last cell is at position 9", 4),
+        six(all_in_a_row(Setting::positions()), "the last stored cell is at position 11; by the extents the last cell is at position 10", 4),
+        six(all_in_a_row(Setting::base_offset(1, 4)), "the last stored cell is at position 11; by the extents the last cell is at position 10", 4),
+        six(line(4, 6), "the last stored cell is at position 10; by the extents the last cell is at position 5", 4),
+        six(of_jumps, "difference 1 from position 7 puts rank 4 at position 8; the last cell is at position 7", 60),
     ]
 }
 
@@ -115,7 +123,7 @@ const FIELDS: [usize; 12] = [4, 8, 12, 16, 20, 24, 28, 32, 36, 40, 44, 48];
 
 /// Each field of the sample files with values near its own and far from it: what is refused is told with the field's byte.
 ///
-/// Some damage cannot be told from damage elsewhere: an extent that the last entry alone exceeds, an empty word that is one stored word,
+/// Some damage cannot be told from damage elsewhere: an extent that the last entry alone exceeds and might not, an empty word that is one stored word,
 /// and kind 3 in place of kind 4, which another step would mend too.
 #[test]
 fn each_field_by_itself() {
@@ -148,9 +156,8 @@ fn one_field(file: &[u8], at: usize, kind: u32) -> bool {
     let fault = first_fault(file).unwrap();
     assert_eq!(fault.refusal, refusal);
     let right = match (kind, at, fault.byte) {
-        // Rank 2 is at position 5.
-        (2, 4, Some(byte)) if byte >= 52 => file[4] > 5,
-        (3 | 4, 4, Some(byte)) if byte >= 52 => true,
+        // Rank 2 is at position 5, so rank 3 by itself could be at 6.
+        (2..=4, 4, Some(byte)) if byte >= 52 => file[4] > 6,
         (_, 20, Some(byte)) if byte >= 52 => fault.message.ends_with("the empty word"),
         (4, 0, Some(3)) => file[0] == 3,
         (_, _, byte) => byte == Some(at),
