@@ -8,16 +8,20 @@ mod check;
 mod completion;
 mod expand;
 mod help;
+mod in_order;
 mod info;
 mod list;
 mod lookup;
 mod make;
 mod man;
+mod passed;
 mod position;
 mod put_out;
 mod rank;
+mod recode;
 mod set;
 mod shorter;
+mod tree;
 mod walk;
 
 #[cfg(test)]

@@ -79,9 +79,10 @@ fn too_long(path: OsString, begin: &[u8], length: &str) -> Failure {
 pub fn contents(path: &OsStr, most: u64) -> Result<Contents, Failure> {
     let failed = |message: String| Failure::file(path, format!("cannot be read: {message}"));
     read(path, most).map_err(|error| match error.kind() {
-        io::ErrorKind::IsADirectory => {
-            failed("it is a folder; name a file in it ('check' takes folders)".to_string())
-        }
+        io::ErrorKind::IsADirectory => failed(
+            "it is a folder; name a file in it ('check', 'best' and 'change' take folders)"
+                .to_string(),
+        ),
         _ => failed(reason(&error)),
     })
 }

@@ -1,5 +1,6 @@
 //! Output: results on standard output, and files that are written whole or not at all.
 
+mod folders;
 mod leftover;
 #[allow(unsafe_code)]
 mod lock;
@@ -16,6 +17,7 @@ use radar_archive::calls;
 
 use crate::failure::Failure;
 
+pub use folders::Folders;
 use lock::PATIENCE;
 pub use standard::Results;
 use target::Target;

@@ -97,10 +97,7 @@ impl Target {
 
     /// The folder that the target stands in.
     fn folder(&self) -> &Path {
-        match self.path.parent() {
-            Some(parent) if !parent.as_os_str().is_empty() => parent,
-            _ => Path::new("."),
-        }
+        folder_of(&self.path)
     }
 
     fn failed(&self, message: String) -> Failure {
@@ -138,6 +135,14 @@ impl Target {
                 "is written, but its folder cannot be synced: {why}"
             ))
         })
+    }
+}
+
+/// The folder that a path's last name stands in.
+pub(super) fn folder_of(path: &Path) -> &Path {
+    match path.parent() {
+        Some(parent) if !parent.as_os_str().is_empty() => parent,
+        _ => Path::new("."),
     }
 }
 
@@ -202,7 +207,7 @@ fn unwritten(error: &io::Error, length: usize) -> String {
 }
 
 /// Makes a folder's entries last. A folder that may not be read, or a file system that has no such call, is left as it is.
-fn synced(folder: &Path) -> io::Result<()> {
+pub(super) fn synced(folder: &Path) -> io::Result<()> {
     let opened = match fs::File::open(folder) {
         Ok(opened) => opened,
         Err(error) if error.kind() == ErrorKind::PermissionDenied => return Ok(()),

@@ -7,6 +7,7 @@ pub mod json;
 pub mod options;
 pub mod outcome;
 pub mod process;
+pub mod trees;
 
 pub use folder::Folder;
 pub use outcome::Outcome;

@@ -7,7 +7,17 @@ pub type Command = (&'static str, &'static [&'static str]);
 pub const COMMANDS: [Command; 13] = [
     (
         "check",
-        &["--json", "-q", "--quiet", "--all", "--no-progress"],
+        &[
+            "--json",
+            "-q",
+            "--quiet",
+            "--all",
+            "--name",
+            "--files0-from",
+            "-j",
+            "--jobs",
+            "--no-progress",
+        ],
     ),
     ("info", &["--json"]),
     ("list", &[]),
@@ -59,10 +69,27 @@ pub const COMMANDS: [Command; 13] = [
             "-f",
             "--force",
             "--max-length",
+            "--name",
+            "--all",
+            "-q",
+            "--quiet",
         ],
     ),
     ("shorter", &["--json"]),
-    ("best", &["-o", "--output", "-f", "--force", "--max-length"]),
+    (
+        "best",
+        &[
+            "-o",
+            "--output",
+            "-f",
+            "--force",
+            "--max-length",
+            "--name",
+            "--all",
+            "-q",
+            "--quiet",
+        ],
+    ),
 ];
 
 /// The commands that read no file.
