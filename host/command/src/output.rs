@@ -18,6 +18,7 @@ use radar_archive::calls;
 use crate::failure::Failure;
 
 pub use folders::Folders;
+pub use leftover::Leftovers;
 use lock::PATIENCE;
 pub use standard::Results;
 use target::Target;
@@ -61,6 +62,16 @@ impl Output {
 
     /// Puts the bytes there.
     pub fn put(self, bytes: &[u8], content: Content) -> Result<(), Failure> {
+        self.put_among(bytes, content, &mut Leftovers::default())
+    }
+
+    /// Puts the bytes there, as one of many files.
+    pub fn put_among(
+        self,
+        bytes: &[u8],
+        content: Content,
+        leftovers: &mut Leftovers,
+    ) -> Result<(), Failure> {
         if content == Content::Picture {
             if let Err(refusal) = calls::check(bytes) {
                 let name = self.target.map_or("standard output".into(), |t| t.name);
@@ -70,7 +81,7 @@ impl Output {
             }
         }
         match self.target {
-            Some(target) => target.put(bytes),
+            Some(target) => target.put(bytes, leftovers),
             None => {
                 let mut results = Results::open()?;
                 results.put(bytes)?;

@@ -155,3 +155,27 @@ fn words_are_kept() {
     let words = folder.run("expand d/small -o -").ended(0).out.clone();
     assert_eq!(words, support::files::raw(&SAMPLE));
 }
+
+#[test]
+fn what_killed_runs_left_over_of_these_files_is_removed() {
+    let folder = folder();
+    let left = [
+        "d/.m1.radar.radar-archive-1.tmp",
+        "d/sub/deep/.x.radar-archive-7-2.tmp",
+    ];
+    let others = [
+        "d/.other.radar-archive-1.tmp",
+        "d/.m1.radar.radar-archive-x.tmp",
+        "d/.short.radar-archive-1.tmp",
+    ];
+    for name in left.iter().chain(&others) {
+        folder.write(name, b"left over");
+    }
+    folder.run("best d --force").printed("");
+    for name in left {
+        assert!(!folder.path(name).exists(), "{name}");
+    }
+    for name in others {
+        assert_eq!(folder.read(name), b"left over", "{name}");
+    }
+}

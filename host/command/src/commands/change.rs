@@ -1,6 +1,6 @@
 //! `change`: the picture in another setting.
 
-use radar_archive::{Archive, Refusal};
+use radar_archive::{calls, Archive, Refusal};
 
 use crate::arguments::{Command, Given, Operands, Opt};
 use crate::commands::put_out;
@@ -45,15 +45,18 @@ fn run(given: &Given) -> Result<u8, Failure> {
     recode::run(given, &|file, archive| made(file, archive, asked))
 }
 
-/// Refuses a setting that no file can have, once for all files of a folder.
+/// Refuses a setting that no file can have, once for all files of a folder: the engine refuses it for a picture of one cell.
 fn allowed(given: &Given, numbers: [u32; 3]) -> Result<(), Failure> {
     let folder = &given.operands[0];
     let setting = put_out::setting(folder, numbers)?;
-    if setting.is_allowed() {
-        return Ok(());
+    let mut smallest = [0; 64];
+    match calls::make(setting, 1, &[1; 4], 0, &[0], &mut smallest) {
+        Err(refusal @ Refusal::Setting) => {
+            let message = refused::setting(refusal, setting);
+            Err(Failure::refused(folder, refusal, message))
+        }
+        _ => Ok(()),
     }
-    let message = refused::setting(Refusal::Setting, setting);
-    Err(Failure::refused(folder, Refusal::Setting, message))
 }
 
 /// The file in the setting that is asked for.

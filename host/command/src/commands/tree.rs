@@ -13,7 +13,7 @@ use crate::commands::recode::{wants_force, Made, Make};
 use crate::commands::walk::{Names, Walk};
 use crate::failure::{note, tell, Failure, DONE};
 use crate::input::Input;
-use crate::output::{Content, Folders, Output};
+use crate::output::{Content, Folders, Leftovers, Output};
 
 use below::Below;
 use plan::Step;
@@ -37,6 +37,7 @@ pub(super) fn run(given: &Given, names: Names, make: &Make<'_>) -> Result<u8, Fa
     let mut run = Run {
         make,
         made: None,
+        leftovers: Leftovers::default(),
         quiet: given.has(&Opt::QUIET),
         tally: Tally::after(Passed::of(&walk)),
     };
@@ -60,6 +61,7 @@ struct Run<'a> {
     make: &'a Make<'a>,
     /// The folder that `-o` names, made for the first file.
     made: Option<Folders>,
+    leftovers: Leftovers,
     quiet: bool,
     tally: Tally,
 }
@@ -74,7 +76,10 @@ impl Run<'_> {
                 if new.is_ok() && self.made.is_none() {
                     self.made = Some(below.make()?);
                 }
-                new.and_then(|new| below.put(path, &new.made.bytes).map(|()| new))
+                new.and_then(|new| {
+                    below.put(path, &new.made.bytes, &mut self.leftovers)?;
+                    Ok(new)
+                })
             }
             Step::Note(path, message) => {
                 self.note(path, message);
@@ -90,12 +95,12 @@ impl Run<'_> {
     }
 
     /// Replaces a file, which is locked before it is read. One whose bytes do not change is left as it is.
-    fn replaced<'a>(&self, path: &'a OsStr) -> Result<New<'a>, Failure> {
+    fn replaced<'a>(&mut self, path: &'a OsStr) -> Result<New<'a>, Failure> {
         let mut output = Output::look(path, true)?;
         output.lock()?;
         let new = self.new_of(path)?;
         if new.changed {
-            output.put(&new.made.bytes, Content::Picture)?;
+            output.put_among(&new.made.bytes, Content::Picture, &mut self.leftovers)?;
         }
         Ok(new)
     }

@@ -20,9 +20,10 @@ impl Folders {
 
     /// Makes a folder, and those above it.
     fn add(&mut self, path: &Path) -> io::Result<()> {
+        let folder = folder_of(path);
         match fs::create_dir(path) {
-            Err(error) if error.kind() == ErrorKind::NotFound && path.parent().is_some() => {
-                self.add(folder_of(path))?;
+            Err(error) if error.kind() == ErrorKind::NotFound && folder != path => {
+                self.add(folder)?;
                 fs::create_dir(path)?;
             }
             Err(error) if error.kind() == ErrorKind::AlreadyExists && path.is_dir() => {
@@ -31,7 +32,7 @@ impl Folders {
             made => made?,
         }
         self.0.push(path.to_owned());
-        synced(folder_of(path))
+        synced(folder)
     }
 }
 

@@ -9,7 +9,7 @@ use std::path::{Path, PathBuf};
 use std::time::Duration;
 
 use crate::failure::{reason, Failure};
-use crate::output::leftover;
+use crate::output::leftover::Leftovers;
 use crate::output::lock::{Lock, PATIENCE};
 use crate::output::temporary::{Kept, Temporary};
 use crate::shown;
@@ -105,10 +105,10 @@ impl Target {
     }
 
     /// Writes the bytes to a temporary file beside the target, and puts it in the target's place.
-    pub(super) fn put(mut self, bytes: &[u8]) -> Result<(), Failure> {
+    pub(super) fn put(mut self, bytes: &[u8], leftovers: &mut Leftovers) -> Result<(), Failure> {
         self.lock(PATIENCE)?;
         let name = self.path.file_name().unwrap_or(OsStr::new(""));
-        leftover::remove(self.folder(), name, self.lock.as_ref());
+        leftovers.remove(self.folder(), name, self.lock.as_ref());
         let mut temporary = Temporary::create(self.folder(), name, self.kept).map_err(|error| {
             let folder = shown::quoted(self.folder().as_os_str());
             self.failed(format!(
@@ -236,7 +236,7 @@ mod tests {
                        nothing was changed: try again when it has";
         assert_eq!(failure, Failure::file(&path, message));
         drop(other);
-        target.put(b"new").unwrap();
+        target.put(b"new", &mut Leftovers::default()).unwrap();
         assert_eq!(fs::read(&path).unwrap(), b"new");
         assert_eq!(folder.names(), ["a"]);
     }

@@ -9,7 +9,7 @@ use std::path::{Path, PathBuf};
 use crate::arguments::{Given, Opt};
 use crate::commands::tree::source::Source;
 use crate::failure::{reason, Failure};
-use crate::output::{Content, Folders, Output};
+use crate::output::{Content, Folders, Leftovers, Output};
 use crate::shown;
 
 /// The folder that `-o` names. It need not be there.
@@ -102,7 +102,12 @@ impl<'a> Below<'a> {
     }
 
     /// Puts the new file of a path, and makes the folders on the way to it.
-    pub(super) fn put(&self, path: &OsStr, bytes: &[u8]) -> Result<(), Failure> {
+    pub(super) fn put(
+        &self,
+        path: &OsStr,
+        bytes: &[u8],
+        leftovers: &mut Leftovers,
+    ) -> Result<(), Failure> {
         let target = self.target(path);
         let folder = target.parent().unwrap_or(self.name);
         let _made = Folders::make(folder).map_err(|error| {
@@ -113,7 +118,8 @@ impl<'a> Below<'a> {
                 format!("cannot be written: its folder {folder} {why}"),
             )
         })?;
-        Output::look(target.as_os_str(), self.force)?.put(bytes, Content::Picture)
+        let output = Output::look(target.as_os_str(), self.force)?;
+        output.put_among(bytes, Content::Picture, leftovers)
     }
 }
 
