@@ -144,3 +144,39 @@ fn a_folder_that_may_not_be_written() {
         ".\n./m1.radar\n./m2.radar\n./m4.radar\n./m5.radar\n./sub\n"
     );
 }
+
+#[test]
+fn in_place_a_folder_that_may_not_be_written() {
+    let folder = folder();
+    let bits = |name: &str, bits| {
+        fs::set_permissions(folder.path(name), PermissionsExt::from_mode(bits)).expect("bits");
+    };
+    bits("d", 0o777);
+    bits("d/sub", 0o555);
+    bits("d/sub/deep", 0o555);
+    let (before, x) = (paths(&folder, "d"), folder.state("d/sub/deep/x"));
+    let run = as_nobody(&folder, "best d --force --quiet");
+    run.failed("d/sub/deep/x: cannot be written: no file can be made in its folder 'd/sub/deep'");
+    let told = "7 files: 5 changed, 1 left as they were, 0 refused, 1 not read or written; ";
+    assert!(summary(&run).starts_with(told), "{}", run.story());
+    assert_eq!(run.notes().lines().count(), 2, "{}", run.story());
+    assert_eq!(folder.state("d/sub/deep/x"), x);
+    assert_eq!(folder.read("d/m5.radar"), best());
+    assert_eq!(paths(&folder, "d"), before);
+}
+
+#[test]
+fn runs_on_one_folder_at_the_same_time_take_turns() {
+    let folder = folder();
+    let before = paths(&folder, "d");
+    let script =
+        "for kind in 1 2 1 2 1 2; do radar-archive change d --kind $kind -qf & jobs+=($!); done; \
+                  for job in ${jobs[@]}; do wait $job; echo $?; done";
+    folder.bash(script).printed("0\n0\n0\n0\n0\n0\n");
+    folder.run("check --quiet d").quiet();
+    assert_eq!(paths(&folder, "d"), before);
+    let script = "for i in 1 2 3 4; do radar-archive best d -q -o out & jobs+=($!); done; \
+                  for job in ${jobs[@]}; do wait $job; done; radar-archive check -q out; ls -A out/sub/deep";
+    folder.bash(script).printed("x\n");
+    assert_eq!(paths(&folder, "out"), before);
+}

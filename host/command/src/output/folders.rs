@@ -18,21 +18,23 @@ impl Folders {
         Ok(made)
     }
 
-    /// Makes a folder, and those above it.
+    /// Makes a folder, and those above it. One that another run makes at the same time is there.
     fn add(&mut self, path: &Path) -> io::Result<()> {
         let folder = folder_of(path);
-        match fs::create_dir(path) {
-            Err(error) if error.kind() == ErrorKind::NotFound && folder != path => {
-                self.add(folder)?;
-                fs::create_dir(path)?;
-            }
-            Err(error) if error.kind() == ErrorKind::AlreadyExists && path.is_dir() => {
-                return Ok(());
-            }
-            made => made?,
+        let mut made = fs::create_dir(path);
+        let kind = made.as_ref().err().map(io::Error::kind);
+        if kind == Some(ErrorKind::NotFound) && folder != path {
+            self.add(folder)?;
+            made = fs::create_dir(path);
         }
-        self.0.push(path.to_owned());
-        synced(folder)
+        match made {
+            Ok(()) => {
+                self.0.push(path.to_owned());
+                synced(folder)
+            }
+            Err(error) if error.kind() == ErrorKind::AlreadyExists && path.is_dir() => Ok(()),
+            Err(error) => Err(error),
+        }
     }
 }
 
