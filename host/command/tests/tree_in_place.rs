@@ -126,19 +126,23 @@ fn without_force_and_output_nothing_is_done() {
 }
 
 #[test]
-fn a_file_that_another_call_holds_is_waited_for() {
+fn what_another_call_writes_meanwhile_is_not_lost() {
     let folder = folder();
+    let mut written = Picture::sample();
+    written.words[6] = 41;
+    folder.write("written", &written.file([2, 0, 0]));
     let script =
-        "exec 9<d/m1.radar; flock 9; radar-archive best d --force --quiet 9<&- & sleep 0.3; \
-                  cmp d/m1.radar old && echo old; exec 9<&-; wait $!; echo $?";
-    folder.write("old", &folder.read("d/m1.radar"));
+        "exec 9<d/m1.radar; flock 9; radar-archive best d --force --quiet 9<&- & sleep 0.5; \
+                  mv written d/m1.radar; exec 9<&-; wait $!; echo $?";
     let run = folder.bash(script);
     if run.notes().contains("flock") {
         eprintln!("no flock here: not tested");
         return;
     }
-    run.printed("old\n0\n");
-    assert_eq!(folder.read("d/m1.radar"), best());
+    run.printed("0\n");
+    folder.run("cell d/m1.radar --at 6").printed("41\n");
+    let best = folder.run("best d/m1.radar -o -").ended(0).out.clone();
+    assert_eq!(folder.read("d/m1.radar"), best);
 }
 
 #[test]

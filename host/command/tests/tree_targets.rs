@@ -93,6 +93,16 @@ fn the_folder_that_is_read_and_what_is_inside_are_refused() {
     assert_eq!(folder.read("d/new/deep/x"), best());
 }
 
+#[test]
+fn where_no_file_can_be_written_no_folder_stays() {
+    let folder = folder();
+    let names = folder.names();
+    let run = folder.bash("trap '' XFSZ; ulimit -f 0; exec radar-archive best d -o out");
+    run.failed("out/sub/deep/x: cannot be written: File too large");
+    assert!(summary(&run).contains(" 7 not read or written; 0 bytes before, 0 after"));
+    assert_eq!(folder.names(), names, "{}", run.story());
+}
+
 /// Runs a call as a user without any right of its own.
 fn as_nobody(folder: &Folder, call: &str) -> Outcome {
     let program = folder.path("program");
