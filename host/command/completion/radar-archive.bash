@@ -29,8 +29,8 @@ _radar_archive() {
             COMPREPLY=($(compgen -W "1 2" -- "$word"))
             return
             ;;
-        --at | --low | --high | --rank | --dims | --empty | --step | --max-length)
-            # A number or a place: no file names here.
+        --at | --low | --high | --rank | --dims | --empty | --step | --max-length | --name | --jobs | -j)
+            # A number, a place or a pattern: no file names here.
             compopt +o default 2>/dev/null
             return
             ;;
@@ -39,13 +39,13 @@ _radar_archive() {
             compopt +o default 2>/dev/null
             return
             ;;
-        -o | --output | --list | -m | --manifest)
+        -o | --output | --list | --files0-from | -m | --manifest)
             return
             ;;
     esac
 
     case ${COMP_WORDS[1]} in
-        check) options="--json --quiet -q --all --no-progress" ;;
+        check) options="--json --quiet -q --all --name --files0-from --jobs -j --no-progress" ;;
         info) options="--json" ;;
         list) options="" ;;
         cell) options="--at --hex --json" ;;
@@ -55,10 +55,10 @@ _radar_archive() {
         expand) options="--output -o --force -f" ;;
         make) options="--list --dims --empty --kind --width --step --output -o --force -f --max-length" ;;
         set) options="--at --word --output -o --force -f --max-length" ;;
-        change) options="--kind --width --step --output -o --force -f --max-length" ;;
+        change) options="--kind --width --step --output -o --force -f --max-length --name --all --quiet -q" ;;
         shorter) options="--json" ;;
         diff) options="--hex --json --quiet -q" ;;
-        best) options="--output -o --force -f --max-length" ;;
+        best) options="--output -o --force -f --max-length --name --all --quiet -q" ;;
         manifest) options="--output -o --force -f --manifest -m --quiet -q --json --all --no-progress" ;;
         completion)
             COMPREPLY=($(compgen -W "bash zsh fish --help" -- "$word"))

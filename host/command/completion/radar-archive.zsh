@@ -14,10 +14,10 @@ _radar-archive_commands() {
         'expand:all words, raw'
         'make:the file of raw words, or of what list prints'
         'set:a file with one cell written, or many'
-        'change:a file in another kind, width or step'
+        'change:a file, or each of a folder, in another kind, width or step'
         'shorter:the shorter of two files of one picture'
         'diff:the cells in which two pictures differ'
-        'best:a file in the kind, width and step that make it shortest'
+        'best:a file, or each of a folder, in the kind, width and step that make it shortest'
         'manifest:the sums of the files of a folder, written and compared'
         'completion:the completion script of a shell'
         'man:the man page'
@@ -32,15 +32,19 @@ _radar-archive_command() { # NAMES -- OPERANDS
         -h         '(- *)-h[show the help]'
         --help     '(- *)--help[show the help]'
         --json     '--json[put JSON]'
-        -q         '(-q --quiet)-q[tell only the files that are not accepted or unchanged; of diff nothing]'
-        --quiet    '(-q --quiet)--quiet[tell only the files that are not accepted or unchanged; of diff nothing]'
-        --all      '--all[take files whose names begin with a dot, too]'
+        -q         '(-q --quiet)-q[tell only what is not accepted, not unchanged, or failed; of diff nothing]'
+        --quiet    '(-q --quiet)--quiet[tell only what is not accepted, not unchanged, or failed; of diff nothing]'
+        --all      '--all[take names that begin with a dot, too]'
+        --name     '--name=[take only files of folders whose names match]:pattern: '
+        --files0-from '(*)--files0-from=[check the names in a file, each ended by a zero byte]:file:_files'
+        -j         '(-j --jobs)-j+[check so many files at a time]:number, 0 for the processors: '
+        --jobs     '(-j --jobs)--jobs=[check so many files at a time]:number, 0 for the processors: '
         --no-progress '--no-progress[draw no progress bar]'
         --hex      '--hex[words in hexadecimal]'
         -f         '(-f --force)-f[replace an existing file]'
         --force    '(-f --force)--force[replace an existing file]'
-        -o         '(-o --output)-o+[the file to write]:file:_files'
-        --output   '(-o --output)--output=[the file to write]:file:_files'
+        -o         '(-o --output)-o+[the file or folder to write]:file:_files'
+        --output   '(-o --output)--output=[the file or folder to write]:file:_files'
         -m         '(-m --manifest)-m+[the manifest to compare with]:file:_files'
         --manifest '(-m --manifest)--manifest=[the manifest to compare with]:file:_files'
         --at       '--at=[the place]:place, as 3,17,200 or @3163336: '
@@ -77,7 +81,7 @@ _radar-archive() {
     [[ $state == command ]] || return
 
     case $words[1] in
-        check) options=(--json -q --quiet --all --no-progress) operands=('*:file or folder:_files') ;;
+        check) options=(--json -q --quiet --all --name --files0-from -j --jobs --no-progress) operands=('*:file or folder:_files') ;;
         info) options=(--json) ;;
         list) options=() ;;
         cell) options=(--at --hex --json) ;;
@@ -87,10 +91,10 @@ _radar-archive() {
         expand) options=(-o --output -f --force) ;;
         make) options=(--list --dims --empty --kind --width --step -o --output -f --force --max-length) ;;
         set) options=(--at --word -o --output -f --force --max-length) ;;
-        change) options=(--kind --width --step -o --output -f --force --max-length) ;;
+        change) options=(--kind --width --step -o --output -f --force --max-length --name --all -q --quiet) operands=('1:file or folder:_files') ;;
         shorter) options=(--json) operands=('1:file:_files' '2:file:_files') ;;
         diff) options=(--hex --json -q --quiet) operands=('1:file:_files' '2:file:_files') ;;
-        best) options=(-o --output -f --force --max-length) ;;
+        best) options=(-o --output -f --force --max-length --name --all -q --quiet) operands=('1:file or folder:_files') ;;
         manifest) options=(-o --output -f --force -m --manifest -q --quiet --json --all --no-progress) operands=('1:what to do:(write verify)' '2:folder:_files -/') ;;
         completion) operands=('1:shell:(bash zsh fish)') ;;
         man) operands=() ;;

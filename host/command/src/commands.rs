@@ -9,17 +9,21 @@ mod completion;
 mod diff;
 mod expand;
 mod help;
+mod in_order;
 mod info;
 mod list;
 mod lookup;
 mod make;
 mod man;
 mod manifest;
+mod passed;
 mod position;
 mod put_out;
 mod rank;
+mod recode;
 mod set;
 mod shorter;
+mod tree;
 mod walk;
 
 #[cfg(test)]

@@ -90,7 +90,8 @@ pub fn contents(path: &OsStr, most: u64) -> Result<Contents, Failure> {
 pub fn unread(path: &OsStr, error: &io::Error) -> Failure {
     let why = match error.kind() {
         io::ErrorKind::IsADirectory => {
-            "it is a folder; name a file in it ('check' takes folders)".to_string()
+            "it is a folder; name a file in it ('check', 'best' and 'change' take folders)"
+                .to_string()
         }
         _ => reason(error),
     };

@@ -8,6 +8,8 @@
 pub mod arguments;
 pub mod commands;
 pub mod failure;
+#[allow(unsafe_code)]
+pub mod glob;
 pub mod help;
 pub mod input;
 pub mod json;

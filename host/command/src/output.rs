@@ -1,5 +1,6 @@
 //! Output: results on standard output, and files that are written whole or not at all.
 
+mod folders;
 mod leftover;
 #[allow(unsafe_code)]
 mod lock;
@@ -16,7 +17,8 @@ use radar_archive::calls;
 
 use crate::failure::Failure;
 
-pub use leftover::is_temporary;
+pub use folders::Folders;
+pub use leftover::{is_temporary, Leftovers};
 use lock::PATIENCE;
 pub use standard::Results;
 use target::Target;
@@ -67,6 +69,16 @@ impl Output {
 
     /// Puts the bytes there.
     pub fn put(self, bytes: &[u8], content: Content) -> Result<(), Failure> {
+        self.put_among(bytes, content, &mut Leftovers::default())
+    }
+
+    /// Puts the bytes there, as one of many files.
+    pub fn put_among(
+        self,
+        bytes: &[u8],
+        content: Content,
+        leftovers: &mut Leftovers,
+    ) -> Result<(), Failure> {
         if content == Content::Picture {
             if let Err(refusal) = calls::check(bytes) {
                 let name = self.target.map_or("standard output".into(), |t| t.name);
@@ -76,7 +88,7 @@ impl Output {
             }
         }
         match self.target {
-            Some(target) => target.put(bytes),
+            Some(target) => target.put(bytes, leftovers),
             None => {
                 let mut results = Results::open()?;
                 results.put(bytes)?;

@@ -146,7 +146,7 @@ fn a_folder_without_files_is_said_and_no_error() {
     folder.run("check outer").printed("");
     folder.run("check --quiet empty").printed("");
     folder.run("check --json empty").printed(
-        "{\"summary\":{\"files\":0,\"accepted\":0,\"refused\":0,\"unread\":0,\"hidden\":0}}\n",
+        "{\"summary\":{\"files\":0,\"accepted\":0,\"refused\":0,\"unread\":0,\"hidden\":0,\"unmatched\":0}}\n",
     );
 }
 

@@ -24,7 +24,7 @@ fn check_of_accepted_files() {
         assert_eq!(*line, Json::of(&expected), "{}", run.story());
     }
     let summary =
-        "{\"summary\":{\"files\":5,\"accepted\":5,\"refused\":0,\"unread\":0,\"hidden\":0}}";
+        "{\"summary\":{\"files\":5,\"accepted\":5,\"refused\":0,\"unread\":0,\"hidden\":0,\"unmatched\":0}}";
     assert_eq!(lines[5..], [Json::of(summary)], "{}", run.story());
 }
 
@@ -61,7 +61,7 @@ fn check_of_refused_files() {
         let plain = folder.run("check bad").text();
         assert!(plain.contains(message), "{plain}\n{}", run.story());
         let summary =
-            "{\"summary\":{\"files\":1,\"accepted\":0,\"refused\":1,\"unread\":0,\"hidden\":0}}";
+            "{\"summary\":{\"files\":1,\"accepted\":0,\"refused\":1,\"unread\":0,\"hidden\":0,\"unmatched\":0}}";
         assert_eq!(lines[1..], [Json::of(summary)], "{}", run.story());
     }
 }
@@ -78,7 +78,7 @@ fn check_of_files_that_cannot_be_read() {
     assert_eq!(*lines[1].at("accepted"), Json::Bool(false));
     assert!(!lines[1].at("error").text().is_empty());
     let summary =
-        "{\"summary\":{\"files\":3,\"accepted\":1,\"refused\":1,\"unread\":1,\"hidden\":0}}";
+        "{\"summary\":{\"files\":3,\"accepted\":1,\"refused\":1,\"unread\":1,\"hidden\":0,\"unmatched\":0}}";
     assert_eq!(lines[3], Json::of(summary), "{}", run.story());
 }
 
@@ -155,7 +155,7 @@ fn a_folder_with_hidden_names() {
     folder.write("d/c", &Picture::sample().file(SETTINGS[0]));
     let run = folder.run("check --json d");
     let summary =
-        "{\"summary\":{\"files\":1,\"accepted\":1,\"refused\":0,\"unread\":0,\"hidden\":2}}";
+        "{\"summary\":{\"files\":1,\"accepted\":1,\"refused\":0,\"unread\":0,\"hidden\":2,\"unmatched\":0}}";
     assert_eq!(
         run.ended(0).json_lines()[1],
         Json::of(summary),
@@ -164,7 +164,7 @@ fn a_folder_with_hidden_names() {
     );
     let run = folder.run("check --json --all d");
     let summary =
-        "{\"summary\":{\"files\":3,\"accepted\":1,\"refused\":2,\"unread\":0,\"hidden\":0}}";
+        "{\"summary\":{\"files\":3,\"accepted\":1,\"refused\":2,\"unread\":0,\"hidden\":0,\"unmatched\":0}}";
     assert_eq!(
         run.ended(1).json_lines()[3],
         Json::of(summary),
@@ -182,6 +182,6 @@ fn quiet_leaves_the_accepted_files_out() {
     assert_eq!(lines.len(), 2, "{}", run.story());
     assert_eq!(lines[0].at("path").text(), "bad");
     let summary =
-        "{\"summary\":{\"files\":3,\"accepted\":2,\"refused\":1,\"unread\":0,\"hidden\":0}}";
+        "{\"summary\":{\"files\":3,\"accepted\":2,\"refused\":1,\"unread\":0,\"hidden\":0,\"unmatched\":0}}";
     assert_eq!(lines[1], Json::of(summary));
 }

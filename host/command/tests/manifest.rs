@@ -226,7 +226,7 @@ fn check_says_a_manifest_and_does_not_check_it() {
     assert_eq!(run.ended(0).text().lines().count(), 5, "{}", run.story());
     assert!(run
         .notes()
-        .starts_with("d/MANIFEST.sha256: a manifest, not checked; "));
+        .starts_with("d/MANIFEST.sha256: a manifest, left alone; "));
     folder.run("check --quiet d").printed("").quiet();
     folder.run("check d/MANIFEST.sha256").ended(1);
 }

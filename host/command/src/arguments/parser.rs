@@ -104,7 +104,8 @@ impl Parser {
                 return self.next_as_value(option);
             }
             if rest[0] == b'=' {
-                let message = format!("write '-{letter} FILE' or '--{}=FILE'", option.long);
+                let (long, value) = (option.long, option.value.unwrap_or(""));
+                let message = format!("write '-{letter} {value}' or '--{long}={value}'");
                 return Err(self.usage(format!("{}: {message}", shown::quoted(word))));
             }
             return self.valued(option, OsString::from_vec(rest.to_vec()));

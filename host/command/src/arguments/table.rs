@@ -81,6 +81,16 @@ impl Opt {
     pub const QUIET: Opt = Opt::flag("quiet", Some('q'));
     /// `--all`.
     pub const ALL: Opt = Opt::flag("all", None);
+    /// `--name`.
+    pub const NAME: Opt = Opt::with("name", "GLOB");
+    /// `--files0-from`.
+    pub const FILES0_FROM: Opt = Opt::with("files0-from", "FILE");
+    /// `--jobs`, `-j`.
+    pub const JOBS: Opt = Opt {
+        long: "jobs",
+        short: Some('j'),
+        value: Some("N"),
+    };
     /// `--no-progress`.
     pub const NO_PROGRESS: Opt = Opt::flag("no-progress", None);
     /// `--hex`.

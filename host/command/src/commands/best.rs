@@ -1,31 +1,42 @@
 //! `best`: the picture in the setting whose file is shortest.
 
-use radar_archive::Setting;
+use radar_archive::{Archive, Setting};
 
 use crate::arguments::{Command, Given, Operands, Opt};
 use crate::commands::put_out;
-use crate::failure::{note, Failure};
+use crate::commands::recode::{self, Made};
+use crate::failure::Failure;
 use crate::input::Input;
 
 pub(super) static COMMAND: Command = Command {
     name: "best",
-    options: &[Opt::OUTPUT, Opt::FORCE, Opt::MAX_LENGTH],
-    operands: Operands::each(&["FILE"]),
+    options: &[
+        Opt::OUTPUT,
+        Opt::FORCE,
+        Opt::MAX_LENGTH,
+        Opt::NAME,
+        Opt::ALL,
+        Opt::QUIET,
+    ],
+    operands: Operands::each(&["FILE or DIR"]),
     help: include_str!("../help/best.txt"),
     run,
 };
 
 fn run(given: &Given) -> Result<u8, Failure> {
     let most = given.number(&Opt::MAX_LENGTH)?;
-    let output = put_out::output(given)?;
-    let file = Input::picture(&given.operands[0])?;
-    let archive = file.open()?;
+    recode::run(given, &|file, archive| made(file, archive, most))
+}
+
+/// The file in the shortest setting, and which that is.
+fn made(file: &Input, archive: &Archive<&[u8]>, most: Option<u32>) -> Result<Made, Failure> {
     let setting = archive.best().setting;
-    let changed = put_out::changed(&file, &archive, setting, most)?;
-    let status = put_out::put(output, &changed)?;
-    let message = told(archive.setting(), file.bytes.len(), setting, changed.len());
-    note(&file.path, &message);
-    Ok(status)
+    let bytes = put_out::changed(file, archive, setting, most)?;
+    let told = told(archive.setting(), file.bytes.len(), setting, bytes.len());
+    Ok(Made {
+        bytes,
+        told: Some(told),
+    })
 }
 
 /// Which setting was chosen, and both lengths.

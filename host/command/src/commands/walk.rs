@@ -1,12 +1,14 @@
 //! The files of a folder and its subfolders.
 
 use std::ffi::{OsStr, OsString};
-use std::fs;
+use std::fs::{self, Metadata};
 use std::io;
 use std::os::unix::ffi::OsStrExt;
 use std::path::{Path, PathBuf};
 
-use crate::failure::reason;
+use crate::arguments::{Given, Opt};
+use crate::failure::{reason, Failure};
+use crate::glob::Glob;
 
 /// Something met on the way.
 #[derive(Debug)]
@@ -21,20 +23,56 @@ pub(super) enum Found {
     Link(OsString),
 }
 
-/// All that is met, in order, and the hidden names passed over.
+/// Which names inside folders are taken. A file that is an operand itself always is.
+#[derive(Clone, Debug, Default, PartialEq, Eq)]
+pub(super) struct Names {
+    /// Whether hidden names are.
+    all: bool,
+    /// The pattern that the names of files match.
+    glob: Option<Glob>,
+}
+
+impl Names {
+    /// The names that `--all` and `--name` give.
+    pub(super) fn of(given: &Given) -> Result<Names, Failure> {
+        let glob = given.value(&Opt::NAME).map(Glob::of).transpose();
+        Ok(Names {
+            all: given.has(&Opt::ALL),
+            glob: glob.map_err(|wrong| given.bad_value(&Opt::NAME, &wrong))?,
+        })
+    }
+
+    /// Whether a file of this path is taken.
+    fn take(&self, path: &Path) -> bool {
+        let last = path.file_name().unwrap_or_default();
+        self.glob.as_ref().is_none_or(|glob| glob.matches(last))
+    }
+}
+
+impl From<bool> for Names {
+    /// All names, or those that are not hidden.
+    fn from(all: bool) -> Names {
+        Names { all, glob: None }
+    }
+}
+
+/// All that is met, in order, and how many names were passed over.
 #[derive(Debug, Default)]
 pub(super) struct Walk {
     pub(super) found: Vec<Found>,
+    /// The hidden names, whatever they are.
     pub(super) hidden: usize,
+    /// The files whose names do not match.
+    pub(super) unmatched: usize,
     files: usize,
-    all: bool,
+    names: Names,
 }
 
 impl Walk {
-    /// Goes through the operands. With `all`, hidden names are not passed over.
-    pub(super) fn through(operands: &[OsString], all: bool) -> Walk {
+    /// Goes through the operands, and takes these names; `true` stands for all, `false` for those that are not hidden.
+    pub(super) fn through(operands: &[OsString], names: impl Into<Names>) -> Walk {
         let mut walk = Walk {
-            all,
+            names: names.into(),
             ..Walk::default()
         };
         for operand in operands {
@@ -74,14 +112,19 @@ impl Walk {
         if kind.is_dir() {
             return self.names(path);
         }
-        let found = match fs::metadata(path) {
-            Ok(found) => found,
-            Err(error) => return self.unreadable(name, &error),
-        };
-        if found.is_dir() {
+        let followed = fs::metadata(path);
+        if followed.as_ref().is_ok_and(Metadata::is_dir) {
             self.found.push(Found::Link(name));
             return Vec::new();
         }
+        if !self.names.take(path) {
+            self.unmatched += 1;
+            return Vec::new();
+        }
+        let found = match followed {
+            Ok(found) => found,
+            Err(error) => return self.unreadable(name, &error),
+        };
         self.files += 1;
         self.found.push(if found.is_file() {
             Found::File(name)
@@ -102,7 +145,7 @@ impl Walk {
             Ok(names) => names,
             Err(error) => return self.unreadable(folder.as_os_str().to_owned(), &error),
         };
-        if !self.all {
+        if !self.names.all {
             let met = names.len();
             names.retain(|name| !name.as_bytes().starts_with(b"."));
             self.hidden += met - names.len();

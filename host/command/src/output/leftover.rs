@@ -1,30 +1,46 @@
 //! Temporary files that runs on a target left behind when they were killed.
 
-use std::ffi::OsStr;
+use std::collections::HashMap;
+use std::ffi::{OsStr, OsString};
 use std::fs::{self, File};
-use std::path::Path;
+use std::os::unix::ffi::OsStrExt;
+use std::path::{Path, PathBuf};
 
 use crate::output::lock::{lock, names, opened, Lock};
 use crate::output::temporary::{self, ENDING, MARK};
 
-/// Removes the temporary files of a target whose runs have ended. What cannot be removed is in nobody's way.
-///
-/// `held` is this run's lock on the target, of which a leftover may be a second name.
-pub(super) fn remove(folder: &Path, target: &OsStr, held: Option<&Lock>) {
-    let Ok(entries) = fs::read_dir(folder) else {
-        return;
-    };
-    for entry in entries.flatten() {
-        let name = entry.file_name();
-        if !is_temporary(&name, target) {
-            continue;
+/// The temporary files that stand in folders. Each folder is looked through once, however many files are written there.
+#[derive(Debug, Default)]
+pub struct Leftovers(HashMap<PathBuf, Vec<OsString>>);
+
+impl Leftovers {
+    /// Removes the temporary files of a target whose runs have ended. What cannot be removed is in nobody's way.
+    ///
+    /// `held` is this run's lock on the target, of which a leftover may be a second name.
+    pub(super) fn remove(&mut self, folder: &Path, target: &OsStr, held: Option<&Lock>) {
+        if !self.0.contains_key(folder) {
+            self.0.insert(folder.to_owned(), temporaries(folder));
         }
-        let path = folder.join(name);
-        let left = left(&path);
-        if left.is_some() || held.is_some_and(|held| held.is_of(&path)) {
-            let _ = fs::remove_file(&path);
+        let names = self.0.get(folder).into_iter().flatten();
+        for name in names.filter(|name| is_temporary(name, target)) {
+            let path = folder.join(name);
+            let left = left(&path);
+            if left.is_some() || held.is_some_and(|held| held.is_of(&path)) {
+                let _ = fs::remove_file(&path);
+            }
         }
     }
+}
+
+/// The names in a folder that may be those of temporary files.
+fn temporaries(folder: &Path) -> Vec<OsString> {
+    let Ok(entries) = fs::read_dir(folder) else {
+        return Vec::new();
+    };
+    let names = entries.flatten().map(|entry| entry.file_name());
+    names
+        .filter(|name| name.as_bytes().ends_with(ENDING.as_bytes()))
+        .collect()
 }
 
 /// Whether a name is that of a temporary file of this target, of any process.
@@ -86,7 +102,7 @@ mod tests {
         let temporary = Temporary::create(&folder.0, target, None).unwrap();
         fs::write(folder.0.join(".a.radar-archive-1-7.tmp"), b"left").unwrap();
         std::os::unix::fs::symlink("a", folder.0.join(".a.radar-archive-1-8.tmp")).unwrap();
-        remove(&folder.0, target, None);
+        Leftovers::default().remove(&folder.0, target, None);
         let name = temporary::name(target, std::process::id(), 0);
         let mut names = folder.names();
         names.sort();
@@ -102,7 +118,7 @@ mod tests {
         fs::write(&path, b"a").unwrap();
         fs::hard_link(&path, folder.0.join(second)).unwrap();
         let held = Lock::take(&path, std::time::Duration::ZERO).unwrap();
-        remove(&folder.0, OsStr::new("a"), held.as_ref());
+        Leftovers::default().remove(&folder.0, OsStr::new("a"), held.as_ref());
         assert_eq!(folder.names(), ["a"]);
         assert_eq!(fs::read(&path).unwrap(), b"a");
     }

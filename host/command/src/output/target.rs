@@ -9,7 +9,7 @@ use std::path::{Path, PathBuf};
 use std::time::Duration;
 
 use crate::failure::{reason, Failure};
-use crate::output::leftover;
+use crate::output::leftover::Leftovers;
 use crate::output::lock::{Lock, PATIENCE};
 use crate::output::temporary::{Kept, Temporary};
 use crate::shown;
@@ -97,10 +97,7 @@ impl Target {
 
     /// The folder that the target stands in.
     fn folder(&self) -> &Path {
-        match self.path.parent() {
-            Some(parent) if !parent.as_os_str().is_empty() => parent,
-            _ => Path::new("."),
-        }
+        folder_of(&self.path)
     }
 
     fn failed(&self, message: String) -> Failure {
@@ -108,10 +105,10 @@ impl Target {
     }
 
     /// Writes the bytes to a temporary file beside the target, and puts it in the target's place.
-    pub(super) fn put(mut self, bytes: &[u8]) -> Result<(), Failure> {
+    pub(super) fn put(mut self, bytes: &[u8], leftovers: &mut Leftovers) -> Result<(), Failure> {
         self.lock(PATIENCE)?;
         let name = self.path.file_name().unwrap_or(OsStr::new(""));
-        leftover::remove(self.folder(), name, self.lock.as_ref());
+        leftovers.remove(self.folder(), name, self.lock.as_ref());
         let mut temporary = Temporary::create(self.folder(), name, self.kept).map_err(|error| {
             let folder = shown::quoted(self.folder().as_os_str());
             self.failed(format!(
@@ -138,6 +135,14 @@ impl Target {
                 "is written, but its folder cannot be synced: {why}"
             ))
         })
+    }
+}
+
+/// The folder that a path's last name stands in.
+pub(super) fn folder_of(path: &Path) -> &Path {
+    match path.parent() {
+        Some(parent) if !parent.as_os_str().is_empty() => parent,
+        _ => Path::new("."),
     }
 }
 
@@ -202,7 +207,7 @@ fn unwritten(error: &io::Error, length: usize) -> String {
 }
 
 /// Makes a folder's entries last. A folder that may not be read, or a file system that has no such call, is left as it is.
-fn synced(folder: &Path) -> io::Result<()> {
+pub(super) fn synced(folder: &Path) -> io::Result<()> {
     let opened = match fs::File::open(folder) {
         Ok(opened) => opened,
         Err(error) if error.kind() == ErrorKind::PermissionDenied => return Ok(()),
@@ -231,7 +236,7 @@ mod tests {
                        nothing was changed: try again when it has";
         assert_eq!(failure, Failure::file(&path, message));
         drop(other);
-        target.put(b"new").unwrap();
+        target.put(b"new", &mut Leftovers::default()).unwrap();
         assert_eq!(fs::read(&path).unwrap(), b"new");
         assert_eq!(folder.names(), ["a"]);
     }

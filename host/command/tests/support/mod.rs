@@ -8,6 +8,7 @@ pub mod options;
 pub mod outcome;
 pub mod process;
 pub mod sums;
+pub mod trees;
 
 pub use folder::Folder;
 pub use outcome::Outcome;

@@ -7,7 +7,17 @@ pub type Command = (&'static str, &'static [&'static str]);
 pub const COMMANDS: [Command; 15] = [
     (
         "check",
-        &["--json", "-q", "--quiet", "--all", "--no-progress"],
+        &[
+            "--json",
+            "-q",
+            "--quiet",
+            "--all",
+            "--name",
+            "--files0-from",
+            "-j",
+            "--jobs",
+            "--no-progress",
+        ],
     ),
     ("info", &["--json"]),
     ("list", &[]),
@@ -60,11 +70,28 @@ pub const COMMANDS: [Command; 15] = [
             "-f",
             "--force",
             "--max-length",
+            "--name",
+            "--all",
+            "-q",
+            "--quiet",
         ],
     ),
     ("shorter", &["--json"]),
     ("diff", &["--hex", "--json", "-q", "--quiet"]),
-    ("best", &["-o", "--output", "-f", "--force", "--max-length"]),
+    (
+        "best",
+        &[
+            "-o",
+            "--output",
+            "-f",
+            "--force",
+            "--max-length",
+            "--name",
+            "--all",
+            "-q",
+            "--quiet",
+        ],
+    ),
     (
         "manifest",
         &[

@@ -1,6 +1,7 @@
 //! How many files came out how.
 
 use crate::commands::check::told::Told;
+use crate::commands::passed::{counted, Passed};
 use crate::failure::{DONE, FILE, REFUSED};
 use crate::json::Object;
 
@@ -10,7 +11,7 @@ pub(super) struct Tally {
     pub(super) accepted: usize,
     pub(super) refused: usize,
     pub(super) unread: usize,
-    pub(super) hidden: usize,
+    pub(super) passed: Passed,
 }
 
 impl Tally {
@@ -43,15 +44,10 @@ impl Tally {
             accepted,
             refused,
             unread,
-            hidden,
+            passed,
         } = self;
-        let files = self.files();
-        let files = format!("{files} {}", if files == 1 { "file" } else { "files" });
-        let passed = match hidden {
-            0 => String::new(),
-            1 => "; 1 hidden name passed over (--all checks it)".to_string(),
-            _ => format!("; {hidden} hidden names passed over (--all checks them)"),
-        };
+        let files = counted(self.files(), "file");
+        let passed = passed.sentence("checks");
         format!("{files}: {accepted} accepted, {refused} refused, {unread} not read{passed}")
     }
 
@@ -63,7 +59,8 @@ impl Tally {
             .number("accepted", self.accepted as u64)
             .number("refused", self.refused as u64)
             .number("unread", self.unread as u64)
-            .number("hidden", self.hidden as u64);
+            .number("hidden", self.passed.hidden as u64)
+            .number("unmatched", self.passed.unmatched as u64);
         let mut object = Object::new();
         object.object("summary", &counts);
         object

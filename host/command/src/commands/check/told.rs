@@ -2,8 +2,10 @@
 
 use std::ffi::OsStr;
 
-use radar_archive::{Archive, Fault};
+use radar_archive::{Archive, Dimensions, Fault, Setting};
 
+use crate::commands::manifest::is_manifest;
+use crate::failure::Failure;
 use crate::input::Input;
 use crate::json::Object;
 use crate::refused;
@@ -11,47 +13,57 @@ use crate::refused;
 /// What came out for one file.
 pub(super) enum Told<'a> {
     /// It is accepted.
-    Accepted {
-        path: &'a OsStr,
-        archive: Archive<&'a [u8]>,
-    },
+    Accepted { path: &'a OsStr, facts: Facts },
     /// It is refused.
     Refused {
         path: &'a OsStr,
         fault: Fault,
         /// Nothing for a file that is too long to be read.
         length: Option<usize>,
+        /// Whether it is a manifest.
+        manifest: bool,
     },
     /// It could not be read.
     Unread { path: &'a OsStr, message: String },
 }
 
 impl<'a> Told<'a> {
-    /// Checks a file.
-    pub(super) fn file(file: &'a Input) -> Told<'a> {
-        let path = &file.path;
-        match Archive::open(&file.bytes[..]) {
-            Ok(archive) => Told::Accepted { path, archive },
+    /// Reads and checks a file.
+    pub(super) fn file(path: &'a OsStr) -> Result<Told<'a>, Failure> {
+        let file = match Input::picture(path) {
+            Ok(file) => file,
+            Err(Failure::File { message, .. }) => return Ok(Told::unread(path, message)),
+            Err(Failure::Refused { fault, .. }) => {
+                return Ok(Told::Refused {
+                    path,
+                    fault,
+                    length: None,
+                    manifest: false,
+                })
+            }
+            Err(failure) => return Err(failure),
+        };
+        Ok(match Archive::open(&file.bytes[..]) {
+            Ok(archive) => Told::Accepted {
+                path,
+                facts: Facts::of(&archive),
+            },
             Err(fault) => Told::Refused {
                 path,
                 fault,
                 length: Some(file.bytes.len()),
+                manifest: is_manifest(&file.bytes),
             },
-        }
-    }
-
-    /// A file that is refused for its length, or for its header, and was not read on.
-    pub(super) fn too_long(path: &'a OsStr, fault: Fault) -> Told<'a> {
-        Told::Refused {
-            path,
-            fault,
-            length: None,
-        }
+        })
     }
 
     /// A file that could not be read.
     pub(super) fn unread(path: &'a OsStr, message: String) -> Told<'a> {
         Told::Unread { path, message }
+    }
+
+    pub(super) fn is_manifest(&self) -> bool {
+        matches!(self, Told::Refused { manifest: true, .. })
     }
 
     pub(super) fn is_accepted(&self) -> bool {
@@ -81,10 +93,9 @@ impl<'a> Told<'a> {
         object.path("path", self.path());
         object.truth("accepted", self.is_accepted());
         match self {
-            Told::Accepted { archive, .. } => {
+            Told::Accepted { facts, .. } => {
                 object.number("number", 0).text("word", "accepted");
-                facts(&mut object, archive);
-                object.number("length", archive.bytes().len() as u64);
+                facts.members(&mut object);
             }
             Told::Refused { fault, length, .. } => {
                 refused::members(&mut object, fault);
@@ -98,15 +109,39 @@ impl<'a> Told<'a> {
     }
 }
 
-/// Setting, dimensions, empty word and counts of a file.
-fn facts(object: &mut Object, archive: &Archive<&[u8]>) {
-    let (setting, dimensions) = (archive.setting(), archive.dimensions());
-    object
-        .number("kind", setting.kind.number().into())
-        .number("width", setting.width.into())
-        .number("step", setting.step.into())
-        .numbers("dimensions", dimensions.extents())
-        .number("cells", archive.cells().into())
-        .number("empty", archive.empty().into())
-        .number("stored", archive.stored_count().into());
+/// What the header of an accepted file says, and its length.
+#[derive(Clone, Copy, Debug, PartialEq, Eq)]
+pub(super) struct Facts {
+    setting: Setting,
+    dimensions: Dimensions,
+    cells: u32,
+    empty: u32,
+    stored: u32,
+    length: usize,
+}
+
+impl Facts {
+    fn of(archive: &Archive<&[u8]>) -> Facts {
+        Facts {
+            setting: archive.setting(),
+            dimensions: archive.dimensions(),
+            cells: archive.cells(),
+            empty: archive.empty(),
+            stored: archive.stored_count(),
+            length: archive.bytes().len(),
+        }
+    }
+
+    /// Puts them in an object.
+    fn members(&self, object: &mut Object) {
+        object
+            .number("kind", self.setting.kind.number().into())
+            .number("width", self.setting.width.into())
+            .number("step", self.setting.step.into())
+            .numbers("dimensions", self.dimensions.extents())
+            .number("cells", self.cells.into())
+            .number("empty", self.empty.into())
+            .number("stored", self.stored.into())
+            .number("length", self.length as u64);
+    }
 }

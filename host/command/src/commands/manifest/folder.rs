@@ -8,6 +8,7 @@ use std::path::{Path, PathBuf};
 
 use crate::commands::manifest::listed::Listed;
 use crate::commands::manifest::NAME;
+use crate::commands::passed::LINK;
 use crate::commands::walk::{Found, Walk};
 use crate::output::is_temporary;
 
@@ -55,8 +56,7 @@ impl Members {
                     continue;
                 }
                 Found::Link(path) => {
-                    let note = "a symbolic link to a folder, not followed";
-                    members.notes.push((path, note));
+                    members.notes.push((path, LINK));
                     continue;
                 }
             };
