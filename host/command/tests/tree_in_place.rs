@@ -183,3 +183,21 @@ fn what_killed_runs_left_over_of_these_files_is_removed() {
         assert_eq!(folder.read(name), b"left over", "{name}");
     }
 }
+
+#[test]
+fn a_manifest_is_left_alone() {
+    let folder = folder();
+    folder.run("manifest write d").printed("");
+    let manifest = folder.read("d/MANIFEST.sha256");
+    let note = "d/MANIFEST.sha256: a manifest, left alone; 'manifest verify' compares it\n";
+    for call in ["change d --kind 1 -o out", "change d --kind 1 --force"] {
+        let run = folder.run(call);
+        run.printed("");
+        assert!(run.notes().starts_with(note), "{}", run.story());
+        assert!(summary(&run).starts_with("7 files: "), "{}", run.story());
+    }
+    assert!(!folder.path("out/MANIFEST.sha256").exists());
+    assert_eq!(folder.read("d/MANIFEST.sha256"), manifest);
+    folder.run("manifest verify d").ended(0);
+    folder.run("best d --force --quiet").quiet();
+}

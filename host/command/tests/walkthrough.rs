@@ -62,7 +62,8 @@ fn it_prints_what_it_says() {
 fn it_shows_the_commands() {
     let steps = steps();
     let commands = [
-        "check", "info", "list", "cell", "make", "set", "change", "shorter", "best", "expand",
+        "check", "info", "list", "cell", "make", "set", "change", "shorter", "best", "diff",
+        "expand", "manifest",
     ];
     for command in commands {
         let call = format!("radar-archive {command} ");
