@@ -165,6 +165,17 @@ class Turns(unittest.TestCase):
             self.archive.save(self.path, replace=True)
         self.assertEqual((self.path.read_bytes(), self.names()), (bytes(self.archive), ["a.radar"]))
 
+    def test_no_file_any_more(self):
+        """What became a link or a pipe since it was looked at is neither followed nor waited for, and stays."""
+        link, pipe = self.folder / "link", self.folder / "pipe"
+        link.symlink_to("a.radar")
+        os.mkfifo(pipe)
+        with mock.patch("os.path.realpath", str), self.assertRaisesRegex(OSError, "cannot be locked .*; nothing was changed"):
+            self.archive.save(link, replace=True)
+        self.assertTrue(link.is_symlink() and self.path.read_bytes() == b"before")
+        result = python("-c", "import sys; from radar_archive.locking import _open; _open(sys.argv[1], 0)", pipe)
+        self.assertEqual((result.returncode, result.stderr), (0, ""))
+
     def test_let_go(self):
         """After a save and after one that failed, the file is locked by nobody and open nowhere."""
         descriptors = len(os.listdir("/proc/self/fd"))

@@ -15,7 +15,7 @@ _LONGEST_NAME = 255
 _TRIED = 1000
 
 #: The numbers at the end of a temporary file's name, and the largest that the command takes there.
-_NUMBERS = re.compile(r".*\.radar-archive-([0-9]{1,10})(?:-([0-9]{1,10}))?\.tmp", re.DOTALL)
+_NUMBERS = re.compile(r"\..*\.radar-archive-([0-9]{1,10})(?:-([0-9]{1,10}))?\.tmp", re.DOTALL)
 _LARGEST = 0xFFFFFFFF
 
 
