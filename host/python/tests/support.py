@@ -1,4 +1,5 @@
-"""What the tests share: the sample picture, settings and pictures by chance."""
+"""What the tests share: the sample picture, settings, pictures by chance, and other programs."""
+import contextlib
 import functools
 import importlib.metadata
 import importlib.util
@@ -62,3 +63,34 @@ def python(*arguments, **changed):
     variables = {**environment(), **changed}
     variables = {name: value for name, value in variables.items() if value is not None}
     return subprocess.run([sys.executable, *map(str, arguments)], env=variables, capture_output=True, text=True, timeout=120)
+
+
+#: A program that saves a picture of two cells, and stops when its temporary file is written until its input ends.
+STOPPED = """
+import os, sys
+import radar_archive
+
+sync = os.fsync
+
+def stop(descriptor):
+    os.fsync = sync
+    print("written", flush=True)
+    sys.stdin.read()
+    sync(descriptor)
+
+os.fsync = stop
+radar_archive.make([1, 2], kind=2).save(sys.argv[1], replace=True)
+"""
+
+
+@contextlib.contextmanager
+def stopped_save(path):
+    """Another process in the midst of a save, which replaces the file. `communicate` lets it end."""
+    command = [sys.executable, "-c", STOPPED, str(path)]
+    with subprocess.Popen(command, env=environment(), stdin=subprocess.PIPE, stdout=subprocess.PIPE, text=True) as child:
+        try:
+            if child.stdout.readline() != "written\n":
+                raise RuntimeError("the save did not come so far")
+            yield child
+        finally:
+            child.kill()

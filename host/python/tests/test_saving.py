@@ -74,6 +74,40 @@ class Saving(unittest.TestCase):
         self.archive.save(self.path, replace=True)
         self.assertEqual((self.path.stat().st_uid, self.path.stat().st_gid), (1234, 1234))
 
+    def test_group_alone(self):
+        """The group is kept also where the user may not give the file away, and the file is replaced where not even that may be."""
+        self.path.write_bytes(b"before")
+        for refused in ([os.getuid()], [os.getuid(), -1]):
+            given = []
+
+            def chown(descriptor, owner, group):
+                given.append((owner, group))
+                if owner in refused:
+                    raise PermissionError
+
+            with mock.patch("os.fchown", chown):
+                self.archive.save(self.path, replace=True)
+            group = self.path.stat().st_gid
+            self.assertEqual(given, [(os.getuid(), group), (-1, group)])
+            self.assertEqual((self.path.read_bytes(), self.names()), (bytes(self.archive), ["a.radar"]))
+
+    def test_never_more_open(self):
+        """The temporary file has no permission that the replaced file has not, from its beginning."""
+        self.path.write_bytes(b"before")
+        self.path.chmod(0o600)
+        create, modes = os.open, []
+
+        def seen(*arguments):
+            descriptor = create(*arguments)
+            modes.append(os.fstat(descriptor).st_mode & 0o777)
+            return descriptor
+
+        umask = os.umask(0)
+        self.addCleanup(os.umask, umask)
+        with mock.patch("os.open", seen):
+            self.archive.save(self.path, replace=True)
+        self.assertEqual(modes[:2], [0o600] * 2)  # the locked target, and the temporary file
+
     def test_over_itself(self):
         """A mapped file can be replaced by what came of it; what was opened stays as it was."""
         self.archive.save(self.path)
@@ -121,8 +155,11 @@ class Saving(unittest.TestCase):
         self.assertEqual({path.read_bytes() for path in (self.path, self.folder / "new.radar")}, {bytes(self.archive)})
 
     def test_no_file(self):
-        with self.assertRaises(FileNotFoundError):
-            self.archive.save(self.folder / "none" / "a.radar")
+        none = self.folder / "none" / "a.radar"
+        for replace in (False, True):
+            with self.assertRaisesRegex(FileNotFoundError, "no file can be made in its folder") as caught:
+                self.archive.save(none, replace=replace)
+            self.assertEqual(caught.exception.filename, str(none))
         with self.assertRaisesRegex(OSError, "not a plain file"):
             self.archive.save(self.folder, replace=True)
         with self.assertRaises(FileExistsError):

@@ -286,5 +286,10 @@ class Archive:
         return other if given(engine().ra_shorter(*self._lend(), *other._lend())) else self
 
     def save(self, path: str | os.PathLike[str], *, replace: bool = False) -> None:
-        """Writes the file, whole or not at all. A file that is there is a FileExistsError and stays, unless it may be replaced."""
+        """Writes the file, whole or not at all. A file that is there is a FileExistsError and stays, unless it may be replaced.
+
+        Saves, and calls of the command, that replace one file at the same time take turns; a turn that does not come within 30 seconds is a
+        TimeoutError. Only the save is protected: what others write to the file between your `open` and your `save` is lost, unless you and
+        they hold a lock of your own around both, on another file.
+        """
         saving.save(self.file, path, replace)

@@ -1,27 +1,31 @@
 """Files that are written whole or not at all."""
-import builtins
 import contextlib
 import errno
 import os
-import secrets
 import stat
+
+from radar_archive import locking
+from radar_archive.locking import Lockable
+from radar_archive.temporary import create, remove_left, removed
 
 
 def save(data: memoryview, path: str | os.PathLike[str], replace: bool) -> None:
-    """Puts bytes in a file by way of a temporary file beside it, synced before it takes the name."""
-    target = os.path.realpath(path)
-    there = _there(target, os.fspath(path), replace)
-    folder = os.path.dirname(target)
-    temporary = os.path.join(folder, f".radar-archive.{secrets.token_hex(8)}.part")
-    try:
-        _write(data, temporary, there)
-        if replace:
-            os.replace(temporary, target)
-        else:
-            _place(temporary, target, os.fspath(path))
-    finally:
-        _remove(temporary)
-    _sync_folder(folder, os.fspath(path))
+    """Puts bytes in a file by way of a temporary file beside it, synced before it takes the name. A file that is replaced is locked meanwhile."""
+    target, given = os.path.realpath(path), os.fspath(path)
+    _there(target, given, replace)
+    held = _locked(target, given) if replace else None
+    with held or contextlib.nullcontext():
+        there = _there(target, given, replace)
+        folder, name = os.path.split(target)
+        remove_left(folder, name, held)
+        temporary, file = _created(folder, name, given, there)
+        with removed(temporary, file):
+            _write(data, file, there)
+            if replace:
+                os.replace(temporary, target)
+            else:
+                _place(temporary, target, given)
+        _sync_folder(folder, given)
 
 
 def _there(target: str, path: str, replace: bool) -> os.stat_result | None:
@@ -41,17 +45,44 @@ def _exists(path: str) -> FileExistsError:
     return FileExistsError(errno.EEXIST, "exists; use replace=True to replace it", path)
 
 
-def _write(data: memoryview, temporary: str, there: os.stat_result | None) -> None:
+def _locked(target: str, path: str) -> Lockable | None:
+    """The file that is to be replaced, locked, or None where there is nothing to lock."""
+    try:
+        return locking.take(target)
+    except TimeoutError as error:
+        seconds = f"{locking.PATIENCE:g} seconds"
+        message = f"is being replaced by another program, which has not ended after {seconds}; nothing was changed: try again when it has"
+        raise OSError(error.errno, message, path) from None
+    except OSError as error:
+        message = f"cannot be locked ({error.strerror}); nothing was changed: save a new file and move it there"
+        raise OSError(error.errno, message, path) from None
+
+
+def _created(folder: str, name: str, path: str, there: os.stat_result | None) -> tuple[str, Lockable]:
+    """A new temporary file. One that replaces a file is never more open than that file."""
+    try:
+        return create(folder, name, 0o666 if there is None else there.st_mode & 0o777)
+    except OSError as error:
+        raise OSError(error.errno, f"cannot be written: no file can be made in its folder ({error.strerror})", path) from None
+
+
+def _write(data: memoryview, file: Lockable, there: os.stat_result | None) -> None:
     """Writes and syncs a new file. It has the permission bits of the file that it replaces and, where the user may set them, owner and group."""
-    descriptor = os.open(temporary, os.O_WRONLY | os.O_CREAT | os.O_EXCL | os.O_CLOEXEC, 0o666)
-    with builtins.open(descriptor, "wb") as stream:
-        if there is not None:
-            with contextlib.suppress(PermissionError):
-                os.fchown(descriptor, there.st_uid, there.st_gid)
-            os.fchmod(descriptor, stat.S_IMODE(there.st_mode))
-        stream.write(data)
-        stream.flush()
-        os.fsync(descriptor)
+    if there is not None:
+        _give(file.fileno(), there)
+        os.fchmod(file.fileno(), stat.S_IMODE(there.st_mode))
+    while data:
+        data = data[file.write(data) :]
+    os.fsync(file.fileno())
+
+
+def _give(descriptor: int, there: os.stat_result) -> None:
+    """Gives a file owner and group of another; the group alone where this user may not give it away, and nothing where not even that."""
+    try:
+        os.fchown(descriptor, there.st_uid, there.st_gid)
+    except OSError:
+        with contextlib.suppress(OSError):
+            os.fchown(descriptor, -1, there.st_gid)
 
 
 def _place(temporary: str, target: str, path: str) -> None:
@@ -66,12 +97,6 @@ def _place(temporary: str, target: str, path: str) -> None:
         if os.path.lexists(target):
             raise _exists(path) from None
         os.rename(temporary, target)
-
-
-def _remove(temporary: str) -> None:
-    """Removes the temporary file if it is still there."""
-    with contextlib.suppress(FileNotFoundError):
-        os.unlink(temporary)
 
 
 def _sync_folder(folder: str, path: str) -> None:
