@@ -5,9 +5,8 @@ mod support;
 use std::ffi::OsStr;
 use std::os::unix::ffi::OsStrExt;
 use std::os::unix::fs::{symlink, PermissionsExt};
-use std::process::Command;
 use support::files::{one_of_each, Picture, SETTINGS};
-use support::{process, Folder, WORDS};
+use support::{Folder, WORDS};
 
 /// The last line of standard error.
 fn summary(run: &support::Outcome) -> String {
@@ -194,13 +193,7 @@ fn an_unreadable_file_and_folder() {
         let none = PermissionsExt::from_mode(0o000);
         std::fs::set_permissions(folder.path(name), none).expect("permissions");
     }
-    let mut command = Command::new(folder.open_program());
-    command.args(["check", "d"]).current_dir(folder.path(""));
-    if process::is_root() {
-        use std::os::unix::process::CommandExt;
-        command.uid(65534).gid(65534);
-    }
-    let run = process::run(&mut command, None);
+    let run = folder.run_as_nobody("check d");
     run.failed("d/secret: cannot be read: ");
     run.failed("d/closed: cannot be read: ");
     assert_eq!(run.text(), "d/a: accepted\n", "{}", run.story());

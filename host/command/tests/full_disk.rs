@@ -5,8 +5,7 @@ mod support;
 use std::fs;
 use std::io::Write;
 use std::os::unix::fs::PermissionsExt;
-use std::os::unix::process::CommandExt;
-use std::process::{Command, Stdio};
+use std::process::Stdio;
 use std::thread::sleep;
 use std::time::Duration;
 use support::files::{raw, Picture, SAMPLE};
@@ -107,16 +106,6 @@ fn a_full_disk() {
     }
 }
 
-/// Runs a call as a user without any right of its own, by a copy of the program that everybody can reach.
-fn as_nobody(folder: &Folder, call: &str) -> support::Outcome {
-    let mut command = Command::new(folder.open_program());
-    command.args(call.split(' ')).current_dir(folder.path(""));
-    if process::is_root() {
-        command.uid(65534).gid(65534);
-    }
-    process::run(&mut command, None)
-}
-
 #[test]
 fn a_read_only_folder() {
     let folder = folder();
@@ -126,8 +115,12 @@ fn a_read_only_folder() {
     let bits = |bits| fs::set_permissions(folder.path("closed"), PermissionsExt::from_mode(bits));
     bits(0o555).expect("permissions");
     for call in WRITERS {
-        as_nobody(&folder, &format!("{call} -o closed/new")).failed("closed/new");
-        as_nobody(&folder, &format!("{call} --force -o closed/old")).failed("closed/old");
+        folder
+            .run_as_nobody(&format!("{call} -o closed/new"))
+            .failed("closed/new");
+        folder
+            .run_as_nobody(&format!("{call} --force -o closed/old"))
+            .failed("closed/old");
         assert_eq!(folder.state("closed/old"), state, "{call}");
         assert_eq!(
             fs::read_dir(folder.path("closed")).expect("it").count(),
@@ -136,7 +129,7 @@ fn a_read_only_folder() {
         );
     }
     bits(0o777).expect("permissions");
-    as_nobody(&folder, "best large -o closed/new").printed("");
+    folder.run_as_nobody("best large -o closed/new").printed("");
 }
 
 #[test]
@@ -149,7 +142,7 @@ fn an_input_without_the_right_to_read() {
     }
     for call in WRITERS {
         let input = if call.contains("raw") { "raw" } else { "large" };
-        let run = as_nobody(&folder, &format!("{call} -o open/new"));
+        let run = folder.run_as_nobody(&format!("{call} -o open/new"));
         run.failed(&format!("{input}: cannot be read: "));
         assert_eq!(
             fs::read_dir(folder.path("open")).expect("it").count(),

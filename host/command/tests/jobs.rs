@@ -4,10 +4,8 @@ mod support;
 
 use std::fs;
 use std::os::unix::fs::{symlink, PermissionsExt};
-use std::os::unix::process::CommandExt;
-use std::process::Command;
 use support::files::{damaged, Picture, SETTINGS};
-use support::{process, Folder, Outcome};
+use support::Folder;
 
 /// A folder `d` of a thousand files in ten subfolders: some damaged, some large, some that cannot be read.
 fn thousand() -> Folder {
@@ -34,42 +32,28 @@ fn thousand() -> Folder {
     folder
 }
 
-/// Runs a script as a user without any right of its own; the program is `./program` there.
-fn as_nobody(folder: &Folder, script: &str) -> Outcome {
-    let program = folder.path("program");
-    if !program.exists() {
-        fs::copy(support::PROGRAM, &program).expect("the program");
-    }
-    let mut command = Command::new("bash");
-    command.args(["-c", script]).current_dir(folder.path(""));
-    if process::is_root() {
-        command.uid(65534).gid(65534);
-    }
-    process::run(&mut command, None)
-}
-
 #[test]
 fn order_and_output_are_those_of_one() {
     let folder = thousand();
     for options in ["", "--json", "--quiet", "--name *[02468].radar"] {
         let call = format!("exec ./program check {options} d");
-        let one = as_nobody(&folder, &call);
-        let both = as_nobody(&folder, &format!("{call} 2>&1")).out;
+        let one = folder.bash_as_nobody(&call);
+        let both = folder.bash_as_nobody(&format!("{call} 2>&1")).out;
         let told = [&one.out[..], &one.err].concat();
         let denied = String::from_utf8_lossy(&told)
             .matches("Permission denied")
             .count();
         assert!(denied >= 20, "{}", one.ended(3).story());
         for jobs in ["-j 8", "-j 2", "--jobs=64", "-j0", "--jobs 1"] {
-            let many = as_nobody(&folder, &format!("{call} {jobs}"));
+            let many = folder.bash_as_nobody(&format!("{call} {jobs}"));
             assert_eq!(many.status, one.status, "{}", many.story());
             assert!(many.out == one.out, "{}", many.story());
             assert!(many.err == one.err, "{}", many.story());
-            let many = as_nobody(&folder, &format!("{call} {jobs} 2>&1"));
+            let many = folder.bash_as_nobody(&format!("{call} {jobs} 2>&1"));
             assert!(many.out == both, "lines in another order: {}", many.call);
         }
     }
-    let run = as_nobody(&folder, "exec ./program check -j 8 d");
+    let run = folder.bash_as_nobody("exec ./program check -j 8 d");
     let last = "960 files: 840 accepted, 40 refused, 80 not read\n";
     assert!(run.notes().ends_with(last), "{}", run.story());
 }
@@ -111,8 +95,8 @@ fn a_broken_pipe_ends_the_check() {
 #[test]
 fn where_no_thread_can_be_had_one_file_is_checked_at_a_time() {
     let folder = thousand();
-    let one = as_nobody(&folder, "exec ./program check d");
-    let none = as_nobody(&folder, "ulimit -u 1; exec ./program check -j 8 d");
+    let one = folder.bash_as_nobody("exec ./program check d");
+    let none = folder.bash_as_nobody("ulimit -u 1; exec ./program check -j 8 d");
     assert!(
         none.out == one.out && none.err == one.err,
         "{}",

@@ -8,19 +8,8 @@ use std::process::{Child, Stdio};
 use std::thread::sleep;
 use std::time::{Duration, Instant};
 use support::files::{Picture, SETTINGS};
-use support::sums::{fake, with_bin};
+use support::sums::{fake, folder, with_bin};
 use support::{process, Folder};
-
-/// A folder whose folder `d` has two files and a manifest, and an empty folder `bin`.
-fn folder() -> Folder {
-    let folder = Folder::new();
-    folder.folder("d");
-    folder.folder("bin");
-    folder.write("d/a", &Picture::sample().file(SETTINGS[0]));
-    folder.write("d/b", &Picture::sample().file(SETTINGS[4]));
-    folder.run("manifest write d").printed("");
-    folder
-}
 
 #[test]
 fn no_sha256sum() {

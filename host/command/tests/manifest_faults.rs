@@ -4,36 +4,7 @@ mod support;
 
 use std::fs;
 use std::os::unix::fs::PermissionsExt;
-use std::os::unix::process::CommandExt;
-use std::process::Command;
-use support::files::{Picture, SETTINGS};
-use support::sums::{fake, with_bin};
-use support::{process, Folder, Outcome};
-
-/// A folder whose folder `d` has two files and a manifest, and an empty folder `bin`.
-fn folder() -> Folder {
-    let folder = Folder::new();
-    folder.folder("d");
-    folder.folder("bin");
-    folder.write("d/a", &Picture::sample().file(SETTINGS[0]));
-    folder.write("d/b", &Picture::sample().file(SETTINGS[4]));
-    folder.run("manifest write d").printed("");
-    folder
-}
-
-/// Runs a call as a user without any right of its own, by a copy of the program that everybody can reach.
-fn as_nobody(folder: &Folder, call: &str) -> Outcome {
-    let program = folder.path("program");
-    if !program.exists() {
-        fs::copy(support::PROGRAM, &program).expect("the program");
-    }
-    let mut command = Command::new(program);
-    command.args(call.split(' ')).current_dir(folder.path(""));
-    if process::is_root() {
-        command.uid(65534).gid(65534);
-    }
-    process::run(&mut command, None)
-}
+use support::sums::{fake, folder, with_bin};
 
 #[test]
 fn an_unreadable_file_and_folder() {
@@ -47,15 +18,15 @@ fn an_unreadable_file_and_folder() {
         fs::set_permissions(folder.path(name), PermissionsExt::from_mode(bits)).expect("bits");
     };
     bits("open", 0o777);
-    as_nobody(&folder, "manifest verify -q d").quiet();
+    folder.run_as_nobody("manifest verify -q d").quiet();
     for closed in ["d/b", "d/closed"] {
         bits(closed, 0);
         let denied = format!("{closed}: cannot be read: Permission denied");
-        let run = as_nobody(&folder, "manifest write d -o open/new");
+        let run = folder.run_as_nobody("manifest write d -o open/new");
         run.failed(&denied);
         run.failed("open/new: not written: 1 of the names below the folder cannot be read");
         assert!(!folder.path("open/new").exists());
-        let run = as_nobody(&folder, "manifest verify -q d");
+        let run = folder.run_as_nobody("manifest verify -q d");
         run.failed(&denied);
         let none = run.notes().contains(" 0 missing, 0 new, ");
         assert!(none, "{}", run.story());

@@ -4,10 +4,8 @@ mod support;
 
 use std::fs;
 use std::os::unix::fs::{symlink, MetadataExt, PermissionsExt};
-use std::os::unix::process::CommandExt;
-use std::process::Command;
+use support::process;
 use support::trees::{best, folder, paths, summary};
-use support::{process, Folder, Outcome};
 
 #[test]
 fn a_run_that_fails_before_the_first_file_leaves_no_folder() {
@@ -103,20 +101,6 @@ fn where_no_file_can_be_written_no_folder_stays() {
     assert_eq!(folder.names(), names, "{}", run.story());
 }
 
-/// Runs a call as a user without any right of its own.
-fn as_nobody(folder: &Folder, call: &str) -> Outcome {
-    let program = folder.path("program");
-    if !program.exists() {
-        fs::copy(support::PROGRAM, &program).expect("the program");
-    }
-    let mut command = Command::new(program);
-    command.args(call.split(' ')).current_dir(folder.path(""));
-    if process::is_root() {
-        command.uid(65534).gid(65534);
-    }
-    process::run(&mut command, None)
-}
-
 #[test]
 fn a_folder_that_may_not_be_written() {
     let folder = folder();
@@ -129,10 +113,10 @@ fn a_folder_that_may_not_be_written() {
     bits("open", 0o777);
     bits("open/sub", 0o555);
     bits("d/m3.radar", 0o000);
-    let run = as_nobody(&folder, "best d -o closed/new");
+    let run = folder.run_as_nobody("best d -o closed/new");
     let notes = run.failed("closed/new: cannot be made: Permission denied");
     assert_eq!(notes.lines().count(), 1, "said once: {notes}");
-    let run = as_nobody(&folder, "best d -o closed");
+    let run = folder.run_as_nobody("best d -o closed");
     assert_eq!(
         run.ended(3)
             .notes()
@@ -140,7 +124,7 @@ fn a_folder_that_may_not_be_written() {
             .count(),
         6
     );
-    let run = as_nobody(&folder, "best d -o open");
+    let run = folder.run_as_nobody("best d -o open");
     run.failed("d/m3.radar: cannot be read: Permission denied");
     run.failed("open/sub/short: cannot be written: ");
     run.failed("open/sub/deep/x: cannot be written: its folder 'open/sub/deep' cannot be made: ");
@@ -165,7 +149,7 @@ fn in_place_a_folder_that_may_not_be_written() {
     bits("d/sub", 0o555);
     bits("d/sub/deep", 0o555);
     let (before, x) = (paths(&folder, "d"), folder.state("d/sub/deep/x"));
-    let run = as_nobody(&folder, "best d --force --quiet");
+    let run = folder.run_as_nobody("best d --force --quiet");
     run.failed("d/sub/deep/x: cannot be written: no file can be made in its folder 'd/sub/deep'");
     let told = "7 files: 5 changed, 1 left as they were, 0 refused, 1 not read or written; ";
     assert!(summary(&run).starts_with(told), "{}", run.story());

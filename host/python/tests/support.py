@@ -6,10 +6,13 @@ import importlib.util
 import os
 import subprocess
 import sys
+import tempfile
 import unittest
 from pathlib import Path
 
 import numpy as np
+
+from radar_archive import make
 
 PACKAGE = Path(__file__).resolve().parent.parent
 ROOT = PACKAGE.parent.parent
@@ -22,6 +25,20 @@ SAMPLE = np.array([0, 0, 7, 9, 0, 5, 0, 0, 0, 0, 300, 0], np.uint32)
 SETTINGS = [(1, 0, 0), (2, 0, 0), (3, 1, 1), (3, 1, 3), (3, 2, 255), (4, 1, 0), (4, 2, 0), (5, 0, 2), (5, 0, 64)]
 
 SHAPES = [(1,), (12,), (256,), (3, 4), (1, 7), (2, 3, 5), (4, 1, 6), (2, 3, 4, 5), (1, 1, 1, 1)]
+
+
+class InFolder(unittest.TestCase):
+    """A test in a folder of its own, with an archive that may be saved at `path`."""
+
+    def setUp(self):
+        folder = tempfile.TemporaryDirectory()
+        self.addCleanup(folder.cleanup)
+        self.folder = Path(folder.name)
+        self.path = self.folder / "a.radar"
+        self.archive = make(SAMPLE, kind="runs")
+
+    def names(self):
+        return sorted(os.listdir(self.folder))
 
 
 def keywords(setting):

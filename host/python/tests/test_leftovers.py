@@ -1,14 +1,12 @@
 """Temporary files that killed processes left behind. Those of the command are made here by hand, by the rules of its names."""
 import fcntl
 import os
-import tempfile
 import unittest
 from pathlib import Path
 from unittest import mock
 
-from support import SAMPLE, stopped_save
+from support import InFolder, stopped_save
 
-from radar_archive import make
 from radar_archive.temporary import is_temporary, name_of
 
 
@@ -40,17 +38,7 @@ class Names(unittest.TestCase):
         self.assertEqual([is_temporary(twice, target) for target in ("a", "a.radar-archive-1")], [False, True])
 
 
-class Leftovers(unittest.TestCase):
-    def setUp(self):
-        folder = tempfile.TemporaryDirectory()
-        self.addCleanup(folder.cleanup)
-        self.folder = Path(folder.name)
-        self.path = self.folder / "a.radar"
-        self.archive = make(SAMPLE, kind="runs")
-
-    def names(self):
-        return sorted(os.listdir(self.folder))
-
+class Leftovers(InFolder):
     def saved(self, replace):
         self.archive.save(self.path, replace=replace)
         self.assertEqual(self.path.read_bytes(), bytes(self.archive))

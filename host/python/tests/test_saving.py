@@ -2,28 +2,15 @@
 import contextlib
 import errno
 import os
-import tempfile
 import unittest
-from pathlib import Path
 from unittest import mock
 
-from support import SAMPLE
+from support import SAMPLE, InFolder
 
 import radar_archive
-from radar_archive import make
 
 
-class Saving(unittest.TestCase):
-    def setUp(self):
-        folder = tempfile.TemporaryDirectory()
-        self.addCleanup(folder.cleanup)
-        self.folder = Path(folder.name)
-        self.path = self.folder / "a.radar"
-        self.archive = make(SAMPLE, kind="runs")
-
-    def names(self):
-        return sorted(os.listdir(self.folder))
-
+class Saving(InFolder):
     def test_written(self):
         umask = os.umask(0o027)
         self.addCleanup(os.umask, umask)

@@ -3,14 +3,11 @@ import concurrent.futures
 import errno
 import fcntl
 import os
-import tempfile
 import threading
 import time
-import unittest
-from pathlib import Path
 from unittest import mock
 
-from support import SAMPLE, python, stopped_save
+from support import InFolder, python, stopped_save
 
 import radar_archive
 from radar_archive import make
@@ -44,17 +41,10 @@ finally:
 """
 
 
-class Turns(unittest.TestCase):
+class Turns(InFolder):
     def setUp(self):
-        folder = tempfile.TemporaryDirectory()
-        self.addCleanup(folder.cleanup)
-        self.folder = Path(folder.name)
-        self.path = self.folder / "a.radar"
+        super().setUp()
         self.path.write_bytes(b"before")
-        self.archive = make(SAMPLE, kind="runs")
-
-    def names(self):
-        return sorted(os.listdir(self.folder))
 
     def begun(self):
         """A save in a thread of its own, which waits."""

@@ -4,9 +4,13 @@ use super::{process, Outcome, PROGRAM, SAMPLES};
 use std::ffi::{OsStr, OsString};
 use std::fs;
 use std::os::unix::fs::{MetadataExt, PermissionsExt};
+use std::os::unix::process::CommandExt;
 use std::path::{Path, PathBuf};
 use std::process::Command;
 use std::sync::atomic::{AtomicU32, Ordering};
+
+/// A user, and a group, without any right of its own.
+const NOBODY: u32 = 65534;
 
 static NUMBER: AtomicU32 = AtomicU32::new(0);
 
@@ -81,15 +85,24 @@ impl Folder {
         (inode, self.read(name))
     }
 
-    /// A copy of the program in this folder, which everybody may run.
-    pub fn open_program(&self) -> PathBuf {
+    /// Runs a script of bash in this folder as a user without any right of its own; the program is `./program` there, a copy that everybody may run.
+    pub fn bash_as_nobody(&self, script: &str) -> Outcome {
         let program = self.path("program");
         if !program.exists() {
             fs::copy(PROGRAM, &program).expect("the program");
             let bits = PermissionsExt::from_mode(0o755);
             fs::set_permissions(&program, bits).expect("permissions");
         }
-        program
+        let mut command = self.bash_command(script);
+        if process::is_root() {
+            command.uid(NOBODY).gid(NOBODY);
+        }
+        process::run(&mut command, None)
+    }
+
+    /// Runs the program as that user, with arguments separated by one space.
+    pub fn run_as_nobody(&self, arguments: &str) -> Outcome {
+        self.bash_as_nobody(&format!("exec ./program {arguments}"))
     }
 
     /// The program, to be run in this folder.
