@@ -8,7 +8,8 @@ PUBLIC = {"archive": None, "opened": None, "lent_parts": None, "exports": None, 
 
 # `use Rattle.CRATE.specs.File.{a, b}`, in a crate of its own `Rattle.CRATE.specs.File`; `.. as x` in place of the names.
 USE = re.compile(r"^(?:ghost )?use Rattle·(\w+)(?:·\w+)?\.([\w.-]+?)(?:\.\{([^}]*)\}| as (\w+));?$", re.MULTILINE)
-FUNCTION = re.compile(r"^pub (?:extern \"C\" )?fn (\w+)(.*?)^\{", re.MULTILINE | re.DOTALL)
+PUBLIC_FUNCTION = r"^pub (?:extern \"C\" )?fn (\w+)"
+WITH_CONTRACT = re.compile(PUBLIC_FUNCTION + r"((?:(?!^\}).)*?)^\{", re.MULTILINE | re.DOTALL)  # up to the body, which begins a line
 WORD = re.compile(r"[^\s(){};,.⌜⌝λ]+")
 
 
@@ -25,9 +26,11 @@ def file_of(crate, module):
     return f"crates/{crate}/{'/'.join(parts)}.antt"
 
 
-def imports(text):
+def imports(text, file):
     """The imported names with their files, and the files that have a short name."""
     by_name, short = {}, {}
+    if len(USE.findall(text)) != len(re.findall(r"^.*\buse Rattle·", text, re.MULTILINE)):
+        raise Unfound(f"{file} has an import of another form than those that are followed")
     for crate, module, listed, other in USE.findall(text):
         if other:
             short[other] = file_of(crate, module)
@@ -50,7 +53,7 @@ class Closure:
 
     def follow(self, text, file, own=()):
         """Everything that a text cites by the imports and the declarations of its file."""
-        by_name, short = imports(self.tree.read(file))
+        by_name, short = imports(self.tree.read(file), file)
         for name in cited(text, by_name):
             self.reach(*by_name[name], file)
         for other in short:
@@ -87,10 +90,17 @@ def public_files(tree, crate):
 def public_contracts(tree):
     """File, name and contract of each public call."""
     for crate, only in PUBLIC.items():
+        missing = [name for name in sorted(only or ()) if not tree.has_function(crate, name)]
+        if missing:
+            raise Unfound(f"{missing[0]} is no function of {crate}")
         for path in public_files(tree, crate):
-            for name, head in FUNCTION.findall(tree.read(path)):
-                if only is None or name in only:
-                    yield path, name, head
+            heads = dict(WITH_CONTRACT.findall(tree.read(path)))
+            for name in re.findall(PUBLIC_FUNCTION, tree.read(path), re.MULTILINE):
+                if only is not None and name not in only:
+                    continue
+                if "ensures" not in heads.get(name, ""):
+                    raise Unfound(f"{path}: {name} has no contract")
+                yield path, name, heads[name]
 
 
 def files_cited(tree):

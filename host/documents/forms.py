@@ -1,26 +1,27 @@
 """The names in the text of a document. These forms are taken for a name of the tree, and nothing else is:
 
-    crates/PATH, host/PATH, docs/PATH, include/PATH, samples/PATH, .ci/PATH  a file or folder; `.antt` may be left out
+    crates/PATH, host/PATH, docs/PATH, include/PATH, samples/PATH, .ci/PATH  a file or folder; the ending of a file of crates/ may be left out
     `SOME_PAGE.md`                                                           a page of docs/, or at the top
     CRATE/specs/FILE, and so for proofs, src and must-fail                   the same, of crates/
     `CRATE/NAME`                                                             a must-fail edit of the crate
-    `CRATE::MODULE::NAME`, `CRATE::NAME`                                     a function, type, constant or module, by its path
+    `CRATE::MODULE::NAME`, `CRATE::NAME`                                     a function, type, constant or module, by its path; not those of HOST
     CRATE: `NAME`, `NAME` and `NAME`                                         functions of the crate; `FILE.NAME` a law of its proofs/
     `NAME`, `NAME` and `NAME` of CRATE, of `CRATE` or of `CRATE::MODULE`     functions of the crate, or of the module; so `NAME` (crate CRATE)
     `NAME` and `NAME` (crates/PATH), `NAME` in crates/PATH                   declared in that file or folder; of crates/CRATE a function
     `NAME` and `NAME` (FILE)                                                 declared in a file of that name, where a crate has one
     (CRATE: FILE, FILE)                                                      files of the crate's specs/
     the law `NAME`, the laws `NAME` and `NAME`, the record `NAME`            declared somewhere
-    `FILE.NAME`                                                              declared in a file of that name; `RECORD.FIELD` in one file
+    `FILE.NAME`, `RECORD.FIELD`, where there is such a file or record        declared in a file of that name; both in one file
     | CRATE | .. specs/FILE, FILE ..                                         in a table's row: files of that crate
     | File of CRATE/specs | over a column                                    files of that folder
-    `some_name`, `someName`                                                  on the engine's pages: declared somewhere, or in the C header
+    `some_name`, `some-name`, `someName`, `SomeName`                         on the engine's pages: declared somewhere, in the C header, a folder of host/
 """
 import re
 
 from markdown import Prose, tables
 from tree import ITEM
 
+HOST = ("std", "core", "radar_archive")  # crates of Rust, and of host/
 ENGINE = ("docs/ARCHITECTURE.md", "docs/DEMAND3.md", "docs/TRACE.md", "docs/TRUST.md")
 
 LIST = r"`[^`\n]+`(?:(?:, and |, | and )`[^`\n]+`)*"
@@ -35,7 +36,7 @@ def listed(text):
 
 def paths(tree, prose):
     for line, match in prose.found(PATH):
-        if not (tree.exists(match[0]) or tree.exists(match[0] + ".antt")):
+        if not tree.holds(match[0]):
             yield line, f"{match[0]} is not there"
     for line, match in prose.found(r"`([A-Z0-9_]+\.md)`"):
         if not (tree.exists("docs/" + match[1]) or tree.exists(match[1])):
@@ -44,7 +45,7 @@ def paths(tree, prose):
 
 def short_paths(tree, prose):
     for line, match in prose.found(r"(?<![\w/.-])(\w+)/((?:specs|proofs|src|must-fail)(?:/\w+)*)"):
-        if match[1] in tree.crates() and not tree.holds(match[1], *match[2].rpartition("/")[::2]):
+        if match[1] in tree.crates() and not tree.holds("crates/" + match[0]):
             yield line, f"crates/{match[0]} is not there"
     for line, match in prose.found(r"`(\w+)/(\w+)`"):
         if match[1] in tree.crates() and not tree.has_edit(match[1], match[2]):
@@ -54,6 +55,8 @@ def short_paths(tree, prose):
 def by_path(tree, prose):
     for line, match in prose.found(r"`([a-z]\w*)((?:::\w+)+)`"):
         parts = tuple(match[2].split("::")[1:])
+        if match[1] in HOST:
+            continue
         if match[1] not in tree.crates():
             yield line, f"{match[1]} is no crate"
         elif parts not in tree.items(match[1]):
@@ -94,8 +97,10 @@ def placed(tree, prose):
 def stands(tree, path, name):
     """A function of crates/CRATE or of a source; elsewhere a name, `FILE.NAME` or `RECORD.FIELD` that a file or folder declares."""
     _, crate, *inner = path.split("/")
-    if not inner or inner[0] == "src":
-        return tree.has_function(crate, name) if path.count("/") < 3 else name in ITEM.findall(tree.read(path))
+    if path.endswith(".rt"):
+        return tree.exists(path) and name in ITEM.findall(tree.read(path))
+    if inner in ([], ["src"]):
+        return tree.has_function(crate, name)
     file = path if tree.exists(path) else path + ".antt"
     return tree.exists(file) and tree.declares(file, name.removeprefix(inner[-1].removesuffix(".antt") + "."))
 
@@ -127,39 +132,35 @@ def called_law(tree, prose):
 
 def dotted(tree, prose):
     for line, match in prose.found(rf"`({FILE})\.([a-zA-Z][\w-]*)`"):
-        if match[2] in ("antt", "md", "rt"):
-            continue
         files = named(tree, match[1])
-        if not (any(tree.declares(file, match[2]) for file in files) or tree_has(tree, match[0][1:-1])):
+        if match[2] == "antt" or not (files or tree.declares("crates", match[1])):
+            continue
+        if not (any(tree.declares(file, match[2]) for file in files) or tree.declares("crates", match[0][1:-1])):
             yield line, f"{match[0]} is declared nowhere"
-
-
-def tree_has(tree, name):
-    return any(tree.declares(path, name) for path in tree.files("crates", ".antt"))
 
 
 def rows_of_files(tree, text):
     for head, rows in tables(text):
-        folder = re.fullmatch(r"File of (\w+)/(\w+)", head[0])
+        folder = re.fullmatch(r"File of (\w+/\w+)", head[0])
         for line, cells in rows:
             if folder:
-                said = [(folder[1], folder[2], file) for file in cells[0].split(", ")]
+                said = [f"crates/{folder[1]}/{file}" for file in cells[0].split(", ")]
             else:
-                said = [file for cell in cells[1:] for chunk in cell.split("; ") for file in files_in(tree, cells[0], chunk)]
-            yield from ((line, f"crates/{crate}/{inner} has no {file}") for crate, inner, file in said if not tree.holds(crate, inner, file))
+                said = [path for cell in cells[1:] for chunk in cell.split("; ") for path in files_in(tree, cells[0], chunk)]
+            yield from ((line, f"{path} is not there") for path in said if not tree.holds(path))
 
 
 def files_in(tree, first, chunk):
-    """Crate, folder and file of each that `specs/FILE, FILE` names; the crate is that before a colon, or the one that the row's first cell begins with."""
+    """The paths that `specs/FILE, FILE` names; the crate is that before a colon, or the one that the row's first cell begins with."""
     crate = (re.match(r"(\w+): ", chunk) or re.match(r"(\w*)", first))[1]
     if crate in tree.crates():
         for folder, files in re.findall(r"(?<![\w/])(specs|proofs|src)/([\w.]+(?:, [\w.]+(?![\w./]))*)", chunk):
-            yield from ((crate, folder, file) for file in files.split(", "))
+            yield from (f"crates/{crate}/{folder}/{file}" for file in files.split(", "))
 
 
 def somewhere(tree, prose):
-    for line, match in prose.found(r"`([a-z][a-z0-9]*(?:_|[A-Z])\w*)`"):
-        if match[1] not in tree.everything():
+    for line, match in prose.found(r"`([A-Z]\w+|[a-z][a-z0-9]*(?:[_-]|[A-Z])[\w-]*)`"):
+        if not (match[1] in tree.everything() or tree.exists("host/" + match[1])):
             yield line, f"{match[1]} is declared nowhere"
 
 

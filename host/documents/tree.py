@@ -7,7 +7,7 @@ TOP = Path(__file__).resolve().parents[2]
 
 # A declaration in specs/ or proofs/: `pub record NAME ..`, `abbrev pub NAME : ..`, a field or a constructor `pub NAME : ..`.
 DECLARED = re.compile(r"( *)(?:(?:unfoldable|abbrev|pub|opaque) )*(?:(?:record|data) ([^\s(:]+)|([^\s(){}:=]+)(?: \{[^}]*\})* :(?= |$))")
-# What a source declares, at any depth of its text that begins a line.
+# What a source declares: it begins a line.
 ITEM = re.compile(r"^(?:pub )?(?:extern \"C\" )?(?:fn|struct|enum|const|type|mod) (\w+)", re.MULTILINE)
 
 
@@ -72,9 +72,9 @@ class Tree:
             found |= {(*module, name) for name in ITEM.findall(self.read(path))}
         return found
 
-    def holds(self, crate, folder, file):
-        """Whether a folder of a crate has a file, its ending left out or not."""
-        return any(self.exists(f"crates/{crate}/{folder}/{file}{ending}") for ending in ("", ".antt", ".rt", ".edit"))
+    def holds(self, path):
+        """Whether there is such a file or folder, a file's ending left out or not."""
+        return any(self.exists(path + ending) for ending in ("", ".antt", ".rt", ".edit"))
 
     def has_function(self, crate, name):
         return any(item[-1] == name for item in self.items(crate))
@@ -83,10 +83,11 @@ class Tree:
         return self.exists(f"crates/{crate}/must-fail/{name}.edit")
 
     def everything(self):
-        """Every name that some crate declares, in whatever folder, the crates' own among them, and every word of the C header."""
+        """Every name that some crate declares, in whatever folder, or imports of the language's library; the crates' own; every word of the C header."""
         found = set(self.crates()) | set(re.findall(r"\w+", self.read("include/radar_archive.h")))
         for crate in self.crates():
             found |= {part for item in self.items(crate) for part in item}
         for path in self.files("crates", ".antt"):
             found |= {path.split("/")[-1].removesuffix(".antt"), *self.declared(path)}
+            found |= {name.strip() for names in re.findall(r"^use (?!Rattle·).*\{(.*)\}", self.read(path), re.MULTILINE) for name in names.split(",")}
         return found | {path.split("/")[-1].removesuffix(".edit") for path in self.files("crates", ".edit")}
