@@ -1,5 +1,6 @@
 -- Entries and sizes.
 pub mod Reading
+pub mod Shares
 pub mod LevelSizes
 pub mod Cutting
 pub mod Bounded
