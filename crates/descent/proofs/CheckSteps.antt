@@ -1,21 +1,21 @@
--- One step of the walk along a page, and of the descent to the page below. Assumes nothing.
+-- One step along a page, and of the descent to the page below. Assumes nothing.
 use Prim.Native.Nat.{ℕ, zero, suc, _+_, _-_, _*_, _^_, _≤_, _<_, min}
 use mathlib.Core.Path.{_≡_, refl, sym, ap, ap₂, _∙_}
-use mathlib.Core.Bool.{Bool, true, false}
+use mathlib.Core.Bool.{Bool}
 use mathlib.Core.List.{List, [], _∷_}
 use native.Mathlib.Nat.{sub-zero, zero-sub, lt-of-not-le, mul-le-mul}
 use native.Mathlib.Decide.{decLe}
-use native.Mathlib.Numerals.{add-one}
 use native.Mathlib.Omega.{arith}
-use lib.ListN.{length, take, drop, getD, length-take}
-use lib.Seq.{drop-drop, drop-cons, take-take, take-all, take-nil}
-use lib.Dec.{ltb}
-use borrow.Author.Tests.{lt-ltb, le-ltb}
+use lib.ListN.{length, take, drop, getD, length-take, length-drop}
+use lib.Seq.{drop-drop, length-take-le, take-take, take-all, take-nil, getD-take, getD-drop}
+use lib.Dec.{leb, ltb}
+use borrow.Author.Tests.{lt-ltb, le-ltb, le-leb}
+use Rattle.format.specs.Tools.{pick}
 use Rattle.format.specs.Runs.{Span}
-use Rattle.format.specs.PagedRuns.{none, Place, lost, at, walkFrom, stepDown, through}
+use Rattle.format.specs.PagedRuns.{none, Place, lost, at}
 use Rattle.laws.proofs.Tools.{cases}
 use Rattle.levels.specs.Levels.{entries, cut}
-use Rattle.descent.specs.Descent.{counted, ofEmpty, nowhere, answered, descended, walked, PageFits, LevelsFit}
+use Rattle.descent.specs.Descent.{sub32, counted, ofEmpty, nowhere, answered, passed, leftOf, placeAfter, pageDown, levelsDown, descended, pageAt, walked, PageFits, LevelsFit}
 use Rattle.levels.proofs.Reading.{length-entries}
 
 -- ---- places that differ in sums of cells only
@@ -26,17 +26,16 @@ Like lost (at i p a x) = ⊥
 Like (at i p a x) lost = ⊥
 Like (at i p a x) (at j q c y) = (i ≡ j) × (p ≡ q) × (a .empty ≡ c .empty) × (x .empty ≡ y .empty)
 
-walk-like : (m : Span → ℕ) (i p : ℕ) (a d c : Span) (ys : List Span) → a .empty ≡ d .empty → Like (walkFrom m i p a c ys) (walkFrom m i p d c ys)
-unfolding walkFrom
-walk-like m i p a d c [] h = tt
-walk-like m i p a d c (y ∷ ys) h =
-    cases (ltb p (m y)) (λ e. rw e (refl, refl, ap (λ (z : ℕ). z + c .empty) h, refl)) (λ e. rw e (walk-like m (suc i) p a d y ys h))
+after-like : (m : Span → ℕ) (i p : ℕ) (a d : Span) (ys : List Span) (k : ℕ) → a .empty ≡ d .empty → Like (placeAfter m i p a ys k) (placeAfter m i p d ys k)
+unfolding placeAfter
+after-like m i p a d ys k h =
+    cases (ltb k (length ys)) (λ e. rw e (refl, refl, ap (λ (z : ℕ). z + leftOf ys k .empty) h, refl)) (λ e. rw e tt)
 
-step-like : (m : Span → ℕ) (b : ℕ) (ys : List Span) (q r : Place) → Like q r → Like (stepDown m b ys q) (stepDown m b ys r)
+step-like : (m : Span → ℕ) (b : ℕ) (ys : List Span) (q r : Place) → Like q r → Like (pageDown m b ys q) (pageDown m b ys r)
 step-like m b ys lost lost h = tt
 step-like m b ys lost (at i p a x) h = absurd h
 step-like m b ys (at i p a x) lost h = absurd h
-step-like m b ys (at i p a x) (at j q c y) h = rw (h .0, h .1) (walk-like m (j * b) q a c none (take b (drop (j * b) ys)) (h .2))
+step-like m b ys (at i p a x) (at j q c y) h = rw (h .0, h .1) (after-like m (j * b) q a c (take b (drop (j * b) ys)) _ (h .2))
 
 answered-like : (s : Bool) (q r : Place) → Like q r → answered s q ≡ answered s r
 answered-like s lost lost h = refl
@@ -44,48 +43,49 @@ answered-like s lost (at i p a x) h = absurd h
 answered-like s (at i p a x) lost h = absurd h
 answered-like s (at i p a x) (at j q c y) h = rw (h .1, h .2, h .3)
 
-through-like : (m : Span → ℕ) (b : ℕ) (s : Bool) (ls : List (List Span)) (q r : Place) → Like q r → answered s (through m b ls q) ≡ answered s (through m b ls r)
-unfolding through
-through-like m b s [] q r h = answered-like s q r h
-through-like m b s (ys ∷ ls) q r h = through-like m b s ls (stepDown m b ys q) (stepDown m b ys r) (step-like m b ys q r h)
+levels-like : (m : Span → ℕ) (b : ℕ) (s : Bool) (ls : List (List Span)) (q r : Place) → Like q r
+    → answered s (levelsDown m b ls q) ≡ answered s (levelsDown m b ls r)
+unfolding levelsDown
+levels-like m b s [] q r h = answered-like s q r h
+levels-like m b s (ys ∷ ls) q r h = levels-like m b s ls (pageDown m b ys q) (pageDown m b ys r) (step-like m b ys q r h)
 
-through-lost : (m : Span → ℕ) (b : ℕ) (ls : List (List Span)) → through m b ls lost ≡ lost
-unfolding through
-through-lost m b [] = refl
-through-lost m b (ys ∷ ls) = through-lost m b ls
+levels-lost : (m : Span → ℕ) (b : ℕ) (ls : List (List Span)) → levelsDown m b ls lost ≡ lost
+unfolding levelsDown
+levels-lost m b [] = refl
+levels-lost m b (ys ∷ ls) = levels-lost m b ls
 
 -- ---- along a page
 
-module _ (es : List Span) (sizes : List ℕ) (step : ℕ) (stored : Bool) (level from entry before : ℕ) (c : Span) (p : ℕ) where
-  pub walk-end : (left : ℕ) → left ≡ 0 → answered stored (walked es sizes step stored level from entry left before c p) ≡ nowhere
-  unfolding walked descended walkFrom
-  walk-end zero e = rw (through-lost (counted stored) step (cut sizes level (drop (from + getD sizes level 0) es)))
-  walk-end (suc n) e = absurd (omega arith)
+-- the entry to the left of the one after k: kept, or zeros
+pub left-kept : (es : List Span) (number k : ℕ) (x : Span) → x ≡ getD es (number + (k - 1)) none
+    → record { cells = pick (leb 1 k) (x .cells) 0; empty = pick (leb 1 k) (x .empty) 0 } ≡ leftOf (drop number es) k
+left-kept es number zero x e = refl
+left-kept es number (suc k) x e =
+    let z : suc k - 1 ≡ k = omega arith in
+    rw (le-leb 1 (suc k) (omega arith)) (e ∙ rw z (sym (getD-drop number es k none)))
 
-  -- the first of the entries left
-  page-cons : (n : ℕ) → from + entry < length es
-      → take (suc n) (drop (from + entry) es) ≡ getD es (from + entry) none ∷ take n (drop (from + (entry + 1)) es)
-  page-cons n h =
-      let e : from + (entry + 1) ≡ suc (from + entry) = omega arith in
-      rw (drop-cons es (from + entry) none h, e)
+module _ (es : List Span) (sizes : List ℕ) (step : ℕ) (stored : Bool) (level from first left before p : ℕ) where
+  -- past all entries
+  pub walk-none : left ≤ passed (counted stored) p (pageAt es from first left) → answered stored (walked es sizes step stored level from first left before p) ≡ nowhere
+  unfolding walked descended placeAfter
+  walk-none h =
+      let l = length-take left (drop (from + first) es) in
+      rw (le-ltb (passed (counted stored) p (pageAt es from first left)) (length (pageAt es from first left)) (omega arith))
+      (rw (levels-lost (counted stored) step (cut sizes level (drop (from + getD sizes level 0) es))))
 
-  pub walk-here : (left : ℕ) (y : Span) → (left ≡ 0 → ⊥) → from + entry < length es → y ≡ getD es (from + entry) none → p < counted stored y
-      → answered stored (walked es sizes step stored level from entry left before c p)
-      ≡ answered stored (descended es sizes step stored level (from + getD sizes level 0)
-      (at entry (p - counted stored c) (ofEmpty (before + c .empty)) (ofEmpty (y .empty - c .empty))))
-  unfolding walked descended walkFrom
-  walk-here zero y n h e t = absurd (n refl)
-  walk-here (suc left) y n h e t =
-      rw (page-cons left h, ← e, lt-ltb p (counted stored y) t)
-      (through-like (counted stored) step stored (cut sizes level (drop (from + getD sizes level 0) es)) _ _ (refl, refl, refl, refl))
-
-  pub walk-on : (left : ℕ) (y : Span) → (left ≡ 0 → ⊥) → from + entry < length es → y ≡ getD es (from + entry) none → counted stored y ≤ p
-      → walked es sizes step stored level from entry left before c p ≡ walked es sizes step stored level from (entry + 1) (left - 1) before y p
-  unfolding walked walkFrom
-  walk-on zero y n h e t = absurd (n refl)
-  walk-on (suc left) y n h e t =
-      let d : suc left - 1 ≡ left = omega arith in
-      rw (page-cons left h, ← e, le-ltb p (counted stored y) t, d, add-one entry)
+  -- past k of them: c is the entry to the left of y
+  pub walk-here : (k : ℕ) (c y : Span) → k ≡ passed (counted stored) p (pageAt es from first left) → k < left → from + first + left ≤ length es
+      → c ≡ leftOf (drop (from + first) es) k → y ≡ getD es (from + first + k) none
+      → answered stored (descended es sizes step stored level (from + getD sizes level 0)
+      (at (first + k) (sub32 p (counted stored c)) (ofEmpty (before + c .empty)) (ofEmpty (y .empty - c .empty))))
+      ≡ answered stored (walked es sizes step stored level from first left before p)
+  unfolding walked descended placeAfter
+  walk-here k c y e h l f g =
+      let n : length (pageAt es from first left) ≡ left = length-take-le left (drop (from + first) es) (rw (length-drop (from + first) es) (omega arith)) in
+      let d : leftOf (pageAt es from first left) k ≡ c = getD-take (suc left) (none ∷ drop (from + first) es) k none (omega arith) ∙ sym f in
+      let z : getD (pageAt es from first left) k none ≡ y = getD-take left (drop (from + first) es) k none h ∙ getD-drop (from + first) es k none ∙ sym g in
+      rw (← e, n, lt-ltb k left h, d, z)
+      (levels-like (counted stored) step stored (cut sizes level (drop (from + getD sizes level 0) es)) _ _ (refl, refl, refl, refl))
 
 -- ---- to the page below
 
@@ -107,15 +107,15 @@ take-least b n l =
 
 module _ (es : List Span) (sizes : List ℕ) (step : ℕ) (stored : Bool) (from entry rest before : ℕ) (x : Span) where
   -- the lowest level, and above it, where the descent does not look at the entry's own pair
-  pub descent-leaf : (level : ℕ) → level ≡ 0
+  descent-leaf : (level : ℕ) → level ≡ 0
       → descended es sizes step stored level from (at entry rest (ofEmpty before) x) ≡ at entry rest (ofEmpty before) x
-  unfolding descended through
+  unfolding descended levelsDown
   descent-leaf zero e = refl
   descent-leaf (suc n) e = absurd (omega arith)
 
-  pub descent-any : (level : ℕ) → 1 ≤ level
+  descent-any : (level : ℕ) → 1 ≤ level
       → descended es sizes step stored level from (at entry rest (ofEmpty before) none) ≡ descended es sizes step stored level from (at entry rest (ofEmpty before) x)
-  unfolding descended through
+  unfolding descended levelsDown
   descent-any zero n = absurd (omega arith)
   descent-any (suc k) n = refl
 
@@ -127,21 +127,37 @@ module _ (es : List Span) (sizes : List ℕ) (step : ℕ) (stored : Bool) (from 
 
   pub descent-page : (level : ℕ) → 1 ≤ level
       → answered stored (descended es sizes step stored level from (at entry rest (ofEmpty before) x))
-      ≡ answered stored (walked es sizes step stored (level - 1) from (entry * step) (min step (getD sizes (level - 1) 0 - entry * step)) before none rest)
-  unfolding descended walked through
+      ≡ answered stored (walked es sizes step stored (level - 1) from (entry * step) (min step (getD sizes (level - 1) 0 - entry * step)) before rest)
+  unfolding descended walked levelsDown
   descent-page zero n = absurd (omega arith)
   descent-page (suc k) n =
       let d : suc k - 1 ≡ k = omega arith in
       rw d
       (ap₂ (λ (l : List Span) (r : List Span). answered stored
-      (through (counted stored) step (cut sizes k r) (walkFrom (counted stored) (entry * step) rest (ofEmpty before) none l)))
+      (levelsDown (counted stored) step (cut sizes k r) (placeAfter (counted stored) (entry * step) rest (ofEmpty before) l (passed (counted stored) rest l))))
       (page-below (getD sizes k 0)) (drop-drop (getD sizes k 0) from es))
 
--- ---- what a step asks
+-- ---- at the entry that is found, in the lowest level and above it
 
-pub none-counted : (stored : Bool) (p : ℕ) → counted stored none ≤ p
-none-counted true p = omega arith
-none-counted false p = omega arith
+module _ (es : List Span) (sizes : List ℕ) (step : ℕ) (stored : Bool) (level from first left before p k : ℕ) (c y : Span)
+    (e : k ≡ passed (counted stored) p (pageAt es from first left)) (h : k < left) (l : from + first + left ≤ length es)
+    (f : c ≡ leftOf (drop (from + first) es) k) (g : y ≡ getD es (from + first + k) none) where
+  pub found-leaf : level ≡ 0
+      → answered stored (at (first + k) (sub32 p (counted stored c)) (ofEmpty (before + c .empty)) (ofEmpty (y .empty - c .empty)))
+      ≡ answered stored (walked es sizes step stored level from first left before p)
+  found-leaf z =
+      ap (answered stored) (sym (descent-leaf es sizes step stored (from + getD sizes level 0) (first + k) _ _ _ level z))
+      ∙ walk-here es sizes step stored level from first left before p k c y e h l f g
+
+  pub found-below : 1 ≤ level
+      → answered stored (descended es sizes step stored level (from + getD sizes level 0)
+      (at (first + k) (sub32 p (counted stored c)) (ofEmpty (before + c .empty)) none))
+      ≡ answered stored (walked es sizes step stored level from first left before p)
+  found-below z =
+      ap (answered stored) (descent-any es sizes step stored (from + getD sizes level 0) (first + k) _ _ (ofEmpty (y .empty - c .empty)) level z)
+      ∙ walk-here es sizes step stored level from first left before p k c y e h l f g
+
+-- ---- what a step asks
 
 entry-small : (entry step : ℕ) → entry < 2 ^ 32 → step ≤ 64 → entry * step ≤ 2 ^ 38
 entry-small entry step h k = let l : entry ≤ 2 ^ 32 = omega arith in mul-le-mul l k
@@ -149,23 +165,17 @@ entry-small entry step h k = let l : entry ≤ 2 ^ 32 = omega arith in mul-le-mu
 pub first-fits : (entry step : ℕ) → entry < 2 ^ 32 → step ≤ 64 → entry * step < 2 ^ 64
 first-fits entry step h k = omega (arith, entry-small entry step h k)
 
-module _ (file : List ℕ) (start : ℕ) (sizes : List ℕ) (step level from entry before : ℕ) where
-  pub entry-in-file : (left : ℕ) → PageFits file start sizes step level from entry left before → (left ≡ 0 → ⊥) → start + 8 * (from + entry) + 8 ≤ length file
-  entry-in-file zero f n = absurd (n refl)
-  entry-in-file (suc left) f n = omega arith
+module _ (file : List ℕ) (start : ℕ) (sizes : List ℕ) (step level from first left before : ℕ) (f : PageFits file start sizes step level from first left before) where
+  pub page-inside : start + 8 * (from + first + left) ≤ length file
+  page-inside = omega (arith, f .inside, f .page)
 
-  pub page-down : (left e : ℕ) → PageFits file start sizes step level from entry left before → (left ≡ 0 → ⊥) → 1 ≤ level → getD sizes level 0 < 2 ^ 32
-      → e < 2 ^ 32
-      → LevelsFit file start sizes step level (from + getD sizes level 0) entry (before + e)
-  page-down zero e f n o h k = absurd (n refl)
-  page-down (suc left) e f n o h k =
-      record { inside = omega arith; number = omega arith; some = o; levels = omega arith; sum = omega arith; steps = omega arith }
+  pub page-entries : from + first + left ≤ length (entries start file)
+  page-entries = rw (length-entries start file) (omega (arith, page-inside))
 
-  pub page-on : (left : ℕ) → PageFits file start sizes step level from entry left before → (left ≡ 0 → ⊥)
-      → PageFits file start sizes step level from (entry + 1) (left - 1) before
-  page-on zero f n = absurd (n refl)
-  page-on (suc left) f n =
-      record { inside = omega arith; page = omega arith; levels = omega arith; sum = omega arith; steps = omega arith }
+  pub page-down : (k e : ℕ) → k < left → 1 ≤ level → getD sizes level 0 < 2 ^ 32 → e < 2 ^ 32
+      → LevelsFit file start sizes step level (from + getD sizes level 0) (first + k) (before + e)
+  page-down k e t o h g =
+      record { inside = omega arith; long = f .long; number = omega arith; some = o; levels = omega arith; sum = omega arith; steps = omega arith }
 
 pub page-fits : (file : List ℕ) (start : ℕ) (sizes : List ℕ) (step level from entry before : ℕ) → LevelsFit file start sizes step level from entry before
     → entry * step < getD sizes (level - 1) 0
@@ -177,69 +187,4 @@ page-fits file start sizes step (suc k) from entry before f h =
   where
     small : entry * step < getD sizes k 0 → PageFits file start sizes step k from (entry * step) (min step (getD sizes k 0 - entry * step)) before
     small h =
-        record { inside = omega arith; page = omega arith; levels = omega arith; sum = omega arith; steps = omega arith }
-
--- ---- the loop along a page
-
--- the entries before `entry` are passed, the last of which is c; what is left finds what the page does
-pub record Walking (file : List ℕ) (start : ℕ) (sizes : List ℕ) (step level from first left before entry : ℕ) (stored : Bool) (c : Span) (p : ℕ) : Type 0 where
-  pub whole : walked (entries start file) sizes step stored level from entry (first + left - entry) before c p
-      ≡ walked (entries start file) sizes step stored level from first left before none p
-  pub fits : PageFits file start sizes step level from entry (first + left - entry) before
-  pub count : counted stored c ≤ p
-
-module _ (file : List ℕ) (start : ℕ) (sizes : List ℕ) (step level from first left before : ℕ) (stored : Bool) (p : ℕ) where
-  pub walking-first : PageFits file start sizes step level from first left before → Walking file start sizes step level from first left before first stored none p
-  walking-first f =
-      let e : first + left - first ≡ left = omega arith in
-      record { whole = rw e; fits = rw e f; count = none-counted stored p }
-
-  module _ (entry : ℕ) (c : Span) (w : Walking file start sizes step level from first left before entry stored c p) where
-    pub walking-some : entry < first + left → first + left - entry ≡ 0 → ⊥
-    walking-some t e = omega arith
-
-    pub walking-inside : entry < first + left → start + 8 * (from + entry) + 8 ≤ length file
-    walking-inside t = entry-in-file file start sizes step level from entry before (first + left - entry) (w .fits) (walking-some t)
-
-    in-entries : entry < first + left → from + entry < length (entries start file)
-    in-entries t = omega (arith, walking-inside t, length-entries start file)
-
-    pub walking-on : (y : Span) → entry < first + left → y ≡ getD (entries start file) (from + entry) none → counted stored y ≤ p
-        → Walking file start sizes step level from first left before (entry + 1) stored y p
-    walking-on y t e h =
-        let d : first + left - entry - 1 ≡ first + left - (entry + 1) = omega arith in
-        let o = walk-on (entries start file) sizes step stored level from entry before c p (first + left - entry) y (walking-some t) (in-entries t) e h in
-        let f = page-on file start sizes step level from entry before (first + left - entry) (w .fits) (walking-some t) in
-        record { whole = sym (rw d at o) ∙ w .whole; fits = rw d at f; count = h }
-
-    walking-here : (y : Span) → entry < first + left → y ≡ getD (entries start file) (from + entry) none → p < counted stored y
-        → answered stored (descended (entries start file) sizes step stored level (from + getD sizes level 0)
-        (at entry (p - counted stored c) (ofEmpty (before + c .empty)) (ofEmpty (y .empty - c .empty))))
-        ≡ answered stored (walked (entries start file) sizes step stored level from first left before none p)
-    walking-here y t e h =
-        sym (walk-here (entries start file) sizes step stored level from entry before c p (first + left - entry) y (walking-some t) (in-entries t) e h)
-        ∙ ap (answered stored) (w .whole)
-
-    -- at the first entry that exceeds p: in the lowest level, and above it
-    pub walking-leaf : (y : Span) → entry < first + left → y ≡ getD (entries start file) (from + entry) none → p < counted stored y → level ≡ 0
-        → answered stored (at entry (p - counted stored c) (ofEmpty (before + c .empty)) (ofEmpty (y .empty - c .empty)))
-        ≡ answered stored (walked (entries start file) sizes step stored level from first left before none p)
-    walking-leaf y t e h z =
-        ap (answered stored) (sym (descent-leaf (entries start file) sizes step stored (from + getD sizes level 0) entry _ _ _ level z)) ∙ walking-here y t e h
-
-    pub walking-below : (y : Span) → entry < first + left → y ≡ getD (entries start file) (from + entry) none → p < counted stored y → 1 ≤ level
-        → answered stored (descended (entries start file) sizes step stored level (from + getD sizes level 0)
-        (at entry (p - counted stored c) (ofEmpty (before + c .empty)) none))
-        ≡ answered stored (walked (entries start file) sizes step stored level from first left before none p)
-    walking-below y t e h z =
-        ap (answered stored) (descent-any (entries start file) sizes step stored (from + getD sizes level 0) entry _ _ (ofEmpty (y .empty - c .empty)) level z)
-        ∙ walking-here y t e h
-
-    pub walking-down : (e : ℕ) → entry < first + left → 1 ≤ level → getD sizes level 0 < 2 ^ 32 → e < 2 ^ 32
-        → LevelsFit file start sizes step level (from + getD sizes level 0) entry (before + e)
-    walking-down e t n h k = page-down file start sizes step level from entry before (first + left - entry) e (w .fits) (walking-some t) n h k
-
-    pub walking-none : first + left ≤ entry → nowhere ≡ answered stored (walked (entries start file) sizes step stored level from first left before none p)
-    walking-none t =
-        let z : first + left - entry ≡ 0 = omega arith in
-        sym (walk-end (entries start file) sizes step stored level from entry before c p (first + left - entry) z) ∙ ap (answered stored) (w .whole)
+        record { inside = omega arith; long = f .long; page = omega arith; few = omega arith; levels = omega arith; sum = omega arith; steps = omega arith }

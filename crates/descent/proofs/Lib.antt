@@ -1,2 +1,3 @@
 pub mod CheckSteps
+pub mod Counting
 pub mod Whole

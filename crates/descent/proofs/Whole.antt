@@ -1,67 +1,66 @@
--- The search from the top page, for any bytes and any view. Assumes nothing.
-use Prim.Native.Nat.{ℕ, _+_, _*_, _≤_, _<_}
+-- The search from the top page, for any bytes and any numbers. Assumes nothing.
+use Prim.Native.Nat.{ℕ, _+_, _*_, _^_, _≤_, _<_}
 use mathlib.Core.Path.{_≡_, sym, ap, _∙_}
 use mathlib.Core.Bool.{Bool, true, false}
 use mathlib.Core.List.{List}
 use native.Mathlib.Omega.{arith}
 use lib.ListN.{length, length-take}
 use borrow.Author.Tests.{le-leb, lt-leb}
-use Rattle.format.specs.declared.View.{View}
 use Rattle.format.specs.Tools.{both, within}
 use Rattle.format.specs.PagedRuns.{none, at}
 use Rattle.laws.proofs.Tools.{both-false}
 use Rattle.levels.specs.Levels.{entries, sizesOf, total, cut, Sized}
-use Rattle.descent.specs.Descent.{nowhere, answered, descended, viewFits, searched, LevelsFit}
+use Rattle.descent.specs.Descent.{nowhere, answered, descended, numbersFit, searched, LevelsFit}
 use Rattle.levels.proofs.LevelSizes.{total-take, cut-take}
 
--- ---- refused views
+-- ---- refused numbers
 
-module _ (file : List ℕ) (v : View) (stored : Bool) (number : ℕ) where
-  none-unfit : viewFits v ≡ false → searched file v stored number ≡ nowhere
+module _ (file : List ℕ) (start step runs : ℕ) (stored : Bool) (number : ℕ) where
+  none-unfit : numbersFit step runs ≡ false → searched file start step runs stored number ≡ nowhere
   unfolding searched
   none-unfit e = rw e
 
-  pub step-low : v .step < 2 → searched file v stored number ≡ nowhere
-  step-low h = none-unfit (rw (lt-leb 2 (v .step) h))
+  pub step-low : step < 2 → searched file start step runs stored number ≡ nowhere
+  step-low h = none-unfit (rw (lt-leb 2 (step) h))
 
-  pub step-high : 64 < v .step → searched file v stored number ≡ nowhere
-  step-high h = let e : 2 ≤ v .step = omega arith in none-unfit (rw (le-leb 2 (v .step) e, lt-leb (v .step) 64 h))
+  pub step-high : 64 < step → searched file start step runs stored number ≡ nowhere
+  step-high h = let e : 2 ≤ step = omega arith in none-unfit (rw (le-leb 2 (step) e, lt-leb (step) 64 h))
 
-  pub many-runs : 16777216 < v .seconds → searched file v stored number ≡ nowhere
-  many-runs h = none-unfit (ap (both (within 2 64 (v .step))) (lt-leb (v .seconds) 16777216 h) ∙ both-false (within 2 64 (v .step)))
+  pub many-runs : 16777216 < runs → searched file start step runs stored number ≡ nowhere
+  many-runs h = none-unfit (ap (both (within 2 64 (step))) (lt-leb (runs) 16777216 h) ∙ both-false (within 2 64 (step)))
 
-  -- ---- a view that fits, and the sizes that were stored
+  -- ---- numbers that fit, and the sizes that were stored
 
-  module _ (low : 2 ≤ v .step) (high : v .step ≤ 64) (few : v .seconds ≤ 16777216) (sizes : List ℕ) (count n : ℕ)
-      (s : Sized (v .step) (v .seconds) sizes count n) where
-    fits : viewFits v ≡ true
-    fits = rw (le-leb 2 (v .step) low, le-leb (v .step) 64 high, le-leb (v .seconds) 16777216 few)
+  module _ (low : 2 ≤ step) (high : step ≤ 64) (few : runs ≤ 16777216) (sizes : List ℕ) (count n : ℕ)
+      (s : Sized (step) (runs) sizes count n) where
+    fits : numbersFit step runs ≡ true
+    fits = rw (le-leb 2 (step) low, le-leb (step) 64 high, le-leb (runs) 16777216 few)
 
-    counted-sizes : length (sizesOf (v .step) (v .seconds)) ≡ count
+    counted-sizes : length (sizesOf (step) (runs)) ≡ count
     counted-sizes = rw (← s .levels, length-take count sizes) (omega (arith, s .room, s .count-most))
 
     some-sizes : 1 ≤ count
     unfolding sizesOf
     some-sizes = omega (arith, counted-sizes)
 
-    same-total : total (sizesOf (v .step) (v .seconds)) (length (sizesOf (v .step) (v .seconds))) ≡ n
+    same-total : total (sizesOf (step) (runs)) (length (sizesOf (step) (runs))) ≡ n
     same-total = rw (counted-sizes, ← s .levels) (total-take sizes count count (omega arith) ∙ sym (s .sum))
 
-    pub short-file : length file < v .start + 8 * n → searched file v stored number ≡ nowhere
+    pub short-file : length file < start + 8 * n → searched file start step runs stored number ≡ nowhere
     unfolding searched
-    short-file h = rw (fits, same-total, lt-leb (v .start + 8 * n) (length file) h)
+    short-file h = rw (fits, same-total, lt-leb (start + 8 * n) (length file) h)
 
-    pub from-top : v .start + 8 * n ≤ length file
-        → answered stored (descended (entries (v .start) file) sizes (v .step) stored count 0 (at 0 number none none)) ≡ searched file v stored number
+    pub from-top : start + 8 * n ≤ length file
+        → answered stored (descended (entries (start) file) sizes (step) stored count 0 (at 0 number none none)) ≡ searched file start step runs stored number
     unfolding searched descended
     from-top h =
-        let e : cut (sizesOf (v .step) (v .seconds)) count (entries (v .start) file) ≡ cut sizes count (entries (v .start) file)
-        = ap (λ (l : List ℕ). cut l count (entries (v .start) file)) (sym (s .levels)) ∙ cut-take sizes count count (entries (v .start) file) (omega arith) in
-        rw (fits, same-total, counted-sizes, le-leb (v .start + 8 * n) (length file) h, e)
+        let e : cut (sizesOf (step) (runs)) count (entries (start) file) ≡ cut sizes count (entries (start) file)
+        = ap (λ (l : List ℕ). cut l count (entries (start) file)) (sym (s .levels)) ∙ cut-take sizes count count (entries (start) file) (omega arith) in
+        rw (fits, same-total, counted-sizes, le-leb (start + 8 * n) (length file) h, e)
 
-    pub top-fits : v .start + 8 * n ≤ length file → LevelsFit file (v .start) sizes (v .step) count 0 0 0
-    top-fits h =
+    pub top-fits : start + 8 * n ≤ length file → length file < 2 ^ 64 → LevelsFit file (start) sizes (step) count 0 0 0
+    top-fits h l =
         let sum = s .sum in
         let most = s .count-most in
         let some = some-sizes in
-        record { inside = omega arith; number = omega arith; some = some; levels = omega arith; sum = omega arith; steps = omega arith }
+        record { inside = omega arith; long = l; number = omega arith; some = some; levels = omega arith; sum = omega arith; steps = omega arith }

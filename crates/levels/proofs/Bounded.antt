@@ -45,7 +45,7 @@ lasts-empty b k a [] = refl
 lasts-empty b zero a (x ∷ xs) = ap (λ (n : ℕ). a .empty + n) (lasts-empty b (b - 1) x xs)
 lasts-empty b (suc k) a (x ∷ xs) = let i = lasts-empty b k (plus a x) xs in omega arith
 
-level-cells : (b : ℕ) (xs : List Span) → cellsOf (lasts b (level b xs)) ≡ cellsOf xs
+pub level-cells : (b : ℕ) (xs : List Span) → cellsOf (lasts b (level b xs)) ≡ cellsOf xs
 unfolding lasts level sumsFrom
 level-cells b [] = refl
 level-cells b (x ∷ xs) = lasts-cells b (b - 1) x xs ∙ unfold cellsOf in refl

@@ -1,5 +1,5 @@
 -- Over parts that hold stored positions the searches find the place among them. Assumes nothing.
-use Prim.Native.Nat.{ℕ, _+_, _*_, _≤_, _<_}
+use Prim.Native.Nat.{ℕ, _+_, _*_, _^_, _≤_, _<_}
 use mathlib.Core.Path.{_≡_, refl, sym, ap, _∙_}
 use mathlib.Core.Bool.{Bool, true, false}
 use mathlib.Core.List.{List, _∷_}
@@ -8,30 +8,23 @@ use lib.ListN.{length, drop, getD}
 use borrow.Author.Tests.{le-leb, lt-ltb}
 use Rattle.format.specs.declared.View.{View}
 use Rattle.format.specs.Answers.{given}
-use Rattle.format.specs.Runs.{Span, runs, spans, positionsFrom}
-use Rattle.format.specs.PagedRuns.{plus, none, upperLevels, levels, descent, positionAtPlace, storedCells, pagesKind}
+use Rattle.format.specs.Runs.{runs, spans, positionsFrom}
+use Rattle.format.specs.PagedRuns.{none, upperLevels, levels, at, descent, positionAtPlace, storedCells, pagesKind}
 use Rattle.laws.proofs.Bounds.{length-level}
 use Rattle.laws.proofs.Positions.{runs-back}
 use Rattle.laws.proofs.Search.{seekFrom, Proper, positionAmong, along-position}
-use Rattle.laws.proofs.Descent.{descent-finds, cells-add, stored-add}
+use Rattle.laws.proofs.Descent.{descent-finds}
 use Rattle.parts.specs.Holds.{Holds}
 use Rattle.parts.specs.Found.{FoundAmong, FoundIn}
 use Rattle.parts.proofs.Places.{rising-below}
 use Rattle.levels.specs.Levels.{entries, sizesOf, sizesAbove, total, cut}
 use Rattle.levels.specs.Comparing.{Inside}
-use Rattle.descent.specs.Descent.{counted, answered, descended, viewFits, searched}
+use Rattle.descent.specs.Descent.{answered, descended, numbersFit, searched}
+use Rattle.descent.proofs.Counting.{exact, exact-add, exact-none, counts-descend}
 use Rattle.levels.proofs.Cutting.{sizes-enough, Cut, cut-levels}
-use Rattle.levels.proofs.Bounded.{proper-runs}
+use Rattle.levels.proofs.Bounded.{cellsOf, proper-runs, cells-runs}
 use Rattle.paged_runs.proofs.Held.{inside, seconds-held, firsts-held, entries-held}
 use Rattle.paged_runs.proofs.Answering.{placeBy, place-along, place-free, stored-at, positionBy, position-at}
-
-counted-add : (s : Bool) (a x : Span) → a .empty ≤ a .cells → x .empty ≤ x .cells → counted s (plus a x) ≡ counted s a + counted s x
-counted-add true a x h k = stored-add a x h k
-counted-add false a x h k = cells-add a x h k
-
-counted-none : (s : Bool) → counted s none ≡ 0
-counted-none true = refl
-counted-none false = refl
 
 module _ (b : List ℕ) (v : View) (ls : List ℕ) (h : Holds (pagesKind (v .width) (v .step)) b v ls) where
   known : Inside b v
@@ -64,29 +57,32 @@ module _ (b : List ℕ) (v : View) (ls : List ℕ) (h : Holds (pagesKind (v .wid
   proper-held : Proper (spans (runs ls))
   proper-held = proper-runs (v .cells) ls (h .rising)
 
-  found : (s : Bool) (n : ℕ) → searched b v s n ≡ answered s (seekFrom (counted s) 0 n none (spans (runs ls)))
+  found : (s : Bool) (n : ℕ) → n < 2 ^ 32 → searched b (v .start) (v .step) (v .seconds) s n ≡ answered s (seekFrom (exact s) 0 n none (spans (runs ls)))
   unfolding searched descended descent
-  found s n =
+  found s n small =
       let i = known in
-      let fits : viewFits v ≡ true = rw (le-leb 2 (v .step) (i .low), le-leb (v .step) 64 (i .high), le-leb (v .seconds) 16777216 (i .seconds)) in
+      let cells : cellsOf (spans (runs ls)) < 2 ^ 32 = omega (arith, h .counted .cells-most, cells-runs (v .cells) ls (h .rising)) in
+      let fits : numbersFit (v .step) (v .seconds) ≡ true = rw (le-leb 2 (v .step) (i .low), le-leb (v .step) 64 (i .high), le-leb (v .seconds) 16777216 (i .seconds)) in
       rw (fits, total-all, le-leb (v .start + 8 * (v .firsts + v .seconds)) (length b) (i .long), cut-all)
-      (ap (answered s) (descent-finds (counted s) (counted-add s) (counted-none s) (v .step) n (spans (runs ls)) (i .low) proper-held))
+      (ap (answered s)
+      (counts-descend s (v .step) (omega (arith, i .low)) (length (spans (runs ls))) (spans (runs ls)) (at 0 n none none) proper-held cells small
+      ∙ descent-finds (exact s) (exact-add s) (exact-none s) (v .step) n (spans (runs ls)) (i .low) proper-held))
 
   -- ---- the answers
 
   again : positionsFrom 0 (spans (runs ls)) ≡ ls
   again = runs-back 0 (v .cells) ls (h .rising)
 
-  place-found : (p : ℕ) → p < v .cells → FoundAmong p ls (placeBy (searched b v false p) p (v .words))
+  place-found : (p : ℕ) → p < v .cells → FoundAmong p ls (placeBy (searched b (v .start) (v .step) (v .seconds) false p) p (v .words))
   place-found p l =
       let most = h .counted .cells-most in
       let n : v .words ≡ 0 + length (positionsFrom 0 (spans (runs ls))) = rw again (omega (arith, h .size)) in
       let w = place-along p (v .words) 0 p none (spans (runs ls)) (omega arith) proper-held (omega arith) (omega arith) n in
       let u = rw again at w in
       let u0 = u .below in
-      rw (found false p) (record { below = omega arith; here = u .here })
+      rw (found false p (omega arith)) (record { below = omega arith; here = u .here })
 
-  pub position-found : (r : ℕ) → r < v .words → positionBy (searched b v true r) r ≡ getD ls r 0
+  pub position-found : (r : ℕ) → r < v .words → positionBy (searched b (v .start) (v .step) (v .seconds) true r) r ≡ getD ls r 0
   unfolding positionAmong
   position-found r k =
       let most = h .counted .cells-most in
@@ -95,9 +91,9 @@ module _ (b : List ℕ) (v : View) (ls : List ℕ) (h : Holds (pagesKind (v .wid
       let e : positionAmong r ls ≡ given (getD ls r 0) = rw (lt-ltb r (length ls) l) in
       let g : positionAtPlace (seekFrom storedCells 0 r none (spans (runs ls))) ≡ given (getD ls r 0)
       = sym (along-position r 0 none (spans (runs ls))) ∙ rw again e in
-      rw (found true r)
+      rw (found true r (omega arith))
       (position-at r (getD ls r 0) (seekFrom storedCells 0 r none (spans (runs ls))) (stored-at r (spans (runs ls)) proper-held) g
       (omega arith))
 
-pub found-in : (b : List ℕ) (v : View) (p : ℕ) → p < v .cells → FoundIn (pagesKind (v .width) (v .step)) b v p (placeBy (searched b v false p) p (v .words))
-found-in b v p l = record { right = λ ls h. place-found b v ls h p l; free = place-free (searched b v false p) p (v .words) }
+pub found-in : (b : List ℕ) (v : View) (p : ℕ) → p < v .cells → FoundIn (pagesKind (v .width) (v .step)) b v p (placeBy (searched b (v .start) (v .step) (v .seconds) false p) p (v .words))
+found-in b v p l = record { right = λ ls h. place-found b v ls h p l; free = place-free (searched b (v .start) (v .step) (v .seconds) false p) p (v .words) }

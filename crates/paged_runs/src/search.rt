@@ -15,7 +15,7 @@ pub fn find(file: &[u8], v: View, p: Position) -> Found
     requires { ⌜ p .0 < v .cells ⌝ }
     ensures { λ r. ⌜ FoundIn (pagesKind (v .width) (v .step)) (now (file .entry)) v (p .0) r ⌝ }
 {
-    let found = search(file, v, p.0, false);
+    let found = search(file, v.start, v.step, v.seconds, p.0, false);
     if found == NOWHERE {
         return Found {
             below: v.words,
@@ -39,7 +39,7 @@ pub fn position_of(file: &[u8], v: View, r: Rank) -> u64
     requires { ⌜ r .0 < v .words ⌝ }
     ensures { λ q. ⌜ PositionIn (pagesKind (v .width) (v .step)) (now (file .entry)) v (r .0) q ⌝ }
 {
-    let found = search(file, v, r.0, true);
+    let found = search(file, v.start, v.step, v.seconds, r.0, true);
     if found == NOWHERE {
         return 0;
     }

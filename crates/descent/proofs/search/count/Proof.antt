@@ -4,7 +4,7 @@ use Rattle.descent.proofs.search.count.Statement.{statement}
 use Rattle.descent.proofs.search.count.Tie as tie
 
 returns : tie.Need-returns
-returns c = rw (c .before .if1 .taken) (c .less .ensures)
+returns c = rw (c .before .if1 .taken) (c .apart .ensures)
 
 returns-2 : tie.Need-returns-2
 returns-2 c = rw (c .if1 .left)
