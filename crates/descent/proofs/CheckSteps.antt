@@ -12,7 +12,7 @@ use lib.Dec.{leb, ltb}
 use borrow.Author.Tests.{lt-ltb, le-ltb, le-leb}
 use Rattle.format.specs.Tools.{pick}
 use Rattle.format.specs.Runs.{Span}
-use Rattle.format.specs.PagedRuns.{none, Place, lost, at}
+use Rattle.format.specs.PagedRuns.{none, less, Place, lost, at}
 use Rattle.laws.proofs.Tools.{cases}
 use Rattle.levels.specs.Levels.{entries, cut}
 use Rattle.descent.specs.Descent.{sub32, counted, ofEmpty, nowhere, answered, passed, leftOf, placeAfter, pageDown, levelsDown, descended, pageAt, walked, PageFits, LevelsFit}
@@ -24,7 +24,7 @@ abbrev Like : Place → Place → Type 0
 Like lost lost = Unit
 Like lost (at i p a x) = ⊥
 Like (at i p a x) lost = ⊥
-Like (at i p a x) (at j q c y) = (i ≡ j) × (p ≡ q) × (a .empty ≡ c .empty) × (x .empty ≡ y .empty)
+Like (at i p a x) (at j q c y) = (i ≡ j) × (p ≡ q) × (a .empty ≡ c .empty) × (x ≡ y)
 
 after-like : (m : Span → ℕ) (i p : ℕ) (a d : Span) (ys : List Span) (k : ℕ) → a .empty ≡ d .empty → Like (placeAfter m i p a ys k) (placeAfter m i p d ys k)
 unfolding placeAfter
@@ -37,13 +37,13 @@ step-like m b ys lost (at i p a x) h = absurd h
 step-like m b ys (at i p a x) lost h = absurd h
 step-like m b ys (at i p a x) (at j q c y) h = rw (h .0, h .1) (after-like m (j * b) q a c (take b (drop (j * b) ys)) _ (h .2))
 
-answered-like : (s : Bool) (q r : Place) → Like q r → answered s q ≡ answered s r
+answered-like : (s : ℕ) (q r : Place) → Like q r → answered s q ≡ answered s r
 answered-like s lost lost h = refl
 answered-like s lost (at i p a x) h = absurd h
 answered-like s (at i p a x) lost h = absurd h
 answered-like s (at i p a x) (at j q c y) h = rw (h .1, h .2, h .3)
 
-levels-like : (m : Span → ℕ) (b : ℕ) (s : Bool) (ls : List (List Span)) (q r : Place) → Like q r
+levels-like : (m : Span → ℕ) (b s : ℕ) (ls : List (List Span)) (q r : Place) → Like q r
     → answered s (levelsDown m b ls q) ≡ answered s (levelsDown m b ls r)
 unfolding levelsDown
 levels-like m b s [] q r h = answered-like s q r h
@@ -64,9 +64,9 @@ left-kept es number (suc k) x e =
     let z : suc k - 1 ≡ k = omega arith in
     rw (le-leb 1 (suc k) (omega arith)) (e ∙ rw z (sym (getD-drop number es k none)))
 
-module _ (es : List Span) (sizes : List ℕ) (step : ℕ) (stored : Bool) (level from first left before p : ℕ) where
+module _ (es : List Span) (sizes : List ℕ) (step asked : ℕ) (stored : Bool) (level from first left before p : ℕ) where
   -- past all entries
-  pub walk-none : left ≤ passed (counted stored) p (pageAt es from first left) → answered stored (walked es sizes step stored level from first left before p) ≡ nowhere
+  pub walk-none : left ≤ passed (counted stored) p (pageAt es from first left) → answered asked (walked es sizes step stored level from first left before p) ≡ nowhere
   unfolding walked descended placeAfter
   walk-none h =
       let l = length-take left (drop (from + first) es) in
@@ -76,16 +76,16 @@ module _ (es : List Span) (sizes : List ℕ) (step : ℕ) (stored : Bool) (level
   -- past k of them: c is the entry to the left of y
   pub walk-here : (k : ℕ) (c y : Span) → k ≡ passed (counted stored) p (pageAt es from first left) → k < left → from + first + left ≤ length es
       → c ≡ leftOf (drop (from + first) es) k → y ≡ getD es (from + first + k) none
-      → answered stored (descended es sizes step stored level (from + getD sizes level 0)
-      (at (first + k) (sub32 p (counted stored c)) (ofEmpty (before + c .empty)) (ofEmpty (y .empty - c .empty))))
-      ≡ answered stored (walked es sizes step stored level from first left before p)
+      → answered asked (descended es sizes step stored level (from + getD sizes level 0)
+      (at (first + k) (sub32 p (counted stored c)) (ofEmpty (before + c .empty)) (less y c)))
+      ≡ answered asked (walked es sizes step stored level from first left before p)
   unfolding walked descended placeAfter
   walk-here k c y e h l f g =
       let n : length (pageAt es from first left) ≡ left = length-take-le left (drop (from + first) es) (rw (length-drop (from + first) es) (omega arith)) in
       let d : leftOf (pageAt es from first left) k ≡ c = getD-take (suc left) (none ∷ drop (from + first) es) k none (omega arith) ∙ sym f in
       let z : getD (pageAt es from first left) k none ≡ y = getD-take left (drop (from + first) es) k none h ∙ getD-drop (from + first) es k none ∙ sym g in
       rw (← e, n, lt-ltb k left h, d, z)
-      (levels-like (counted stored) step stored (cut sizes level (drop (from + getD sizes level 0) es)) _ _ (refl, refl, refl, refl))
+      (levels-like (counted stored) step asked (cut sizes level (drop (from + getD sizes level 0) es)) _ _ (refl, refl, refl, refl))
 
 -- ---- to the page below
 
@@ -105,7 +105,7 @@ take-least b n l =
           rw e (take-all b (take n l) s))
     ]
 
-module _ (es : List Span) (sizes : List ℕ) (step : ℕ) (stored : Bool) (from entry rest before : ℕ) (x : Span) where
+module _ (es : List Span) (sizes : List ℕ) (step asked : ℕ) (stored : Bool) (from entry rest before : ℕ) (x : Span) where
   -- the lowest level, and above it, where the descent does not look at the entry's own pair
   descent-leaf : (level : ℕ) → level ≡ 0
       → descended es sizes step stored level from (at entry rest (ofEmpty before) x) ≡ at entry rest (ofEmpty before) x
@@ -126,36 +126,36 @@ module _ (es : List Span) (sizes : List ℕ) (step : ℕ) (stored : Bool) (from 
       ∙ take-least step (size - entry * step) (drop (from + entry * step) es)
 
   pub descent-page : (level : ℕ) → 1 ≤ level
-      → answered stored (descended es sizes step stored level from (at entry rest (ofEmpty before) x))
-      ≡ answered stored (walked es sizes step stored (level - 1) from (entry * step) (min step (getD sizes (level - 1) 0 - entry * step)) before rest)
+      → answered asked (descended es sizes step stored level from (at entry rest (ofEmpty before) x))
+      ≡ answered asked (walked es sizes step stored (level - 1) from (entry * step) (min step (getD sizes (level - 1) 0 - entry * step)) before rest)
   unfolding descended walked levelsDown
   descent-page zero n = absurd (omega arith)
   descent-page (suc k) n =
       let d : suc k - 1 ≡ k = omega arith in
       rw d
-      (ap₂ (λ (l : List Span) (r : List Span). answered stored
+      (ap₂ (λ (l : List Span) (r : List Span). answered asked
       (levelsDown (counted stored) step (cut sizes k r) (placeAfter (counted stored) (entry * step) rest (ofEmpty before) l (passed (counted stored) rest l))))
       (page-below (getD sizes k 0)) (drop-drop (getD sizes k 0) from es))
 
 -- ---- at the entry that is found, in the lowest level and above it
 
-module _ (es : List Span) (sizes : List ℕ) (step : ℕ) (stored : Bool) (level from first left before p k : ℕ) (c y : Span)
+module _ (es : List Span) (sizes : List ℕ) (step asked : ℕ) (stored : Bool) (level from first left before p k : ℕ) (c y : Span)
     (e : k ≡ passed (counted stored) p (pageAt es from first left)) (h : k < left) (l : from + first + left ≤ length es)
     (f : c ≡ leftOf (drop (from + first) es) k) (g : y ≡ getD es (from + first + k) none) where
   pub found-leaf : level ≡ 0
-      → answered stored (at (first + k) (sub32 p (counted stored c)) (ofEmpty (before + c .empty)) (ofEmpty (y .empty - c .empty)))
-      ≡ answered stored (walked es sizes step stored level from first left before p)
+      → answered asked (at (first + k) (sub32 p (counted stored c)) (ofEmpty (before + c .empty)) (less y c))
+      ≡ answered asked (walked es sizes step stored level from first left before p)
   found-leaf z =
-      ap (answered stored) (sym (descent-leaf es sizes step stored (from + getD sizes level 0) (first + k) _ _ _ level z))
-      ∙ walk-here es sizes step stored level from first left before p k c y e h l f g
+      ap (answered asked) (sym (descent-leaf es sizes step asked stored (from + getD sizes level 0) (first + k) _ _ _ level z))
+      ∙ walk-here es sizes step asked stored level from first left before p k c y e h l f g
 
   pub found-below : 1 ≤ level
-      → answered stored (descended es sizes step stored level (from + getD sizes level 0)
+      → answered asked (descended es sizes step stored level (from + getD sizes level 0)
       (at (first + k) (sub32 p (counted stored c)) (ofEmpty (before + c .empty)) none))
-      ≡ answered stored (walked es sizes step stored level from first left before p)
+      ≡ answered asked (walked es sizes step stored level from first left before p)
   found-below z =
-      ap (answered stored) (descent-any es sizes step stored (from + getD sizes level 0) (first + k) _ _ (ofEmpty (y .empty - c .empty)) level z)
-      ∙ walk-here es sizes step stored level from first left before p k c y e h l f g
+      ap (answered asked) (descent-any es sizes step asked stored (from + getD sizes level 0) (first + k) _ _ (less y c) level z)
+      ∙ walk-here es sizes step asked stored level from first left before p k c y e h l f g
 
 -- ---- what a step asks
 

@@ -1,9 +1,9 @@
 -- What the descent of a search finds, for any bytes. Assumes nothing.
 use Prim.Native.Nat.{ℕ, _+_, _-_, _*_, _%_, _^_, _≤_, _<_}
-use mathlib.Core.Bool.{Bool, _||_}
+use mathlib.Core.Bool.{Bool, true, _||_}
 use mathlib.Core.List.{List, [], _∷_}
 use lib.ListN.{length, take, drop, getD}
-use lib.Dec.{leb, ltb}
+use lib.Dec.{leb, ltb, eqb}
 use Rattle.format.specs.Tools.{pick, both, within}
 use Rattle.format.specs.Runs.{Span}
 use Rattle.format.specs.PagedRuns.{none, plus, less, Place, lost, at}
@@ -25,10 +25,17 @@ ofEmpty e = record { cells = 0; empty = e }
 abbrev pub nowhere : ℕ
 nowhere = 18446744073709551615
 
--- what a search answers: twice the empty cells up to the number, and 1 more where it stands at a stored cell, as a rank always does
-abbrev pub answered : Bool → Place → ℕ
-answered stored lost = nowhere
-answered stored (at i p a x) = pick (stored || leb (x .empty) p) (2 * (a .empty + x .empty) + 1) (2 * (a .empty + p))
+-- What is asked of a search: 0 for where a position stands, 1 for where a rank stands, 2 for how many ranks from that one on stand in its run.
+-- A rank is looked for unless 0 is asked.
+abbrev pub forRank : ℕ → Bool
+forRank asked = ltb 0 asked
+
+-- what a search answers: twice the empty cells up to the number, and 1 more where it stands at a stored cell, as a rank always does; or the ranks asked for
+abbrev pub answered : ℕ → Place → ℕ
+answered asked lost = nowhere
+answered asked (at i p a x) =
+    pick (eqb asked 2) (sub32 (counted true x) p)
+    (pick (forRank asked || leb (x .empty) p) (2 * (a .empty + x .empty) + 1) (2 * (a .empty + p)))
 
 -- ---- through pages whose entries are counted: where they rise this is the descent of document 01 (law `counts-descend`)
 
@@ -78,10 +85,10 @@ abbrev pub numbersFit : ℕ → ℕ → Bool
 numbersFit step runs = both (within 2 64 step) (leb runs 16777216)
 
 -- from the top page down, where all levels are in the file
-unfoldable pub searched : List ℕ → ℕ → ℕ → ℕ → Bool → ℕ → ℕ
-searched file start step runs stored number =
+unfoldable pub searched : List ℕ → ℕ → ℕ → ℕ → ℕ → ℕ → ℕ
+searched file start step runs asked number =
     let sizes = sizesOf step runs in
-    let all = answered stored (descended (entries start file) sizes step stored (length sizes) 0 (at 0 number none none)) in
+    let all = answered asked (descended (entries start file) sizes step (forRank asked) (length sizes) 0 (at 0 number none none)) in
     pick (numbersFit step runs) (pick (leb (start + 8 * total sizes (length sizes)) (length file)) all nowhere) nowhere
 
 -- A walk along the `left` entries of a page, in a level whose first entry is `from`, with `level` levels below it: all of them are in the file, and the

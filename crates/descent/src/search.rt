@@ -15,12 +15,19 @@ ghost use Prim.Native.Nat.{_+_, _-_, _*_, _≤_, _<_, _^_};
 ghost use lib.ListN.{length, take, drop, getD};
 ghost use lib.Dec.{leb};
 ghost use Rattle.format.specs.Tools.{pick};
-ghost use Rattle.format.specs.PagedRuns.{none, at};
+ghost use Rattle.format.specs.PagedRuns.{none, less, at};
 ghost use Rattle.levels.specs.Levels.{entries, spanOf};
-ghost use Rattle.descent.specs.Descent.{sub32, counted, ofEmpty, answered, passed, leftOf, descended, walked, PageFits, LevelsFit, searched};
+ghost use Rattle.descent.specs.Descent.{sub32, counted, ofEmpty, forRank, answered, passed, leftOf, descended, walked, PageFits, LevelsFit, searched};
 
 // What a search answers where no run is reached.
 pub const NOWHERE: u64 = 0xffff_ffff_ffff_ffff;
+
+// What is asked of a search: where a position stands, where a rank stands, and how many ranks from that one on stand in its run.
+pub const PLACE: u32 = 0;
+
+pub const RANK: u32 = 1;
+
+pub const LEFT: u32 = 2;
 
 // The difference, or 0.
 fn less(x: u32, y: u32) -> u32
@@ -109,13 +116,27 @@ fn entry_before(file: &[u8], start: u32, number: usize, k: usize) -> Pair
     }
 }
 
-// What a search answers at a run with `before` empty cells before it and `own` at its start, where `rest` of the number is left: twice the empty
-// cells up to the number, and 1 more where it stands at a stored cell. A rank always does.
-fn answer(before: u64, own: u32, rest: u32, stored: bool) -> u64
-    requires { ⌜ before ≤ 2 ^ 40 ⌝ }
-    ensures { λ r. ⌜ r ≡ answered stored (at 0 rest (ofEmpty before) (ofEmpty own)) ⌝ }
+// A run's own pair: its entry less the one to the left.
+fn own_pair(y: Pair, c: Pair) -> Pair
+    ensures { λ r. ⌜ spanOf r ≡ less (spanOf y) (spanOf c) ⌝ }
 {
-    if stored | (own <= rest) {
+    Pair {
+        first: less(y.first, c.first),
+        second: less(y.second, c.second),
+    }
+}
+
+// What a search answers at the run of the entry y, with c to the left of it and `before` empty cells before both, where `rest` of the number is left: twice
+// the empty cells up to the number, and 1 more where it stands at a stored cell, as a rank always does; or how many ranks from this one on the run has.
+fn answer(before: u64, y: Pair, c: Pair, rest: u32, asked: u32) -> u64
+    requires { ⌜ before ≤ 2 ^ 40 ⌝ }
+    ensures { λ r. ⌜ r ≡ answered asked (at 0 rest (ofEmpty before) (less (spanOf y) (spanOf c))) ⌝ }
+{
+    if asked == LEFT {
+        return long(apart(count(own_pair(y, c), true), rest));
+    }
+    let own = less(y.second, c.second);
+    if (0 < asked) | (own <= rest) {
         return 2 * (before + long(own)) + 1;
     }
     2 * (before + long(rest))
@@ -128,7 +149,7 @@ fn page_walk<'a, 'b>(
     start: u32,
     sizes: &'b [u32; 24],
     step: usize,
-    stored: bool,
+    asked: u32,
     level: usize,
     from: usize,
     first: usize,
@@ -137,9 +158,10 @@ fn page_walk<'a, 'b>(
     p: u32,
 ) -> u64
     requires { ⌜ PageFits (now (now file)) start (now sizes) step level from first left before ⌝ }
-    ensures { λ r. ⌜ r ≡ answered stored (walked (entries start (now (now (file .entry)))) (now (sizes .entry)) step stored level from first left before p) ⌝ }
+    ensures { λ r. ⌜ r ≡ answered asked (walked (entries start (now (now (file .entry)))) (now (sizes .entry)) step (forRank asked) level from first left before p) ⌝ }
 {
     let bytes = *file;
+    let stored = 0 < asked;
     let number = from + first;
     let k = entries_passed(bytes, start, number, left, stored, p);
     if left <= k {
@@ -150,14 +172,14 @@ fn page_walk<'a, 'b>(
     let sum = before + c.second as u64;
     if level == 0 {
         let y = pair_at(bytes, start, number + k);
-        return answer(sum, less(y.second, c.second), rest, stored);
+        return answer(sum, y, c, rest, asked);
     }
     descend(
         file,
         start,
         sizes,
         step,
-        stored,
+        asked,
         level,
         from + size_at(sizes, level),
         first + k,
@@ -172,7 +194,7 @@ fn descend<'a, 'b>(
     start: u32,
     sizes: &'b [u32; 24],
     step: usize,
-    stored: bool,
+    asked: u32,
     level: usize,
     from: usize,
     entry: usize,
@@ -180,7 +202,7 @@ fn descend<'a, 'b>(
     rest: u32,
 ) -> u64
     requires { ⌜ LevelsFit (now (now file)) start (now sizes) step level from entry before ⌝ }
-    ensures { λ r. ⌜ r ≡ answered stored (descended (entries start (now (now (file .entry)))) (now (sizes .entry)) step stored level from
+    ensures { λ r. ⌜ r ≡ answered asked (descended (entries start (now (now (file .entry)))) (now (sizes .entry)) step (forRank asked) level from
         (at entry rest (ofEmpty before) none)) ⌝ }
 {
     let below = level - 1;
@@ -195,7 +217,7 @@ fn descend<'a, 'b>(
         start,
         sizes,
         step,
-        stored,
+        asked,
         below,
         from,
         first,
@@ -206,8 +228,8 @@ fn descend<'a, 'b>(
 }
 
 // From the top page down, in levels over so many runs. A file that is accepted has at most 16,777,216 runs, and all levels.
-pub fn search(file: &[u8], start: u32, step: u32, runs: u32, number: u32, stored: bool) -> u64
-    ensures { λ r. ⌜ r ≡ searched (now (file .entry)) start step runs stored number ⌝ }
+pub fn search(file: &[u8], start: u32, step: u32, runs: u32, number: u32, asked: u32) -> u64
+    ensures { λ r. ⌜ r ≡ searched (now (file .entry)) start step runs asked number ⌝ }
 {
     if step < 2 {
         return NOWHERE;
@@ -229,7 +251,7 @@ pub fn search(file: &[u8], start: u32, step: u32, runs: u32, number: u32, stored
         start,
         &sizes,
         index(step),
-        stored,
+        asked,
         levels.count,
         0,
         0,

@@ -101,7 +101,7 @@ module _ (c e q p : ℕ) (g : e ≤ c) (h : c + q ≡ p) where
 -- along pairs, a before them, with n stored cells in all
 pub place-along : (p n i q : ℕ) (a : Span) (xs : List Span) → p < 2 ^ 32 → Proper xs → a .empty ≤ a .cells → a .cells + q ≡ p
     → n ≡ a .cells - a .empty + length (positionsFrom (a .cells) xs)
-    → CountedFrom p (a .cells - a .empty) (positionsFrom (a .cells) xs) (placeBy (answered false (seekFrom allCells i q a xs)) p n)
+    → CountedFrom p (a .cells - a .empty) (positionsFrom (a .cells) xs) (placeBy (answered 0 (seekFrom allCells i q a xs)) p n)
 unfolding positionsFrom seekFrom
 place-along p n i q a [] s o g h m = unfold countBelow among in (record { below = m; here = refl })
 place-along p n i q a (x ∷ xs) f o g h m =
@@ -121,7 +121,7 @@ place-along p n i q a (x ∷ xs) f o g h m =
   where
     here : n ≡ a .cells - a .empty + (x .cells - x .empty + length (positionsFrom (a .cells + x .cells) xs)) → q < x .cells
         → CountedFrom p (a .cells - a .empty) (range (a .cells + x .empty) (x .cells - x .empty) ++ positionsFrom (a .cells + x .cells) xs)
-        (placeBy (answered false (at i q a x)) p n)
+        (placeBy (answered 0 (at i q a x)) p n)
     here k t =
         let c = clear-from p (a .cells + x .cells) xs (omega arith) in
         cases (leb (x .empty) q)
@@ -172,7 +172,7 @@ stored-at r xs o = stored-from 0 r r none xs o (omega arith) (omega arith)
 abbrev pub positionBy : ℕ → ℕ → ℕ
 positionBy e r = pick (eqb e nowhere) 0 (r + e / 2)
 
-pub position-at : (r k : ℕ) (q : Place) → StoredAt r q → positionAtPlace q ≡ given k → k < 2 ^ 32 → positionBy (answered true q) r ≡ k
+pub position-at : (r k : ℕ) (q : Place) → StoredAt r q → positionAtPlace q ≡ given k → k < 2 ^ 32 → positionBy (answered 1 q) r ≡ k
 position-at r k lost h e l = let z : _≡_ {A = ℕ} 0 1 = cc in absurd (omega arith)
 position-at r k (at i q a x) h e l =
     let h0 = h .0 in

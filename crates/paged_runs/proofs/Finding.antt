@@ -1,7 +1,7 @@
 -- Over parts that hold stored positions the searches find the place among them. Assumes nothing.
 use Prim.Native.Nat.{ℕ, _+_, _*_, _^_, _≤_, _<_}
 use mathlib.Core.Path.{_≡_, refl, sym, ap, _∙_}
-use mathlib.Core.Bool.{Bool, true, false}
+use mathlib.Core.Bool.{true}
 use mathlib.Core.List.{List, _∷_}
 use native.Mathlib.Omega.{arith}
 use lib.ListN.{length, drop, getD}
@@ -19,7 +19,7 @@ use Rattle.parts.specs.Found.{FoundAmong, FoundIn}
 use Rattle.parts.proofs.Places.{rising-below}
 use Rattle.levels.specs.Levels.{entries, sizesOf, sizesAbove, total, cut}
 use Rattle.levels.specs.Comparing.{Inside}
-use Rattle.descent.specs.Descent.{answered, descended, numbersFit, searched}
+use Rattle.descent.specs.Descent.{forRank, answered, descended, numbersFit, searched}
 use Rattle.descent.proofs.Counting.{exact, exact-add, exact-none, counts-descend}
 use Rattle.levels.proofs.Cutting.{sizes-enough, Cut, cut-levels}
 use Rattle.levels.proofs.Bounded.{cellsOf, proper-runs, cells-runs}
@@ -57,14 +57,16 @@ module _ (b : List ℕ) (v : View) (ls : List ℕ) (h : Holds (pagesKind (v .wid
   proper-held : Proper (spans (runs ls))
   proper-held = proper-runs (v .cells) ls (h .rising)
 
-  found : (s : Bool) (n : ℕ) → n < 2 ^ 32 → searched b (v .start) (v .step) (v .seconds) s n ≡ answered s (seekFrom (exact s) 0 n none (spans (runs ls)))
+  found : (asked n : ℕ) → n < 2 ^ 32
+      → searched b (v .start) (v .step) (v .seconds) asked n ≡ answered asked (seekFrom (exact (forRank asked)) 0 n none (spans (runs ls)))
   unfolding searched descended descent
-  found s n small =
+  found asked n small =
+      let s = forRank asked in
       let i = known in
       let cells : cellsOf (spans (runs ls)) < 2 ^ 32 = omega (arith, h .counted .cells-most, cells-runs (v .cells) ls (h .rising)) in
       let fits : numbersFit (v .step) (v .seconds) ≡ true = rw (le-leb 2 (v .step) (i .low), le-leb (v .step) 64 (i .high), le-leb (v .seconds) 16777216 (i .seconds)) in
       rw (fits, total-all, le-leb (v .start + 8 * (v .firsts + v .seconds)) (length b) (i .long), cut-all)
-      (ap (answered s)
+      (ap (answered asked)
       (counts-descend s (v .step) (omega (arith, i .low)) (length (spans (runs ls))) (spans (runs ls)) (at 0 n none none) proper-held cells small
       ∙ descent-finds (exact s) (exact-add s) (exact-none s) (v .step) n (spans (runs ls)) (i .low) proper-held))
 
@@ -73,16 +75,16 @@ module _ (b : List ℕ) (v : View) (ls : List ℕ) (h : Holds (pagesKind (v .wid
   again : positionsFrom 0 (spans (runs ls)) ≡ ls
   again = runs-back 0 (v .cells) ls (h .rising)
 
-  place-found : (p : ℕ) → p < v .cells → FoundAmong p ls (placeBy (searched b (v .start) (v .step) (v .seconds) false p) p (v .words))
+  place-found : (p : ℕ) → p < v .cells → FoundAmong p ls (placeBy (searched b (v .start) (v .step) (v .seconds) 0 p) p (v .words))
   place-found p l =
       let most = h .counted .cells-most in
       let n : v .words ≡ 0 + length (positionsFrom 0 (spans (runs ls))) = rw again (omega (arith, h .size)) in
       let w = place-along p (v .words) 0 p none (spans (runs ls)) (omega arith) proper-held (omega arith) (omega arith) n in
       let u = rw again at w in
       let u0 = u .below in
-      rw (found false p (omega arith)) (record { below = omega arith; here = u .here })
+      rw (found 0 p (omega arith)) (record { below = omega arith; here = u .here })
 
-  pub position-found : (r : ℕ) → r < v .words → positionBy (searched b (v .start) (v .step) (v .seconds) true r) r ≡ getD ls r 0
+  pub position-found : (r : ℕ) → r < v .words → positionBy (searched b (v .start) (v .step) (v .seconds) 1 r) r ≡ getD ls r 0
   unfolding positionAmong
   position-found r k =
       let most = h .counted .cells-most in
@@ -91,9 +93,9 @@ module _ (b : List ℕ) (v : View) (ls : List ℕ) (h : Holds (pagesKind (v .wid
       let e : positionAmong r ls ≡ given (getD ls r 0) = rw (lt-ltb r (length ls) l) in
       let g : positionAtPlace (seekFrom storedCells 0 r none (spans (runs ls))) ≡ given (getD ls r 0)
       = sym (along-position r 0 none (spans (runs ls))) ∙ rw again e in
-      rw (found true r (omega arith))
+      rw (found 1 r (omega arith))
       (position-at r (getD ls r 0) (seekFrom storedCells 0 r none (spans (runs ls))) (stored-at r (spans (runs ls)) proper-held) g
       (omega arith))
 
-pub found-in : (b : List ℕ) (v : View) (p : ℕ) → p < v .cells → FoundIn (pagesKind (v .width) (v .step)) b v p (placeBy (searched b (v .start) (v .step) (v .seconds) false p) p (v .words))
-found-in b v p l = record { right = λ ls h. place-found b v ls h p l; free = place-free (searched b (v .start) (v .step) (v .seconds) false p) p (v .words) }
+pub found-in : (b : List ℕ) (v : View) (p : ℕ) → p < v .cells → FoundIn (pagesKind (v .width) (v .step)) b v p (placeBy (searched b (v .start) (v .step) (v .seconds) 0 p) p (v .words))
+found-in b v p l = record { right = λ ls h. place-found b v ls h p l; free = place-free (searched b (v .start) (v .step) (v .seconds) 0 p) p (v .words) }

@@ -1,5 +1,7 @@
 // The searches (document 01, "The file", kind 5), through the levels from the top page down.
 use descent::search::NOWHERE;
+use descent::search::PLACE;
+use descent::search::RANK;
 use descent::search::search;
 use format::Position;
 use format::Rank;
@@ -15,7 +17,7 @@ pub fn find(file: &[u8], v: View, p: Position) -> Found
     requires { ⌜ p .0 < v .cells ⌝ }
     ensures { λ r. ⌜ FoundIn (pagesKind (v .width) (v .step)) (now (file .entry)) v (p .0) r ⌝ }
 {
-    let found = search(file, v.start, v.step, v.seconds, p.0, false);
+    let found = search(file, v.start, v.step, v.seconds, p.0, PLACE);
     if found == NOWHERE {
         return Found {
             below: v.words,
@@ -39,7 +41,7 @@ pub fn position_of(file: &[u8], v: View, r: Rank) -> u64
     requires { ⌜ r .0 < v .words ⌝ }
     ensures { λ q. ⌜ PositionIn (pagesKind (v .width) (v .step)) (now (file .entry)) v (r .0) q ⌝ }
 {
-    let found = search(file, v.start, v.step, v.seconds, r.0, true);
+    let found = search(file, v.start, v.step, v.seconds, r.0, RANK);
     if found == NOWHERE {
         return 0;
     }

@@ -19,7 +19,6 @@ use Rattle.descent.proofs.search.apart.Reads as apart-reads
 use Rattle.descent.proofs.search.count.Reads as count-reads
 use Rattle.descent.proofs.search.entries_passed.Reads as entries-passed-reads
 use Rattle.descent.proofs.search.entry_before.Reads as entry-before-reads
-use Rattle.descent.proofs.search.less.Reads as less-reads
 use Rattle.levels.proofs.entry.pair_at.Reads as pair-at-reads
 use Rattle.levels.proofs.sizes.size_at.Reads as size-at-reads
 use Rattle.wire.proofs.numbers.lesser.Reads as lesser-reads
@@ -59,8 +58,6 @@ page-walk-calls t = (
   apart-reads.Learnt,
   pair-at-reads.Asked,
   pair-at-reads.Learnt,
-  less-reads.Asked,
-  less-reads.Learnt,
   answer-reads.Asked,
   answer-reads.Learnt,
   size-at-reads.Asked,
@@ -88,7 +85,7 @@ descend-returns t c =
     let a = c .before .before .args in
     let e = c .before .size-at .ensures .0 in
     let z : min (a .step) (getD (a .sizes .now) (a .level - 1) 0 - a .entry * a .step) ≡ 0 = omega (arith, e) in
-    sym (descent-page _ _ _ _ _ _ _ _ _ _ (c .before .before .pre .1 .some) ∙ walk-none _ _ _ _ _ _ _ _ _ _ (omega (arith, z)))
+    sym (descent-page _ _ _ _ _ _ _ _ _ _ _ (c .before .before .pre .1 .some) ∙ walk-none _ _ _ _ _ _ _ _ _ _ _ (omega (arith, z)))
 
 descend-page-walk-requires : (t : ℕ) → descend-lts.Need-page-walk-requires (descend-calls t) (descend-at t) descend.Post
 descend-page-walk-requires t c κs =
@@ -102,7 +99,7 @@ descend-returns-2 : (t : ℕ) → descend-lts.Need-returns-2 (descend-calls t) (
 descend-returns-2 t c =
     c .page-walk .ensures
     ∙ rw (c .before .lesser .ensures, c .before .before .before .size-at .ensures .0)
-    (sym (descent-page _ _ _ _ _ _ _ _ _ _ (c .before .before .before .before .pre .1 .some)))
+    (sym (descent-page _ _ _ _ _ _ _ _ _ _ _ (c .before .before .before .before .pre .1 .some)))
 
 -- ---- along a page
 
@@ -113,7 +110,7 @@ page-walk-entries-passed-requires : (t : ℕ) → page-walk-lts.Need-entries-pas
 page-walk-entries-passed-requires t c κs = let f = c .before .pre .1 in (f .few, page-inside _ _ _ _ _ _ _ _ _ f)
 
 page-walk-returns : (t : ℕ) → page-walk-lts.Need-returns (page-walk-calls t) (page-walk-at t) page-walk.Post
-page-walk-returns t c = sym (walk-none _ _ _ _ _ _ _ _ _ _ (rw (c .before .entries-passed .ensures .0) at (c .if1 .taken)))
+page-walk-returns t c = sym (walk-none _ _ _ _ _ _ _ _ _ _ _ (rw (c .before .entries-passed .ensures .0) at (c .if1 .taken)))
 
 page-walk-entry-before-requires : (t : ℕ) → page-walk-lts.Need-entry-before-requires (page-walk-calls t) (page-walk-at t) page-walk.Post
 page-walk-entry-before-requires t c κs =
@@ -134,18 +131,18 @@ page-walk-add-pair-at : (t : ℕ) → page-walk-lts.Need-add-pair-at (page-walk-
 page-walk-add-pair-at t c = let r = page-walk-pair-at-requires t c in omega (arith, c .before .before .before .before .before .before .before .before .pre .1 .long)
 
 page-walk-answer-requires : (t : ℕ) → page-walk-lts.Need-answer-requires (page-walk-calls t) (page-walk-at t) page-walk.Post
-page-walk-answer-requires t c κs = let f = c .before .before .before .before .before .before .before .before .before .before .pre .1 in omega (arith, c .before .before .before .before .before .before .entry-before .ensures .2, f .sum)
+page-walk-answer-requires t c κs = let f = c .before .before .before .before .before .before .before .before .before .pre .1 in omega (arith, c .before .before .before .before .before .entry-before .ensures .2, f .sum)
 
 page-walk-returns-2 : (t : ℕ) → page-walk-lts.Need-returns-2 (page-walk-calls t) (page-walk-at t) page-walk.Post
 page-walk-returns-2 t c =
-    let d = c .before .before .before .before .before in
+    let d = c .before .before .before .before in
     let n = d .before .before .before .before .entries-passed in
     let x = d .before .before .entry-before in
-    let y = c .before .before .pair-at in
+    let y = c .before .pair-at in
     c .answer .ensures
-    ∙ rw (c .before .less .ensures, d .apart .ensures, d .before .count .ensures)
-    (found-leaf _ _ _ _ _ _ _ _ _ _ (n .result) (spanOf (x .result)) (spanOf (y .result)) (n .ensures .0) (d .before .before .before .if1 .left)
-    (page-entries _ _ _ _ _ _ _ _ _ (c .before .before .before .before .before .before .before .before .before .before .before .pre .1)) (x .ensures .0) (y .ensures .0) (c .before .before .before .if2 .taken))
+    ∙ rw (d .apart .ensures, d .before .count .ensures)
+    (found-leaf _ _ _ _ _ _ _ _ _ _ _ (n .result) (spanOf (x .result)) (spanOf (y .result)) (n .ensures .0) (d .before .before .before .if1 .left)
+    (page-entries _ _ _ _ _ _ _ _ _ (c .before .before .before .before .before .before .before .before .before .before .pre .1)) (x .ensures .0) (y .ensures .0) (c .before .before .if2 .taken))
 
 page-walk-size-at-requires : (t : ℕ) → page-walk-lts.Need-size-at-requires (page-walk-calls t) (page-walk-at t) page-walk.Post
 page-walk-size-at-requires t c κs = c .before .before .before .before .before .before .before .before .pre .1 .levels
@@ -173,7 +170,7 @@ page-walk-returns-3 t c =
     let l = c .before .before .if2 .left in
     c .descend .ensures
     ∙ rw (c .before .size-at .ensures .0, d .apart .ensures, d .before .count .ensures)
-    (found-below _ _ _ _ _ _ _ _ _ _ (n .result) (spanOf (x .result)) _ (n .ensures .0) (d .before .before .before .if1 .left)
+    (found-below _ _ _ _ _ _ _ _ _ _ _ (n .result) (spanOf (x .result)) _ (n .ensures .0) (d .before .before .before .if1 .left)
     (page-entries _ _ _ _ _ _ _ _ _ (c .before .before .before .before .before .before .before .before .before .before .pre .1)) (x .ensures .0) refl (omega (arith, l)))
 
 pub +descend+page-walk-spec : {M : Type 1} → statement M
@@ -201,7 +198,6 @@ pub +descend+page-walk-spec : {M : Type 1} → statement M
     (page-walk-add-sum t)
     (page-walk-add-pair-at t)
     (page-walk-pair-at-requires t)
-    (λ c κs. tt)
     (page-walk-answer-requires t)
     (page-walk-returns-2 t)
     (page-walk-size-at-requires t)

@@ -1,24 +1,48 @@
 -- `answer` meets its contract. Assumes nothing.
+use Prim.Native.Nat.{ℕ}
+use mathlib.Core.Path.{ap, _∙_}
+use mathlib.Core.Bool.{true}
 use borrow.Author.Needs.{needs}
+use borrow.Author.Tests.{eq-eqb, ne-eqb}
+use Rattle.descent.specs.Descent.{sub32, counted}
 use Rattle.descent.proofs.search.answer.Statement.{statement}
 use Rattle.descent.proofs.search.answer.Tie as tie
 
 returns : tie.Need-returns
-returns c = rw (c .before .if1 .taken, c .long .ensures .0)
+returns c =
+    let n = c .before .before in
+    let a = n .before .before .before .args in
+    rw (eq-eqb (a .asked) 2 (n .before .before .if1 .taken))
+    (c .long .ensures .0 ∙ c .before .apart .ensures ∙ ap (λ (m : ℕ). sub32 m (a .rest)) (n .count .ensures ∙ ap (counted true) (n .before .own-pair .ensures)))
 
 returns-2 : tie.Need-returns-2
-returns-2 c = rw (c .before .if1 .left, c .long2 .ensures .0)
+returns-2 c =
+    let l = c .before .before in
+    let t = rw (l .less .ensures) at (c .before .if2 .taken) in
+    rw (ne-eqb (l .before .before .args .asked) 2 (l .before .if1 .left), t, c .long2 .ensures .0, l .less .ensures)
+
+returns-3 : tie.Need-returns-3
+returns-3 c =
+    let l = c .before .before in
+    let t = rw (l .less .ensures) at (c .before .if2 .left) in
+    rw (ne-eqb (l .before .before .args .asked) 2 (l .before .if1 .left), t, c .long3 .ensures .0)
 
 pub answer-spec : {M : Type 1} → statement M
 answer-spec =
     tie.close
     (tie.spec
     (λ c κs. search needs)
-    (λ c. search needs)
-    (λ c. search needs)
-    (λ c. search needs)
+    (λ c κs. search needs)
+    (λ c κs. search needs)
+    (λ c κs. search needs)
     returns
+    (λ c κs. search needs)
     (λ c κs. search needs)
     (λ c. search needs)
     (λ c. search needs)
-    returns-2)
+    (λ c. search needs)
+    returns-2
+    (λ c κs. search needs)
+    (λ c. search needs)
+    (λ c. search needs)
+    returns-3)

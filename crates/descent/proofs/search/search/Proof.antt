@@ -34,7 +34,7 @@ descend-requires c κs =
     let a = t .before .before .before .before .args in
     let k = rw (c .before .before .before .before .before .index .ensures .0) at (c .before .before .before .if4 .left) in
     rw (c .index2 .ensures .0)
-    (top-fits (a .file .now) (a .start) (a .step) (a .runs) (a .stored) (a .number) (t .before .before .if1 .left) (t .before .if2 .left) (t .if3 .left) _ _ _
+    (top-fits (a .file .now) (a .start) (a .step) (a .runs) (a .asked) (a .number) (t .before .before .if1 .left) (t .before .if2 .left) (t .if3 .left) _ _ _
     (l .level-sizes .ensures) k (t .before .before .before .before .good .0 .0))
 
 returns-5 : tie.Need-returns-5
