@@ -1,3 +1,4 @@
+pub mod Copied
 pub mod Rows
 pub mod Turns
 pub mod Whole

@@ -16,14 +16,13 @@ use Rattle.stores.proofs.Laws.{put-front}
 use Rattle.parts.specs.Holds.{ViewOf}
 use Rattle.parts.proofs.Seen.{seen}
 use Rattle.parts.specs.declared.Cursor.{Cursor}
-use Rattle.kinds.specs.Steps.{startOf}
 use Rattle.box_rows.specs.declared.Filled.{Filled}
 use Rattle.box_region.specs.declared.region.Region.{Region}
 use Rattle.box_region.specs.Bounds.{boxCount}
 use Rattle.box_rows.specs.Filling.{wordsOn, BoxGoes, BoxFilled}
 use Rattle.box_region.specs.Region.{Placed, SameCells}
 use Rattle.box_region.proofs.Counted.{allowed-as, length-box}
-use Rattle.row_seek.proofs.Resumed.{ready-start}
+use Rattle.row_seek.specs.Ready.{Ready}
 use Rattle.box_rows.proofs.Turns.{length-words-on}
 
 module _ (b : List ℕ) (v : View) (d : Dimensions) (low high : List ℕ) (o : ViewOf b v) (e : d ≡ dimensionsOf b) where
@@ -37,13 +36,13 @@ module _ (b : List ℕ) (v : View) (d : Dimensions) (low high : List ℕ) (o : V
   pub box-placed : length low ≡ mostDimensions → length high ≡ mostDimensions → boxAllowed d low high ≡ true → Placed region
   box-placed l h a = record { bounds = sym (allowed-as d low high l h) ∙ a; few = rw cells-all (seen b v o .header .counted .cells-most) }
 
-  pub box-goes : (r : Region) → SameCells region r → (c : Cursor) (room : ℕ) → c ≡ startOf b v → boxCount (d .extents) low high ≤ room
+  pub box-goes : (r : Region) → SameCells region r → (c : Cursor) (room : ℕ) → Ready b v c 0 → boxCount (d .extents) low high ≤ room
       → BoxGoes b v (r .extents) (r .low) (r .high) 0 (record { cursor = c; words = 0 }) room
-  box-goes r s c room z k =
+  box-goes r s c room y k =
       record {
         view = o;
         bounds = s .bounds;
-        ready = rw (zero-mul (product (r .extents))) (ready-start b v o c z);
+        ready = rw (zero-mul (product (r .extents))) y;
         inside = rw (one-mul (product (r .extents)), s .product, cells-all) (le-refl (v .cells));
         fits = rw (s .positions, zero-add (length (boxFrom 0 (d .extents) low high)), length-box 0 (d .extents) low high) k;
       }

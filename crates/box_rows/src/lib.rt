@@ -7,16 +7,18 @@ use format::Dimensions;
 use format::Position;
 use format::RankAnswer;
 use format::View;
-use kinds::steps::start;
 use parts::Cursor;
+use row_seek::resume::begin;
 use row_seek::resume::empty_ahead;
 use row_seek::resume::rank_from;
+use row_seek::resume::stored_ahead;
 use scatter::fill;
-use wire::load_u32;
+use wire::get_u32;
 ghost use mathlib.Core.Path.{_≡_};
 ghost use mathlib.Core.Bool.{true};
-ghost use Prim.Native.Nat.{_+_, _≤_, _<_};
+ghost use Prim.Native.Nat.{_+_, _*_, _≤_, _<_};
 ghost use lib.ListN.{length, drop, replicate};
+ghost use Rattle.format.specs.Bytes.{numbersOf};
 ghost use Rattle.format.specs.Answers.{leaves};
 ghost use Rattle.format.specs.Accepted.{dimensionsOf};
 ghost use Rattle.format.specs.Box.{boxAllowed, boxWords};
@@ -41,7 +43,19 @@ fn fill_from(dst: &mut [u32], from: usize, n: usize, x: u32)
     fill(&mut dst[from..end], n, x);
 }
 
-// The words of n cells from a position on: a stored cell's, or E up to the next stored cell.
+// The n words of the file from an offset on become the elements from an index on.
+fn copy_words(file: &[u8], at: usize, dst: &mut [u32], from: usize, n: usize)
+    requires { ⌜ (at + 4 * n ≤ length (now file)) × (from + n ≤ length (now dst)) ⌝ }
+    ensures { λ _. ⌜ now (dst .exit) ≡ put (now (dst .entry)) from (numbersOf 4 n (drop at (now (file .entry)))) ⌝ }
+{
+    let mut i: usize = 0;
+    while i < n {
+        dst[from + i] = get_u32(file, at + 4 * i);
+        i += 1;
+    }
+}
+
+// The words of n cells from a position on: those of the stored cells that are known to follow, or E up to the next stored cell.
 fn put_row(file: &[u8], v: View, s: Filled, from: u32, n: u32, dst: &mut [u32]) -> Filled
     requires { ⌜ RowGoes (now file) v s from n (length (now dst)) ⌝ }
     ensures { λ r. ⌜ RowFilled (now (file .entry)) v s from n (now (dst .entry)) r (now (dst .exit)) ⌝ }
@@ -62,9 +76,10 @@ fn put_row(file: &[u8], v: View, s: Filled, from: u32, n: u32, dst: &mut [u32]) 
             p += m as u32;
             continue;
         };
-        dst[k] = load_u32(file, words + 4 * rank.0 as usize);
-        k += 1;
-        p += 1;
+        let m = stored_ahead(v, c, (end - k) as u32);
+        copy_words(file, words + 4 * rank.0 as usize, dst, k, m as usize);
+        k += m as usize;
+        p += m;
     }
     Filled {
         cursor: c,
@@ -122,7 +137,7 @@ pub fn put_box(
     let from = r.low;
     let to = r.high;
     let s = Filled {
-        cursor: start(file, v),
+        cursor: begin(file, v),
         words: 0,
     };
     put_from(file, v, extents, from, to, 0, 0, s, dst);

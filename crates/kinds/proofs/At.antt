@@ -12,10 +12,11 @@ use Rattle.parts.specs.declared.Cursor.{Cursor}
 use Rattle.parts.specs.declared.Encoder.{Encoder}
 use Rattle.parts.specs.declared.Found.{Found}
 use Rattle.parts.specs.declared.PartBytes.{PartBytes}
+use Rattle.parts.specs.declared.RunPart.{RunPart}
 use Rattle.parts.specs.declared.Sizes.{Sizes}
 use Rattle.parts.specs.declared.walk.Walk.{Walk}
 use Rattle.parts.specs.Holds.{kindOf, Counted, Sized, said, partsRight, Holds}
-use Rattle.parts.specs.Found.{FoundIn, PositionIn}
+use Rattle.parts.specs.Found.{FoundIn, PositionIn, RunIn}
 use Rattle.parts.specs.Cursor.{Batch}
 use Rattle.parts.specs.Walks.{sought, Climbs}
 use Rattle.parts.specs.Encoder.{Coder, endedBy, takenAllBy}
@@ -46,6 +47,9 @@ module _ (v : View) (k : ℕ) (e : v .kind ≡ k) where
 
     pub view-placed : (r q : ℕ) → PositionIn (codecOf k (v .width) (v .step)) b v r q → PositionIn (kindOf v) b v r q
     view-placed r q h = subst (λ (n : ℕ). PositionIn (codecOf n (v .width) (v .step)) b v r q) (sym e) h
+
+    pub view-run : (r : ℕ) (f : RunPart) → RunIn (codecOf k (v .width) (v .step)) b v r f → RunIn (kindOf v) b v r f
+    view-run r f h = subst (λ (n : ℕ). RunIn (codecOf n (v .width) (v .step)) b v r f) (sym e) h
 
     pub view-next : (c r : Cursor) → r ≡ nextBy k b v c → r ≡ nextOf b v c
     unfolding nextOf

@@ -3,12 +3,14 @@ use format::Position;
 use format::Rank;
 use format::View;
 use parts::Found;
+use parts::RunPart;
 ghost use mathlib.Core.Path.{_≡_};
 ghost use mathlib.Core.Bool.{true};
 ghost use Prim.Native.Nat.{_<_};
 ghost use Rattle.parts.specs.Holds.{kindOf};
-ghost use Rattle.parts.specs.Found.{FoundIn, PositionIn};
+ghost use Rattle.parts.specs.Found.{FoundIn, PositionIn, RunIn};
 ghost use Rattle.kinds.specs.Search.{placedByRank};
+ghost use Rattle.kinds.specs.Steps.{storesRuns};
 
 // The place of a position among the stored ones.
 pub fn find(file: &[u8], v: View, p: Position) -> Found
@@ -64,4 +66,15 @@ pub fn placed_position(file: &[u8], v: View, r: Rank) -> u64
         return positions::search::position_of(file, v, r);
     }
     base_offset::search::position_of(file, v, r)
+}
+
+// In a file that stores runs: where a rank stands, and the ranks after it in its run; over unfit bytes any numbers.
+pub fn run_of(file: &[u8], v: View, r: Rank) -> RunPart
+    requires { ⌜ storesRuns (v .kind) × (r .0 < v .words) ⌝ }
+    ensures { λ f. ⌜ RunIn (kindOf v) (now (file .entry)) v (r .0) f ⌝ }
+{
+    if v.kind == 1 {
+        return runs::search::run_of(file, v, r);
+    }
+    paged_runs::search::run_of(file, v, r)
 }

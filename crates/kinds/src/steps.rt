@@ -68,7 +68,7 @@ pub fn seek(file: &[u8], v: View, c: Cursor, p: Position) -> Cursor
 
 // Whether a kind stores runs.
 pub fn stores_runs(kind: u32) -> bool
-    ensures { λ r. ⌜ (r ≡ true → storesRuns kind) ⌝ }
+    ensures { λ r. ⌜ (r ≡ true → storesRuns kind) × (storesRuns kind → r ≡ true) ⌝ }
 {
     if kind == 1 {
         return true;

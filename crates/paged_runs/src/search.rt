@@ -7,10 +7,11 @@ use format::Position;
 use format::Rank;
 use format::View;
 use parts::Found;
+use parts::RunPart;
 use wire::numbers::long;
 ghost use Prim.Native.Nat.{_<_};
 ghost use Rattle.format.specs.PagedRuns.{pagesKind};
-ghost use Rattle.parts.specs.Found.{FoundIn, PositionIn};
+ghost use Rattle.parts.specs.Found.{FoundIn, PositionIn, RunIn};
 
 // Where a position stands among the stored ones: the cells before it that are not empty are below it.
 pub fn find(file: &[u8], v: View, p: Position) -> Found
@@ -46,4 +47,15 @@ pub fn position_of(file: &[u8], v: View, r: Rank) -> u64
         return 0;
     }
     long(r.0) + found / 2
+}
+
+// Where a rank stands; of its run this tells the one cell.
+pub fn run_of(file: &[u8], v: View, r: Rank) -> RunPart
+    requires { ⌜ r .0 < v .words ⌝ }
+    ensures { λ f. ⌜ RunIn (pagesKind (v .width) (v .step)) (now (file .entry)) v (r .0) f ⌝ }
+{
+    RunPart {
+        at: position_of(file, v, r),
+        cells: 1,
+    }
 }

@@ -12,6 +12,12 @@ pub struct Found {
     pub here: bool,
 }
 
+// Where a rank stands, and how many ranks from it on stand at the cells that follow without a gap.
+pub struct RunPart {
+    pub at: u64,
+    pub cells: u32,
+}
+
 // Whether the entry counts are the kind's, and the bytes of each part by them.
 pub struct PartBytes {
     pub right: bool,

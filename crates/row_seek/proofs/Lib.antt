@@ -1,2 +1,3 @@
 pub mod Resumed
+pub mod Runs
 pub mod Seeking

@@ -1,7 +1,8 @@
 -- A search that goes on from where a cursor stands. Assumes nothing.
 use Prim.Native.Nat.{ℕ, zero, suc, _+_, _-_, _≤_, _<_}
 use mathlib.Core.Path.{_≡_, refl, sym, ap, _∙_, subst}
-use mathlib.Core.Bool.{true}
+use mathlib.Core.Logic.{⊎-elim}
+use mathlib.Core.Bool.{true, false}
 use mathlib.Core.List.{List, [], _∷_}
 use native.Mathlib.Nat.{add-zero, zero-add, lt-of-not-le}
 use native.Mathlib.Decide.{decLe}
@@ -25,7 +26,8 @@ use Rattle.parts.specs.Cursor.{add32, before}
 use Rattle.parts.specs.Holds.{ViewOf}
 use Rattle.parts.proofs.Steps.{add32-small}
 use Rattle.parts.proofs.Seen.{Seen, seen}
-use Rattle.kinds.specs.Steps.{nextOf, startOf, byWalk}
+use Rattle.kinds.specs.Steps.{nextOf, startOf, byWalk, storesRuns}
+use Rattle.kinds.proofs.None.{never}
 use Rattle.kinds.proofs.Laws.{rank-next}
 use Rattle.kinds.proofs.Walks.{Ahead, walk-start, walk-next}
 use Rattle.search.specs.Searched.{RankSearched}
@@ -58,11 +60,19 @@ rising-rest a B zero x (l ∷ ls) xs o e =
     subst (Rising x B) e (omega arith, o .1, o .2)
 rising-rest a B (suc r) x (l ∷ ls) xs o e = rising-rest (suc l) B r x ls xs (o .2) e
 
+-- ---- a kind's number
+
+pub runs-no-walk : (k : ℕ) → storesRuns k → byWalk k ≡ false
+runs-no-walk k s = ne-eqb k 4 (λ z. ⊎-elim (λ e. omega arith) (λ e. omega arith) s)
+
+walk-no-runs : (k : ℕ) → byWalk k ≡ true → storesRuns k → ⊥
+walk-no-runs k w s = never (sym (runs-no-walk k s) ∙ w)
+
 -- ---- on an accepted file
 
 pub ready-later : (b : List ℕ) (v : View) (c : Cursor) (p q : ℕ) → p ≤ q → Ready b v c p → Ready b v c q
 ready-later b v c p q h y =
-    record { rank = y .rank; at = y .at; ahead = y .ahead; passed = below-widen p q (take (c .rank) (positionsOf b)) h (y .passed) }
+    record { rank = y .rank; at = y .at; ahead = y .ahead; run = y .run; passed = below-widen p q (take (c .rank) (positionsOf b)) h (y .passed) }
 
 module _ (b : List ℕ) (v : View) (o : ViewOf b v) where
   known : Seen b v
@@ -78,17 +88,19 @@ module _ (b : List ℕ) (v : View) (o : ViewOf b v) where
   from-rank c r z w = subst (Ahead b v c) (sym z) w
 
   -- a cursor that can walk on stands at the position of its rank
-  by-walk : (c : Cursor) (p : ℕ) → c .rank ≤ v .words → Ahead b v c (c .rank) → Below p (take (c .rank) (positionsOf b)) → Ready b v c p
-  by-walk c p n w below = record { rank = n; at = λ h. walk-next b v o c (c .rank) h w .position; ahead = λ k. w; passed = below }
+  by-walk : (storesRuns (v .kind) → ⊥) → (c : Cursor) (p : ℕ) → c .rank ≤ v .words → Ahead b v c (c .rank) → Below p (take (c .rank) (positionsOf b))
+      → Ready b v c p
+  by-walk s c p n w below =
+      record { rank = n; at = λ h. walk-next b v o c (c .rank) h w .position; ahead = λ k. w; run = λ k. absurd (s k); passed = below }
 
   rank-start : startOf b v .rank ≡ 0
   unfolding startOf add32
   rank-start = rank-next b v before (known .header .counted .allowed)
 
-  pub ready-start : (c : Cursor) → c ≡ startOf b v → Ready b v c 0
-  ready-start c e =
+  pub ready-start : (storesRuns (v .kind) → ⊥) → (c : Cursor) → c ≡ startOf b v → Ready b v c 0
+  ready-start s c e =
       let z : c .rank ≡ 0 = ap (λ (x : Cursor). x .rank) e ∙ rank-start in
-      by-walk c 0 (omega arith) (from-rank c 0 z (rw e (walk-start b v o))) (rw z tt)
+      by-walk s c 0 (omega arith) (from-rank c 0 z (rw e (walk-start b v o))) (rw z tt)
 
   module _ (c : Cursor) (p : ℕ) (y : Ready b v c p) where
     left : p < v .cells → rankIn (emptyOf b) (wordsOf b) p ≡ rankAmong p (c .rank) (drop (c .rank) (positionsOf b))
@@ -129,7 +141,7 @@ module _ (b : List ℕ) (v : View) (o : ViewOf b v) where
       ready-next k d e h =
           let u = rank-up d e in
           let t = walk-next b v o c (c .rank) more (y .ahead k) in
-          by-walk d p (omega arith) (from-rank d (c .rank + 1) u (rw e (t .rest))) (rw u (passed-at p (c .rank) more (rw (← y .at more) h)))
+          by-walk (walk-no-runs (v .kind) k) d p (omega arith) (from-rank d (c .rank + 1) u (rw e (t .rest))) (rw u (passed-at p (c .rank) more (rw (← y .at more) h)))
 
     -- before the next stored cell
     pub sought-empty : p < v .cells → (c .rank < v .words → p < c .at) → RankSearched b v p empty

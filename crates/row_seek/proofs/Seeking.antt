@@ -22,7 +22,7 @@ use Rattle.parts.specs.Holds.{kindOf, ViewOf}
 use Rattle.parts.specs.Walks.{sought}
 use Rattle.parts.proofs.Places.{count-none}
 use Rattle.parts.proofs.Seen.{seen}
-use Rattle.kinds.specs.Steps.{nextOf, byWalk, soughtBy}
+use Rattle.kinds.specs.Steps.{nextOf, byWalk, storesRuns, soughtBy}
 use Rattle.row_seek.specs.declared.seek.Gap.{Gap}
 use Rattle.kinds.proofs.None.{never}
 use Rattle.row_seek.specs.Ready.{Ready, Reached, Around}
@@ -75,9 +75,9 @@ cut a B p (l ∷ ls) o =
 module _ (b : List ℕ) (v : View) (o : ViewOf b v) where
   -- ---- neighbours
 
-  pub reached-between : (c : Cursor) (g : Gap) (p : ℕ) → byWalk (v .kind) ≡ false → Around b v p g → g .high ≡ g .low + 1 → c .rank ≡ g .high → c .at ≡ g .at
+  pub reached-between : (c : Cursor) (g : Gap) (p : ℕ) → byWalk (v .kind) ≡ false → (storesRuns (v .kind) → ⊥) → Around b v p g → g .high ≡ g .low + 1 → c .rank ≡ g .high → c .at ≡ g .at
       → Reached b v c p
-  reached-between c g p k a e z w =
+  reached-between c g p k s a e z w =
       let m = a .most in
       let h : g .low < v .words = omega arith in
       record {
@@ -85,6 +85,7 @@ module _ (b : List ℕ) (v : View) (o : ViewOf b v) where
           rank = omega arith;
           at = λ i. w ∙ a .at (omega arith) ∙ ap (λ (x : ℕ). getD (positionsOf b) x 0) (sym z);
           ahead = λ i. absurd (never (sym k ∙ i));
+          run = λ i. absurd (s i);
           passed = rw (z, e) (passed-at b v o p (g .low) h (a .below));
         };
         past = λ i. rw w (a .past (omega arith));
@@ -93,27 +94,10 @@ module _ (b : List ℕ) (v : View) (o : ViewOf b v) where
   -- ---- by a search for p
 
   module _ (p : ℕ) (f : Found) (found : FoundIn (kindOf v) b v p f) where
-    split : Cut p (positionsOf b) (f .below)
-    split =
+    pub cut-found : Cut p (positionsOf b) (f .below)
+    cut-found =
         let h = seen b v o .holds in
         rw (found .right (positionsOf b) h .below) (cut 0 (v .cells) p (positionsOf b) (h .rising))
-
-    pub stored-here : f .here ≡ true → p ≡ getD (positionsOf b) (f .below) 0
-    stored-here t = sym (split .here (sym (found .right (positionsOf b) (seen b v o .holds) .here) ∙ t) .1)
-
-    pub reached-found : (c : Cursor) → byWalk (v .kind) ≡ false → c .rank ≡ f .below → (f .below < v .words → c .at ≡ getD (positionsOf b) (f .below) 0) → Reached b v c p
-    reached-found c k r e =
-        let n = seen b v o .holds .size in
-        let m = split .most in
-        record {
-          ready = record {
-            rank = omega arith;
-            at = λ i. e (omega arith) ∙ ap (λ (x : ℕ). getD (positionsOf b) x 0) (sym r);
-            ahead = λ i. absurd (never (sym k ∙ i));
-            passed = rw r (split .passed);
-          };
-          past = λ i. rw (e (omega arith)) (split .past (omega arith));
-        }
 
   -- ---- by a walk
 

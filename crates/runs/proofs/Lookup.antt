@@ -1,5 +1,5 @@
 -- Over parts that hold stored positions: where run j stands among them, and what the searches find. Assumes nothing.
-use Prim.Native.Nat.{ℕ, zero, suc, _+_, _-_, _*_, _≤_, _<_}
+use Prim.Native.Nat.{ℕ, zero, suc, _+_, _-_, _*_, _^_, _≤_, _<_}
 use mathlib.Core.Path.{_≡_, refl, sym, ap, _∙_}
 use mathlib.Core.Bool.{false}
 use mathlib.Core.List.{List, [], _∷_, _++_}
@@ -17,9 +17,10 @@ use Rattle.laws.proofs.Positions.{runs-back}
 use Rattle.laws.proofs.Ranks.{InOrder, in-order}
 use Rattle.wire.specs.declared.Pair.{Pair}
 use Rattle.parts.specs.declared.Found.{Found}
+use Rattle.parts.specs.declared.RunPart.{RunPart}
 use Rattle.parts.specs.Holds.{Holds}
-use Rattle.parts.specs.Found.{FoundAmong}
-use Rattle.parts.proofs.Places.{found-here, found-gap}
+use Rattle.parts.specs.Found.{FoundAmong, PartOf}
+use Rattle.parts.proofs.Places.{rising-below, found-here, found-gap}
 use Rattle.parts.proofs.Entries.{Entries, first-pair, rest-pairs}
 use Rattle.parts.specs.Last.{Ascending, LastAtMost}
 use Rattle.parts.proofs.Last.{ascending-by}
@@ -255,14 +256,45 @@ module _ (b : List ℕ) (v : View) (ls : List ℕ) (h : Holds (runsKind (v .widt
           holds = λ k. let s : r < ranksBefore b (v .start) (suc j) = last-ranks .high ranks-rise (suc j) (omega arith) (omega arith) in omega arith;
         }
 
-    pub position : r < v .words → r + emptyAt b (v .start) j ≡ getD ls r 0
-    position k =
+    -- a rank of a stored word is in a run
+    in-runs : r < v .words → j < v .firsts
+    in-runs k =
         let a = first-with .begins in
         let m = g .most in
         let n = h .size in
         cases (ltb j (v .firsts))
-        (λ t. let u = ltb-true j (v .firsts) t in sym (at-rank j r u a (first-with .holds u)))
+        (λ t. ltb-true j (v .firsts) t)
         (λ t.
         let u = ltb-false j (v .firsts) t in
         let e : ranksBefore b (v .start) j ≡ length ls = ap (ranksBefore b (v .start)) (omega arith) ∙ ranks in
         absurd (omega arith))
+
+    pub position : r < v .words → r + emptyAt b (v .start) j ≡ getD ls r 0
+    position k = let u = in-runs k in sym (at-rank j r u (first-with .begins) (first-with .holds u))
+
+    -- the last cell of a run is the position of its last rank
+    last-below : j < v .firsts → lastAt b (v .start) j < v .cells
+    last-below u =
+        let i = in-run j u in
+        let o = i .some in
+        let m = i .most in
+        let a = at-rank j (lastAt b (v .start) j - emptyAt b (v .start) j) u (omega arith) (omega arith) in
+        let z = rising-below 0 (v .cells) ls (lastAt b (v .start) j - emptyAt b (v .start) j) (h .rising) (omega arith) in
+        omega arith
+
+    -- the ranks from r on to the end of run j
+    pub run-part : r < v .words → (f : RunPart) → f .at ≡ r + emptyAt b (v .start) j
+        → (f .at ≤ lastAt b (v .start) j → lastAt b (v .start) j + 1 < 2 ^ 32 → f .at + f .cells ≡ lastAt b (v .start) j + 1) → PartOf ls r f
+    run-part k f e n =
+        let u = in-runs k in
+        let a = first-with .begins in
+        let l = first-with .holds u in
+        let m = in-run j u .most in
+        let z = last-below u in
+        let y = h .counted .cells-most in
+        let q = n (omega arith) (omega arith) in
+        record {
+          some = omega arith;
+          inside = omega arith;
+          along = λ i s. let t = at-rank j (r + i) u (omega arith) (omega arith) in omega arith;
+        }

@@ -1,12 +1,12 @@
--- Each turn puts a stored cell's word, or E up to the next one, and the cells that are left give the row. Assumes nothing.
+-- Each turn puts the words of stored cells, or E up to the next one, and the cells that are left give the row. Assumes nothing.
 use Prim.Native.Nat.{_+_, _-_, _*_, _^_, _≤_, _<_}
-use mathlib.Core.Path.{refl, _∙_}
+use mathlib.Core.Path.{_≡_, refl}
 use mir.Val.{Fits}
 use mir.Syntax.{w32}
 use native.Mathlib.Omega.{arith}
 use lib.ListN.{length, replicate}
 use Rattle.parts.proofs.Seen.{seen}
-use Rattle.box_rows.proofs.Rows.{word-stored, stands-past, words-empty, RowLeft, row-start, row-inside, row-turn, row-word, row-end}
+use Rattle.box_rows.proofs.Rows.{stands-past, stands-here, words-empty, words-there, words-stored, RowLeft, row-start, row-inside, row-turn, row-end}
 use borrow.Author.Needs.{needs}
 use Rattle.box_rows.proofs.put_row.Statement.{statement}
 use Rattle.box_rows.proofs.put_row.Tie as tie
@@ -63,7 +63,7 @@ empty-ahead-requires : tie.Need-empty-ahead-requires Inv-loop μ-loop
 empty-ahead-requires c κs =
     let s = c .before .before .before .before .before .before .before .before .before in
     let r = c .before .before .rank-from in
-    stands-past (s .args .file .now) (s .args .v) (s .pre .view) (c .before .before .before .before .loop .p) (cell (c .before .before .before)) (r .result .cursor) (r .ensures .1) (r .result .answer) (c .match .keys2) (r .ensures .0)
+    stands-past (s .args .file .now) (s .args .v) (s .pre .view) (c .before .before .before .before .loop .p) (cell (c .before .before .before)) (r .result .cursor) (r .ensures .1) (r .result .answer) (r .ensures .0) (c .match .keys2)
 
 fill-from-requires : tie.Need-fill-from-requires Inv-loop μ-loop
 fill-from-requires c κs =
@@ -112,35 +112,83 @@ loop-again c =
     (r .result .cursor) (a .result) (replicate (a .result) (s .args .v .empty)) _ h
     (words-empty (s .args .file .now) (s .args .v) (s .pre .view) (r .result .cursor) (l .p) (a .result) y i (a .ensures .2)) (c .before .before .fill-from .ensures) y
 
-add-load-u32 : tie.Need-add-load-u32 Inv-loop μ-loop
-add-load-u32 c = let at = place (c .before .before .before .before .before .before .before .before .before .before .before .before) in search needs
+-- the cursor stands at the rank
+here : (c : tie.After-stored-ahead Inv-loop μ-loop) → (c .before .before .before .before .before .rank-from .result .cursor .rank < c .before .before .before .before .before .before .before .before .before .before .before .before .args .v .words) × (c .before .before .before .before .before .rank-from .result .cursor .at ≡ c .before .before .before .before .before .before .before .loop .p) × (c .before .before .before .before .before .rank-from .result .cursor .rank ≡ c .before .before .answer .given .0 .0 .0)
+here c =
+    let s = c .before .before .before .before .before .before .before .before .before .before .before .before in
+    let r = c .before .before .before .before .before .rank-from in
+    stands-here (s .args .file .now) (s .args .v) (s .pre .view) (c .before .before .before .before .before .before .before .loop .p) (cell (c .before .before .before .before .before .before)) (r .result .cursor) (r .ensures .1) (r .result .answer) (r .ensures .0) _ (c .before .before .answer .given .1)
 
-mul-dst : tie.Need-mul-dst Inv-loop μ-loop
-mul-dst c = record { fits = offset (c .before .before .before .before .before .before .before) }
+-- the stored cells of a turn
+many : (c : tie.After-stored-ahead Inv-loop μ-loop) → c .before .before .before .before .before .before .before .loop .k + c .stored-ahead .result ≤ c .before .before .before .before .before .before .before .before .before .before .before .before .args .s .words + c .before .before .before .before .before .before .before .before .before .before .before .before .args .n
+many c = let e = c .stored-ahead .ensures .1 in let k = c .before .before .before .before .before .before .loop-test .taken in omega arith
 
-slice-write-dst : tie.Need-slice-write-dst Inv-loop μ-loop
-slice-write-dst c = there (c .before .before .before .before .before .before .before)
+sub-stored-ahead : tie.Need-sub-stored-ahead Inv-loop μ-loop
+sub-stored-ahead c = let k = c .before .before .before .before .before .loop-test .taken in omega arith
+
+cast-stored-ahead : tie.Need-cast-stored-ahead Inv-loop μ-loop
+cast-stored-ahead c =
+    let l = c .before .before .before .before .before in
+    let s = l .before .before .before .before .before .before in
+    let k = l .loop-test .taken in
+    let i = inside l (s .args .s .words + s .args .n - l .before .loop .k) (omega arith) in
+    let f = few l in
+    search needs
+
+stored-ahead-requires : tie.Need-stored-ahead-requires Inv-loop μ-loop
+stored-ahead-requires c κs = let k = c .before .before .before .before .before .loop-test .taken in omega arith
+
+add-copy-words : tie.Need-add-copy-words Inv-loop μ-loop
+add-copy-words c = let at = place (c .before .before .before .before .before .before .before .before .before .before .before .before .before) in search needs
+
+copy-words-requires : tie.Need-copy-words-requires Inv-loop μ-loop
+copy-words-requires c κs =
+    let t = c .before .before in
+    let s = t .before .before .before .before .before .before .before .before .before .before .before .before in
+    let r = t .before .before .before .before .before .rank-from in
+    let h = here t in
+    let w = words-there (s .args .file .now) (s .args .v) (s .pre .view) (r .result .cursor) (t .before .before .before .before .before .before .before .loop .p) (t .stored-ahead .result) (r .ensures .1 .ready) (h .0) (h .1) (t .stored-ahead .ensures .2) in
+    let e = h .2 in
+    let m = many t in
+    let f = s .pre .fits in
+    let z = t .before .before .before .before .before .before .before .loop .inv .size in
+    (omega arith, omega arith)
 
 add-k-2 : tie.Need-add-k-2 Inv-loop μ-loop
-add-k-2 c = let h = there (c .before .before .before .before .before .before .before) in let m = offset (c .before .before .before .before .before .before .before) in search needs
+add-k-2 c =
+    let t = c .before .before .before .before .before in
+    let h = offset (t .before .before .before .before .before .before) in
+    let i = inside (t .before .before .before .before .before .before) _ (many t) in
+    let f = few (t .before .before .before .before .before .before) in
+    record { fits = omega arith }
 
 add-p-2 : tie.Need-add-p-2 Inv-loop μ-loop
 add-p-2 c =
-    let h = cell (c .before .before .before .before .before .before .before) in
-    let f = few (c .before .before .before .before .before .before .before) in
+    let t = c .before .before .before .before .before in
+    let i = inside (t .before .before .before .before .before .before) _ (many t) in
+    let f = few (t .before .before .before .before .before .before) in
     search needs
 
 loop-less-2 : tie.Need-loop-less-2 Inv-loop μ-loop
-loop-less-2 c = let k = c .before .before .before .before .before .before .before .loop-test .taken in omega arith
+loop-less-2 c =
+    let t = c .before .before .before .before .before in
+    let k = t .before .before .before .before .before .before .loop-test .taken in
+    let e = t .stored-ahead .ensures .0 in
+    let m = many t in
+    omega arith
 
 loop-again-2 : tie.Need-loop-again-2 Inv-loop μ-loop
 loop-again-2 c =
-    let s = c .before .before .before .before .before .before .before .before .before .before .before .before .before in
-    let l = c .before .before .before .before .before .before .before .before .loop in
-    let r = c .before .before .before .before .before .before .rank-from in
-    let x = word-stored (s .args .file .now) (s .args .v) (s .pre .view) (l .p) (cell (c .before .before .before .before .before .before .before)) (r .result .answer) _ (c .before .before .before .answer .given .1) (r .ensures .0) in
-    row-word (s .args .file .now) (s .args .v) (s .args .from) (s .args .n) (s .args .s .words) (s .args .dst .now) (l .dst) (l .c) (l .p) (l .k) (l .inv)
-    (r .result .cursor) (c .load-u32 .result) (c .before .before .before .before .before .before .before .loop-test .taken) (c .load-u32 .ensures .0 ∙ x) (r .ensures .1 .ready)
+    let t = c .before .before .before .before .before in
+    let s = t .before .before .before .before .before .before .before .before .before .before .before .before in
+    let l = t .before .before .before .before .before .before .before .loop in
+    let r = t .before .before .before .before .before .rank-from in
+    let y = r .ensures .1 .ready in
+    let m = t .stored-ahead .result in
+    let h = here t in
+    let x = words-stored (s .args .file .now) (s .args .v) (s .pre .view) (r .result .cursor) (l .p) m y (h .0) (h .1) (t .stored-ahead .ensures .2) (inside (t .before .before .before .before .before .before) m (many t)) in
+    row-turn (s .args .file .now) (s .args .v) (s .args .from) (s .args .n) (s .args .s .words) (s .args .dst .now) (l .dst) (l .c) (l .p) (l .k) (l .inv)
+    (r .result .cursor) m _ _ (many t) (rw (h .2) at x) (c .before .before .copy-words .ensures) y
 
 same-length : tie.Need-same-length Inv-loop μ-loop
 same-length c = c .before .loop .inv .size
@@ -170,12 +218,15 @@ put-row-spec =
     add-p
     loop-less
     loop-again
+    sub-stored-ahead
+    cast-stored-ahead
+    stored-ahead-requires
     (λ c. search needs)
     (λ c. search needs)
-    add-load-u32
-    (λ c κs. search needs)
-    mul-dst
-    slice-write-dst
+    add-copy-words
+    (λ c. search needs)
+    copy-words-requires
+    (λ c. search needs)
     add-k-2
     add-p-2
     loop-less-2

@@ -7,7 +7,7 @@ ranks : tie.Need-measure-counted-requires
 ranks c κs = let p = c .before .before .before .pre in (p .0, p .1, inl (c .before .sized-by-ranks .ensures (c .if1 .taken)))
 
 runs : tie.Need-measure-counted-requires-2
-runs c κs = let p = c .before .before .before .before .before .pre in (p .0, p .1, inr (c .before .stores-runs .ensures (c .if2 .taken)))
+runs c κs = let p = c .before .before .before .before .before .pre in (p .0, p .1, inr (c .before .stores-runs .ensures .0 (c .if2 .taken)))
 
 pub measure-spec : {M : Type 1} → statement M
 measure-spec =

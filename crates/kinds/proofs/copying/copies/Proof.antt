@@ -5,7 +5,7 @@ use Rattle.kinds.proofs.copying.copies.Statement.{statement}
 use Rattle.kinds.proofs.copying.copies.Tie as tie
 
 returns : tie.Need-returns
-returns c = λ h. (c .before .stores-runs .ensures (c .if1 .taken), eqb-true _ _ h)
+returns c = λ h. (c .before .stores-runs .ensures .0 (c .if1 .taken), eqb-true _ _ h)
 
 returns-2 : tie.Need-returns-2
 returns-2 c = λ h. absurd (never h)

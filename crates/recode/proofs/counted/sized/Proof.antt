@@ -37,7 +37,7 @@ ranks-after-requires-2 c κs =
 runs-after-requires : tie.Need-runs-after-requires
 runs-after-requires c κs =
     let p = c .before .before .before .before .before .before .before .before .pre in
-    (p .0, p .1, c .before .before .stores-runs2 .ensures (c .before .if3 .taken))
+    (p .0, p .1, c .before .before .stores-runs2 .ensures .0 (c .before .if3 .taken))
 
 by-counts-requires-2 : tie.Need-by-counts-requires-2
 by-counts-requires-2 c κs =
@@ -51,7 +51,7 @@ returns-2 c =
     let a = p .args in
     let r = c .by-counts2 in
     runs-measure (a .file .now) (a .v) (p .pre .0) (a .x) (p .pre .1) _ (c .before .before .ranks-after2 .ensures .0) (a .s) (p .pre .2) _ (r .result)
-    (r .ensures .0) (r .ensures .1) (c .before .before .before .before .before .before .stores-runs .ensures (c .before .before .before .before .before .if2 .taken)) (c .before .runs-after .ensures .0)
+    (r .ensures .0) (r .ensures .1) (c .before .before .before .before .before .before .stores-runs .ensures .0 (c .before .before .before .before .before .if2 .taken)) (c .before .runs-after .ensures .0)
 
 pub sized-spec : {M : Type 1} → statement M
 sized-spec =

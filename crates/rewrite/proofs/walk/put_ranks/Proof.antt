@@ -17,7 +17,7 @@ returns c = let w = c .before .before .copy-ranks .ensures in (w .walk, w .bytes
 put-runs-requires : tie.Need-put-runs-requires
 put-runs-requires c κs =
     let p = c .before .before .before .before .before .before .before .before .before .pre in
-    (p .1, c .before .before .before .before .stores-runs .ensures (c .before .before .before .if2 .taken), c .before .before .stores-runs2 .ensures (c .before .if3 .taken), p .2, p .3)
+    (p .1, c .before .before .before .before .stores-runs .ensures .0 (c .before .before .before .if2 .taken), c .before .before .stores-runs2 .ensures .0 (c .before .if3 .taken), p .2, p .3)
 
 pub put-ranks-spec : {M : Type 1} → statement M
 put-ranks-spec =

@@ -3,7 +3,8 @@ use Prim.Native.Nat.{_-_}
 use mathlib.Core.Path.{_≡_, refl, sym, _∙_}
 use mathlib.Core.Bool.{true, false}
 use native.Mathlib.Omega.{arith}
-use Rattle.kinds.specs.Steps.{byWalk}
+use Rattle.kinds.specs.Steps.{byWalk, storesRuns}
+use Rattle.kinds.proofs.None.{never}
 use Rattle.kinds.proofs.Walks.{climbs}
 use Rattle.row_seek.proofs.Seeking.{reached-between, reached-walk}
 use borrow.Author.Needs.{needs}
@@ -31,10 +32,15 @@ returns-3 c =
 not-by-walk : (c : tie.Else3) → byWalk (c .before .before .before .before .before .before .before .before .before .args .v .kind) ≡ false
 not-by-walk c = sym (c .before .by-walk .ensures) ∙ c .if3 .left
 
-searched-requires : tie.Need-searched-requires
-searched-requires c κs =
-    let s = c .before .before .before .before .before .before .before .before .before .before .before in
-    (s .pre .0, not-by-walk (c .before .before), s .pre .1)
+along-runs-requires : tie.Need-along-runs-requires
+along-runs-requires c κs =
+    let e = c .before .before in
+    let s = e .before .before .before .before .before .before .before .before .before in
+    (s .pre .0, c .before .stores-runs .ensures .0 (c .if4 .taken), s .pre .1, s .pre .2, e .before .before .before .before .before .if1 .left, e .before .before .if2 .left)
+
+-- the kind stores no runs
+no-runs : (c : tie.Else4) → storesRuns (c .before .before .before .before .before .before .before .before .before .before .before .args .v .kind) → ⊥
+no-runs c h = never (sym (c .if4 .left) ∙ c .before .stores-runs .ensures .1 h)
 
 gallop-requires : tie.Need-gallop-requires
 gallop-requires c κs =
@@ -48,7 +54,7 @@ returns-5 c =
     let e = c .before .before .before .before in
     let s = e .before .before .before .before .before .before .before .before .before in
     let r = c .narrowed in
-    reached-between (s .args .file .now) (s .args .v) (s .pre .0) _ (r .result) _ (not-by-walk e) (r .ensures .0) (r .ensures .1) refl refl
+    reached-between (s .args .file .now) (s .args .v) (s .pre .0) _ (r .result) _ (not-by-walk e) (no-runs (c .before .before)) (r .ensures .0) (r .ensures .1) refl refl
 
 pub seek-spec : {M : Type 1} → statement M
 seek-spec =
@@ -60,8 +66,8 @@ seek-spec =
     seek-requires
     returns-3
     (λ c κs. search needs)
-    searched-requires
-    (λ c. c .searched .ensures)
+    along-runs-requires
+    (λ c. c .along-runs .ensures)
     gallop-requires
     (λ c κs. search needs)
     returns-5)
