@@ -1,5 +1,6 @@
 -- Check and searches.
 pub mod Held
+pub mod Left
 pub mod PartsAgain
 pub mod Answering
 pub mod Finding

@@ -1,4 +1,5 @@
 // The searches (document 01, "The file", kind 5), through the levels from the top page down.
+use descent::search::LEFT;
 use descent::search::NOWHERE;
 use descent::search::PLACE;
 use descent::search::RANK;
@@ -49,13 +50,16 @@ pub fn position_of(file: &[u8], v: View, r: Rank) -> u64
     long(r.0) + found / 2
 }
 
-// Where a rank stands; of its run this tells the one cell.
+// Where a rank stands, and how many ranks from it on its run has.
 pub fn run_of(file: &[u8], v: View, r: Rank) -> RunPart
     requires { ⌜ r .0 < v .words ⌝ }
     ensures { λ f. ⌜ RunIn (pagesKind (v .width) (v .step)) (now (file .entry)) v (r .0) f ⌝ }
 {
-    RunPart {
-        at: position_of(file, v, r),
-        cells: 1,
+    let at = position_of(file, v, r);
+    let left = search(file, v.start, v.step, v.seconds, r.0, LEFT);
+    let mut cells: u32 = 0;
+    if left < 4294967296 {
+        cells = left as u32;
     }
+    RunPart { at, cells }
 }

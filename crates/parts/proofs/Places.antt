@@ -1,14 +1,14 @@
 -- Where a number stands among rising positions: by two neighbours, and what that says of its rank. Every search of a kind ends here. Assumes nothing.
 use Prim.Native.Nat.{ℕ, zero, suc, _+_, _-_, _≤_, _<_}
-use mathlib.Core.Path.{_≡_, refl, ap, _∙_}
+use mathlib.Core.Path.{_≡_, refl, sym, ap, _∙_}
 use mathlib.Core.Bool.{true, false}
 use mathlib.Core.List.{List, [], _∷_}
-use native.Mathlib.Nat.{zero-add}
+use native.Mathlib.Nat.{zero-add, add-zero}
 use native.Mathlib.Omega.{arith}
 use lib.ListN.{length, getD}
 use lib.Dec.{ltb, eqb}
 use borrow.Author.Tests.{eq-eqb, ne-eqb, lt-ltb, le-ltb, eqb-true, eqb-false, ltb-false}
-use Rattle.format.specs.Tools.{pick}
+use Rattle.format.specs.Tools.{pick, range}
 use Rattle.format.specs.Answers.{empty, given}
 use Rattle.laws.proofs.Tools.{cases}
 use Rattle.laws.proofs.Stored.{Rising, rising-weaken}
@@ -17,7 +17,13 @@ use Rattle.laws.proofs.Search.{rankAmong, not-among}
 use Rattle.parts.specs.declared.Found.{Found}
 use Rattle.parts.specs.Found.{countBelow, among, FoundAmong}
 
--- ---- rising positions by their indices
+-- ---- positions by their indices
+
+pub getD-range : (a n i : ℕ) → i < n → getD (range a n) i 0 ≡ a + i
+unfolding range
+getD-range a zero i h = absurd (omega arith)
+getD-range a (suc n) zero h = sym (add-zero a)
+getD-range a (suc n) (suc i) h = getD-range (suc a) n i (omega arith) ∙ omega arith
 
 pub rising-below : (a B : ℕ) (ls : List ℕ) (i : ℕ) → Rising a B ls → i < length ls → getD ls i 0 < B
 rising-below a B [] i r h = absurd (omega arith)

@@ -20,7 +20,7 @@ use Rattle.parts.specs.declared.Found.{Found}
 use Rattle.parts.specs.declared.RunPart.{RunPart}
 use Rattle.parts.specs.Holds.{Holds}
 use Rattle.parts.specs.Found.{FoundAmong, PartOf}
-use Rattle.parts.proofs.Places.{rising-below, found-here, found-gap}
+use Rattle.parts.proofs.Places.{getD-range, rising-below, found-here, found-gap}
 use Rattle.parts.proofs.Entries.{Entries, first-pair, rest-pairs}
 use Rattle.parts.specs.Last.{Ascending, LastAtMost}
 use Rattle.parts.proofs.Last.{ascending-by}
@@ -42,12 +42,6 @@ pub record FirstWith (b : List ℕ) (v : View) (r j : ℕ) : Type 0 where
   pub most : j ≤ v .firsts
   pub begins : ranksBefore b (v .start) j ≤ r
   pub holds : j < v .firsts → r + emptyAt b (v .start) j ≤ lastAt b (v .start) j
-
-getD-range : (a n i : ℕ) → i < n → getD (range a n) i 0 ≡ a + i
-unfolding range
-getD-range a zero i h = absurd (omega arith)
-getD-range a (suc n) zero h = sym (add-zero a)
-getD-range a (suc n) (suc i) h = getD-range (suc a) n i (omega arith) ∙ omega arith
 
 -- the first run, after e cells of which v are empty
 first-run : (e v : ℕ) (x : Run) (ys : List ℕ) → v ≤ e → v ≤ x .empty → e + (x .empty - v) ≤ x .last
