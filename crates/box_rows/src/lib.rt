@@ -45,7 +45,7 @@ fn fill_from(dst: &mut [u32], from: usize, n: usize, x: u32)
 
 // The n words of the file from an offset on become the elements from an index on.
 fn copy_words(file: &[u8], at: usize, dst: &mut [u32], from: usize, n: usize)
-    requires { ⌜ (at + 4 * n ≤ length (now file)) × (from + n ≤ length (now dst)) ⌝ }
+    requires { ⌜ (from + n ≤ length (now dst)) × (at + 4 * n ≤ length (now file)) ⌝ }
     ensures { λ _. ⌜ now (dst .exit) ≡ put (now (dst .entry)) from (numbersOf 4 n (drop at (now (file .entry)))) ⌝ }
 {
     let mut i: usize = 0;
