@@ -1,5 +1,5 @@
 -- The entries of a page that count at most a number: one turn of the count, and the descent by counts where the entries rise. Assumes nothing.
-use Prim.Native.Nat.{ℕ, zero, suc, _+_, _-_, _*_, _^_, _≤_, _<_}
+use Prim.Native.Nat.{ℕ, zero, suc, _+_, _-_, _*_, _/_, _%_, _^_, _≤_, _<_}
 use mathlib.Core.Path.{_≡_, refl, sym, ap, _∙_}
 use mathlib.Core.Bool.{Bool, true, false}
 use mathlib.Core.List.{List, [], _∷_, _++_}
@@ -19,7 +19,7 @@ use Rattle.laws.proofs.Descent.{cells-add, stored-add}
 use Rattle.levels.specs.Levels.{entries}
 use Rattle.levels.proofs.Reading.{length-entries}
 use Rattle.levels.proofs.Bounded.{cellsOf, level-cells}
-use Rattle.descent.specs.Descent.{sub32, counted, passed, leftOf, placeAfter, pageDown, levelsDown}
+use Rattle.descent.specs.Descent.{sub32, halves, counted, passed, leftOf, placeAfter, pageDown, levelsDown}
 
 -- ---- the count, entry by entry
 
@@ -72,7 +72,16 @@ module _ (m : Span → ℕ) (p : ℕ) (file : List ℕ) (start number n : ℕ) w
 sub32-less : (a b : ℕ) → b ≤ a → a < 2 ^ 32 → sub32 a b ≡ a - b
 sub32-less a b h l = omega arith
 
--- what a search counts, as numbers of any size
+-- ---- two numbers in one
+
+pub high-half : (e l : ℕ) → e < 2 ^ 32 → l < 2 ^ 32 → halves e l / 2 ^ 32 ≡ e
+high-half e l h k = omega arith
+
+pub low-half : (e l : ℕ) → l < 2 ^ 32 → halves e l % 2 ^ 32 ≡ l
+low-half e l k = omega arith
+
+-- ---- what a search counts, as numbers of any size
+
 abbrev pub exact : Bool → Span → ℕ
 exact s x = pick s (storedCells x) (allCells x)
 
@@ -87,6 +96,10 @@ exact-none false = refl
 exact-counted : (s : Bool) (y : Span) → Ok y → y .cells < 2 ^ 32 → counted s y ≡ exact s y
 exact-counted true y h l = sub32-less (y .cells) (y .empty) h l
 exact-counted false y h l = refl
+
+-- the ranks of a run from the one at t on
+pub ranks-left : (x : Span) (t : ℕ) → Ok x → x .cells < 2 ^ 32 → t < storedCells x → sub32 (counted true x) t ≡ storedCells x - t
+ranks-left x t h l k = rw (exact-counted true x h l) (sub32-less (storedCells x) t (omega arith) (omega arith))
 
 -- ---- pages of which nothing is read wrongly: no entry has more empty cells than cells, nor 2^32 cells
 

@@ -25,16 +25,20 @@ ofEmpty e = record { cells = 0; empty = e }
 abbrev pub nowhere : ℕ
 nowhere = 18446744073709551615
 
--- What is asked of a search: 0 for where a position stands, 1 for where a rank stands, 2 for how many ranks from that one on stand in its run.
--- A rank is looked for unless 0 is asked.
+-- what is asked of a search: 0 for where a position stands, 1 for where a rank stands, 2 for that and the ranks from there on in its run
 abbrev pub forRank : ℕ → Bool
 forRank asked = ltb 0 asked
 
--- what a search answers: twice the empty cells up to the number, and 1 more where it stands at a stored cell, as a rank always does; or the ranks asked for
+-- two numbers of 32 bits as one
+abbrev pub halves : ℕ → ℕ → ℕ
+halves high low = high % 2 ^ 32 * 2 ^ 32 + low
+
+-- what a search answers: twice the empty cells up to the number, and 1 more where it stands at a stored cell, as a rank always does; or the empty cells up
+-- to a rank, and the ranks from there on in its run
 abbrev pub answered : ℕ → Place → ℕ
 answered asked lost = nowhere
 answered asked (at i p a x) =
-    pick (eqb asked 2) (sub32 (counted true x) p)
+    pick (eqb asked 2) (halves (a .empty + x .empty) (sub32 (counted true x) p))
     (pick (forRank asked || leb (x .empty) p) (2 * (a .empty + x .empty) + 1) (2 * (a .empty + p)))
 
 -- ---- through pages whose entries are counted: where they rise this is the descent of document 01 (law `counts-descend`)

@@ -17,17 +17,17 @@ ghost use lib.Dec.{leb};
 ghost use Rattle.format.specs.Tools.{pick};
 ghost use Rattle.format.specs.PagedRuns.{none, less, at};
 ghost use Rattle.levels.specs.Levels.{entries, spanOf};
-ghost use Rattle.descent.specs.Descent.{sub32, counted, ofEmpty, forRank, answered, passed, leftOf, descended, walked, PageFits, LevelsFit, searched};
+ghost use Rattle.descent.specs.Descent.{sub32, halves, counted, ofEmpty, forRank, answered, passed, leftOf, descended, walked, PageFits, LevelsFit, searched};
 
 // What a search answers where no run is reached.
 pub const NOWHERE: u64 = 0xffff_ffff_ffff_ffff;
 
-// What is asked of a search: where a position stands, where a rank stands, and how many ranks from that one on stand in its run.
+// What is asked of a search: where a position stands, where a rank stands, and that with the ranks from there on in its run.
 pub const PLACE: u32 = 0;
 
 pub const RANK: u32 = 1;
 
-pub const LEFT: u32 = 2;
+pub const RUN: u32 = 2;
 
 // The difference, or 0.
 fn less(x: u32, y: u32) -> u32
@@ -126,16 +126,25 @@ fn own_pair(y: Pair, c: Pair) -> Pair
     }
 }
 
+// Two numbers of 32 bits as one.
+fn halves(high: u64, low: u32) -> u64
+    ensures { λ r. ⌜ r ≡ halves high low ⌝ }
+{
+    (high % 4294967296) * 4294967296 + long(low)
+}
+
 // What a search answers at the run of the entry y, with c to the left of it and `before` empty cells before both, where `rest` of the number is left: twice
-// the empty cells up to the number, and 1 more where it stands at a stored cell, as a rank always does; or how many ranks from this one on the run has.
+// the empty cells up to the number, and 1 more where it stands at a stored cell, as a rank always does; or the empty cells up to a rank, and the ranks from
+// there on in its run.
 fn answer(before: u64, y: Pair, c: Pair, rest: u32, asked: u32) -> u64
     requires { ⌜ before ≤ 2 ^ 40 ⌝ }
     ensures { λ r. ⌜ r ≡ answered asked (at 0 rest (ofEmpty before) (less (spanOf y) (spanOf c))) ⌝ }
 {
-    if asked == LEFT {
-        return long(apart(count(own_pair(y, c), true), rest));
-    }
     let own = less(y.second, c.second);
+    if asked == RUN {
+        let left = apart(count(own_pair(y, c), true), rest);
+        return halves(before + long(own), left);
+    }
     if (0 < asked) | (own <= rest) {
         return 2 * (before + long(own)) + 1;
     }

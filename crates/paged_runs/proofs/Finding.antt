@@ -1,5 +1,5 @@
 -- Over parts that hold stored positions the searches find the place among them. Assumes nothing.
-use Prim.Native.Nat.{ℕ, _+_, _-_, _*_, _^_, _≤_, _<_}
+use Prim.Native.Nat.{ℕ, _+_, _-_, _*_, _/_, _%_, _^_, _≤_, _<_}
 use mathlib.Core.Path.{_≡_, refl, sym, ap, _∙_}
 use mathlib.Core.Bool.{true}
 use mathlib.Core.List.{List, _∷_}
@@ -8,7 +8,7 @@ use lib.ListN.{length, drop, getD}
 use borrow.Author.Tests.{le-leb, lt-ltb}
 use Rattle.format.specs.declared.View.{View}
 use Rattle.format.specs.Answers.{given}
-use Rattle.format.specs.Runs.{runs, spans, positionsFrom}
+use Rattle.format.specs.Runs.{Span, runs, spans, positionsFrom}
 use Rattle.format.specs.PagedRuns.{none, upperLevels, levels, Place, lost, at, descent, positionAtPlace, storedCells, pagesKind}
 use Rattle.laws.proofs.Bounds.{length-level}
 use Rattle.laws.proofs.Positions.{runs-back}
@@ -20,13 +20,13 @@ use Rattle.parts.specs.Found.{FoundAmong, FoundIn, PartOf}
 use Rattle.parts.proofs.Places.{rising-below}
 use Rattle.levels.specs.Levels.{entries, sizesOf, sizesAbove, total, cut}
 use Rattle.levels.specs.Comparing.{Inside}
-use Rattle.descent.specs.Descent.{sub32, forRank, answered, descended, numbersFit, searched}
-use Rattle.descent.proofs.Counting.{exact, exact-add, exact-none, counts-descend}
+use Rattle.descent.specs.Descent.{forRank, answered, descended, numbersFit, searched}
+use Rattle.descent.proofs.Counting.{high-half, low-half, exact, exact-add, exact-none, ranks-left, counts-descend}
 use Rattle.levels.proofs.Cutting.{sizes-enough, Cut, cut-levels}
 use Rattle.levels.proofs.Bounded.{cellsOf, proper-runs, cells-runs}
 use Rattle.paged_runs.proofs.Held.{inside, seconds-held, firsts-held, entries-held}
 use Rattle.paged_runs.proofs.Left.{RunAt, run-along}
-use Rattle.paged_runs.proofs.Answering.{placeBy, place-along, place-free, stored-at, positionBy, position-at}
+use Rattle.paged_runs.proofs.Answering.{placeBy, place-along, place-free, StoredAt, stored-at, positionBy, position-at}
 
 module _ (b : List ℕ) (v : View) (ls : List ℕ) (h : Holds (pagesKind (v .width) (v .step)) b v ls) where
   known : Inside b v
@@ -100,28 +100,37 @@ module _ (b : List ℕ) (v : View) (ls : List ℕ) (h : Holds (pagesKind (v .wid
       (omega arith))
 
   -- the ranks of a run from r on
-  pub run-found : (r : ℕ) (f : RunPart) → r < v .words → f .at ≡ getD ls r 0
-      → (searched b (v .start) (v .step) (v .seconds) 2 r < 2 ^ 32 → f .cells ≡ searched b (v .start) (v .step) (v .seconds) 2 r) → PartOf ls r f
+  pub run-found : (r : ℕ) (f : RunPart) → r < v .words → f .at ≡ r + searched b (v .start) (v .step) (v .seconds) 2 r / 2 ^ 32
+      → f .cells ≡ searched b (v .start) (v .step) (v .seconds) 2 r % 2 ^ 32 → PartOf ls r f
   run-found r f k e n =
       let most = h .counted .cells-most in
       let cells = cells-runs (v .cells) ls (h .rising) in
       let l : r < length ls = rw (h .size) k in
+      let low = rising-below 0 (v .cells) ls r (h .rising) l in
       let w = rw again at (run-along (2 ^ 32) 0 r none (spans (runs ls)) proper-held (omega arith)) in
-      part r f l e (seekFrom storedCells 0 r none (spans (runs ls))) w (rw (found 2 r (omega arith)) at n)
+      let s = found 2 r (omega arith) in
+      part r f l (omega arith) (seekFrom storedCells 0 r none (spans (runs ls))) w (stored-at r (spans (runs ls)) proper-held) (rw s at e) (rw s at n)
     where
-      part : (r : ℕ) (f : RunPart) → r < length ls → f .at ≡ getD ls r 0 → (q : Place) → RunAt (2 ^ 32) r ls q
-          → (answered 2 q < 2 ^ 32 → f .cells ≡ answered 2 q) → PartOf ls r f
-      part r f l e lost w n = absurd (omega arith)
-      part r f l e (at i t c x) w n =
-          let w0 = w .0 in
-          let w1 = w .1 in
-          let w2 = w .2 in
-          let w3 = w .3 in
+      part : (r : ℕ) (f : RunPart) → r < length ls → getD ls r 0 < 2 ^ 32 → (q : Place) → RunAt (2 ^ 32) r ls q → StoredAt r q
+          → f .at ≡ r + answered 2 q / 2 ^ 32 → f .cells ≡ answered 2 q % 2 ^ 32 → PartOf ls r f
+      part r f l g lost w u e n = absurd (omega arith)
+      part r f l g (at i t c x) w u e n =
           let z : r + 0 ≡ r = omega arith in
-          let g = rw z at (w .4 0 (omega arith)) in
-          let m : sub32 (sub32 (x .cells) (x .empty)) t ≡ storedCells x - t = omega arith in
-          let d : f .cells ≡ storedCells x - t = n (rw m (omega arith)) ∙ m in
-          record { some = omega arith; inside = omega arith; along = λ j s. w .4 j (omega arith) ∙ omega arith }
+          let left = ranks-left x t (w .1) (w .2) (w .0) in
+          let small : storedCells x - t < 2 ^ 32 = omega (arith, w .2) in
+          let empty : c .empty + x .empty < 2 ^ 32 = omega (arith, u .1, rw z at (w .4 0 (omega (arith, w .0)))) in
+          along r f t c x w u (e ∙ rw (left, high-half (c .empty + x .empty) (storedCells x - t) empty small))
+          (n ∙ rw (left, low-half (c .empty + x .empty) (storedCells x - t) small))
+        where
+          along : (r : ℕ) (f : RunPart) (t : ℕ) (c x : Span) → RunAt (2 ^ 32) r ls (at 0 t c x) → StoredAt r (at 0 t c x)
+              → f .at ≡ r + (c .empty + x .empty) → f .cells ≡ storedCells x - t → PartOf ls r f
+          along r f t c x w u e n =
+              let w0 = w .0 in
+              let w3 = w .3 in
+              let u0 = u .0 in
+              let u1 = u .1 in
+              let p : f .at ≡ c .cells + x .empty + t = omega arith in
+              record { some = omega arith; inside = omega arith; along = λ j s. w .4 j (omega arith) ∙ omega arith }
 
 pub found-in : (b : List ℕ) (v : View) (p : ℕ) → p < v .cells → FoundIn (pagesKind (v .width) (v .step)) b v p (placeBy (searched b (v .start) (v .step) (v .seconds) 0 p) p (v .words))
 found-in b v p l = record { right = λ ls h. place-found b v ls h p l; free = place-free (searched b (v .start) (v .step) (v .seconds) 0 p) p (v .words) }

@@ -1,8 +1,8 @@
 // The searches (document 01, "The file", kind 5), through the levels from the top page down.
-use descent::search::LEFT;
 use descent::search::NOWHERE;
 use descent::search::PLACE;
 use descent::search::RANK;
+use descent::search::RUN;
 use descent::search::search;
 use format::Position;
 use format::Rank;
@@ -55,11 +55,9 @@ pub fn run_of(file: &[u8], v: View, r: Rank) -> RunPart
     requires { ⌜ r .0 < v .words ⌝ }
     ensures { λ f. ⌜ RunIn (pagesKind (v .width) (v .step)) (now (file .entry)) v (r .0) f ⌝ }
 {
-    let at = position_of(file, v, r);
-    let left = search(file, v.start, v.step, v.seconds, r.0, LEFT);
-    let mut cells: u32 = 0;
-    if left < 4294967296 {
-        cells = left as u32;
+    let found = search(file, v.start, v.step, v.seconds, r.0, RUN);
+    RunPart {
+        at: long(r.0) + found / 4294967296,
+        cells: (found % 4294967296) as u32,
     }
-    RunPart { at, cells }
 }

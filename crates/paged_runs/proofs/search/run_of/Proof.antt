@@ -1,6 +1,6 @@
 -- `run_of` meets its contract. Assumes nothing.
-use mathlib.Core.Path.{_∙_}
-use native.Mathlib.Omega.{arith}
+use Prim.Native.Nat.{ℕ, _+_, _/_, _%_, _^_}
+use mathlib.Core.Path.{ap, ap₂}
 use borrow.Author.Needs.{needs}
 use Rattle.paged_runs.proofs.Finding.{run-found}
 use Rattle.paged_runs.proofs.search.run_of.Statement.{statement}
@@ -8,13 +8,10 @@ use Rattle.paged_runs.proofs.search.run_of.Tie as tie
 
 returns : tie.Need-returns
 returns c =
-    record { right = λ ls h k. run-found _ _ ls h _ _ k (c .before .before .position-of .ensures .right ls h k) (λ s. c .before .search .ensures) }
-
-returns-2 : tie.Need-returns-2
-returns-2 c =
-    let l = c .if1 .left in
-    let e = c .before .search .ensures in
-    record { right = λ ls h k. run-found _ _ ls h _ _ k (c .before .before .position-of .ensures .right ls h k) (λ s. absurd (omega arith)) }
+    let s = c .before .search .ensures in
+    record {
+      right = λ ls h k. run-found _ _ ls h _ _ k (ap₂ (λ (r n : ℕ). r + n / 2 ^ 32) (c .long .ensures .0) s) (ap (λ (n : ℕ). n % 2 ^ 32) s);
+    }
 
 pub run-of-spec : {M : Type 1} → statement M
-run-of-spec = tie.close (tie.spec (λ c κs. search needs) (λ c κs. search needs) (λ c. search needs) returns returns-2)
+run-of-spec = tie.close (tie.spec (λ c κs. search needs) (λ c κs. search needs) (λ c. search needs) (λ c. search needs) returns)
