@@ -132,11 +132,7 @@ module _ (s : Bool) (p : ℕ) where
 
   left-exact : (c : Span) (ys : List Span) (k : ℕ) → counted s c ≡ exact s c → Fine ys → counted s (getD (c ∷ ys) k none) ≡ exact s (getD (c ∷ ys) k none)
   left-exact c ys zero e f = e
-  left-exact c [] (suc k) e f = none-exact s
-    where
-      none-exact : (s : Bool) → counted s none ≡ exact s none
-      none-exact true = refl
-      none-exact false = refl
+  left-exact c [] (suc k) e f = exact-counted s none (le-refl 0) (omega arith)
   left-exact c (y ∷ ys) (suc k) e f = left-exact y ys k (exact-counted s y (f .0) (f .1)) (f .2)
 
   -- the place after k entries, with the entry c to the left of them
@@ -181,12 +177,8 @@ module _ (s : Bool) (p : ℕ) where
   unfolding placeAfter
   page-walked i a ys f r l =
       let z = exact-none s in
-      rw (passed-exact ys f, left-exact none ys (passed (exact s) p ys) (left-exact none [] 1 (nought s) tt) f)
+      rw (passed-exact ys f, left-exact none ys (passed (exact s) p ys) (exact-counted s none (le-refl 0) (omega arith)) f)
       (sym (walk-after i a none ys r (omega arith) l))
-    where
-      nought : (s : Bool) → counted s none ≡ exact s none
-      nought true = refl
-      nought false = refl
 
 -- ---- the descent through levels of proper pairs
 
