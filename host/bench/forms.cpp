@@ -26,7 +26,7 @@ static u32 number(const u8 *at) {
   return x;
 }
 
-// The engine hands a slice on as the address of such a pair.
+// The engine's language hands a slice on as the address of such a pair.
 struct Slice { const u8 *bytes; size_t length; };
 struct Levels { const u32 *sizes; u32 start; size_t step; };
 struct Pair { u32 cells, empty; };
