@@ -4,7 +4,7 @@ import re
 from tree import DECLARED
 
 # The public calls: every `pub fn` of a crate, or those named.
-PUBLIC = {"archive": None, "opened": None, "lent_parts": None, "exports": None, "listing": {"list"}, "header": {"position_at", "coordinates_at"}}
+PUBLIC = {"reading": None, "making": None, "writing": None, "opened": None, "lent_parts": None, "exports": None, "listing": {"list"}, "header": {"position_at", "coordinates_at"}}
 
 # `use Rattle.CRATE.specs.File.{a, b}`, in a crate of its own `Rattle.CRATE.specs.File`; `.. as x` in place of the names.
 USE = re.compile(r"^(?:ghost )?use Rattle·(\w+)(?:·\w+)?\.([\w.-]+?)(?:\.\{([^}]*)\}| as (\w+));?$", re.MULTILINE)

@@ -13,10 +13,10 @@ use Rattle.format.specs.declared.View.{View}
 use Rattle.format.specs.Bytes.{field, numbersOf}
 use Rattle.laws.proofs.Tools.{cases}
 use Rattle.laws.proofs.Numbers.{numbers-turn, numbers-end}
-use Rattle.wire.specs.Wire.{entrySize}
+use Rattle.wire.specs.Wire.{entrySize, add32}
 use Rattle.wire.proofs.Laws.{whole-there}
 use Rattle.parts.specs.declared.Cursor.{Cursor}
-use Rattle.parts.specs.Cursor.{add32, movedTo, entryOf, walkedAs, steppedAs, Batch}
+use Rattle.parts.specs.Cursor.{movedTo, entryOf, walkedAs, steppedAs, Batch}
 use Rattle.parts.proofs.Steps.{add32-small}
 use Rattle.parts.proofs.Batches.{Partly, walked-as-add, stepped-as-add, length-walked-as}
 use Rattle.offsets.specs.Sums.{There, sums}

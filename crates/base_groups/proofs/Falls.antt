@@ -11,7 +11,7 @@ use borrow.Author.Tests.{eqb-true, eqb-false, eq-eqb, ne-eqb, le-ltb}
 use Rattle.format.specs.Tools.{both, first, upTo}
 use Rattle.laws.proofs.Tools.{cases, both-true, both-false}
 use Rattle.laws.proofs.Bounds.{upTo-suc, upTo-zero}
-use Rattle.parts.specs.Falls.{fallen}
+use Rattle.rises.specs.Falls.{fallen}
 use Rattle.offsets.specs.Falls.{fallsAfter, falls}
 use Rattle.offsets.specs.Ends.{lastAfter, groupEnds}
 use Rattle.base_groups.specs.Group.{endsRight}

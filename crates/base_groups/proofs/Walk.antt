@@ -10,9 +10,9 @@ use Rattle.format.specs.BaseOffset.{basedKind}
 use Rattle.laws.proofs.Tools.{cases}
 use Rattle.laws.proofs.Stored.{Rising, rising-length}
 use Rattle.laws.proofs.Streams.{basesFrom, offsetsFrom, bases-stream, offsets-stream}
-use Rattle.wire.specs.Wire.{whole, entrySize}
+use Rattle.wire.specs.Wire.{whole, entrySize, add32}
 use Rattle.parts.specs.declared.Cursor.{Cursor}
-use Rattle.parts.specs.Cursor.{add32, before, movedTo, entryOf}
+use Rattle.parts.specs.Cursor.{before, movedTo, entryOf}
 use Rattle.parts.specs.Holds.{Holds}
 use Rattle.parts.specs.Walks.{Walks}
 use Rattle.parts.proofs.Entries.{Entries, first-entry, rest-entries}

@@ -5,9 +5,9 @@ use mathlib.Core.List.{List}
 use lib.Dec.{ltb}
 use Rattle.format.specs.declared.View.{View}
 use Rattle.format.specs.Tools.{pick}
-use Rattle.wire.specs.Wire.{whole}
+use Rattle.wire.specs.Wire.{whole, add32}
 use Rattle.parts.specs.declared.Cursor.{Cursor}
-use Rattle.parts.specs.Cursor.{add32, movedTo, entryOf}
+use Rattle.parts.specs.Cursor.{movedTo, entryOf}
 use Rattle.offsets.specs.Sums.{There}
 
 -- the base of the next rank: the same, or the next one

@@ -9,9 +9,7 @@ ghost use mathlib.Core.Bool.{true};
 ghost use Prim.Native.Nat.{_+_, _≤_};
 ghost use lib.ListN.{length};
 ghost use Rattle.format.specs.BaseOffset.{basedKind};
-ghost use Rattle.stores.specs.Put.{put};
-ghost use Rattle.parts.specs.Encoder.{takenAllBy, endedBy};
-ghost use Rattle.parts.specs.Ready.{Sound};
+ghost use Rattle.parts.specs.Encoder.{takenAllBy};
 ghost use Rattle.parts.specs.Batch.{Along, RoomAll, putAllBy};
 ghost use Rattle.base_groups.specs.Coding.{coder};
 
@@ -42,19 +40,6 @@ pub fn put_all(dst: &mut [u8], width: u32, step: u32, mut e: Encoder, ps: &[u32]
     }
     e
 }
-
-// The end adds nothing.
-pub fn ended(width: u32, step: u32, e: Encoder) -> Encoder
-    requires { ⌜ Sound e ⌝ }
-    ensures { λ r. ⌜ r ≡ endedBy (coder width step) e ⌝ }
-{
-    e
-}
-
-pub fn finish(dst: &mut [u8], width: u32, step: u32, e: Encoder)
-    requires { ⌜ Sound e × (e .first + length (coder width step .endFirst e) ≤ length (now dst)) × (e .second + length (coder width step .endSecond e) ≤ length (now dst)) ⌝ }
-    ensures { λ _. ⌜ now (dst .exit) ≡ put (put (now (dst .entry)) (e .first) (coder width step .endFirst e)) (e .second) (coder width step .endSecond e) ⌝ }
-{}
 
 // The sizes of a file, by the encoder after the end.
 pub fn sizes(width: u32, step: u32, e: Encoder) -> Sizes

@@ -11,12 +11,12 @@ use lib.Dec.{eqb}
 use borrow.Author.Tests.{ne-eqb, eqb-true, eqb-false, not-true}
 use Rattle.format.specs.Bytes.{field}
 use Rattle.laws.proofs.Tools.{cases, both-true}
-use Rattle.wire.specs.Wire.{whole}
+use Rattle.wire.specs.Wire.{whole, add32}
 use Rattle.wire.proofs.Laws.{whole-there}
 use Rattle.stores.specs.Put.{put}
 use Rattle.stores.proofs.Laws.{put-append, put-front, length-put}
 use Rattle.parts.specs.declared.Cursor.{Cursor}
-use Rattle.parts.specs.Cursor.{add32, movedTo, walkedAs, steppedAs, Batch}
+use Rattle.parts.specs.Cursor.{movedTo, walkedAs, steppedAs, Batch}
 use Rattle.parts.proofs.Steps.{add32-small}
 use Rattle.parts.proofs.Batches.{stand, walked-as-add, stepped-as-add, length-walked-as}
 use Rattle.differences.specs.Walk.{Room, plain}

@@ -4,10 +4,10 @@ use mathlib.Core.Path.{_≡_}
 use mathlib.Core.List.{List}
 use lib.Dec.{eqb}
 use Rattle.format.specs.Tools.{pick}
-use Rattle.wire.specs.Wire.{whole}
+use Rattle.wire.specs.Wire.{whole, add32}
 use Rattle.stores.specs.Put.{put}
 use Rattle.parts.specs.declared.Cursor.{Cursor}
-use Rattle.parts.specs.Cursor.{add32, movedTo, walkedAs, steppedAs}
+use Rattle.parts.specs.Cursor.{movedTo, walkedAs, steppedAs}
 
 -- to the next jump; the jumps begin at `start`
 unfoldable pub jumpFrom : List ℕ → ℕ → Cursor → Cursor

@@ -11,7 +11,7 @@ use Rattle.format.specs.Opened.{viewOf}
 use Rattle.laws.proofs.Acceptance.{accepted, header-right}
 use Rattle.checked.specs.Verdict.{Judged}
 use Rattle.search.specs.Searched.{CellSearched, RankSearched, PositionSearched}
-use Rattle.archive.proofs.Answers.{cell-found, rank-found, position-found}
+use Rattle.reading.proofs.Answers.{cell-found, rank-found, position-found}
 use Rattle.exports.specs.Unchecked.{Unchecked, cellUnchecked, rankUnchecked, positionUnchecked}
 
 -- bytes without a whole header

@@ -10,8 +10,8 @@ use Rattle.format.specs.Signals.{EXTENT, orElse}
 use Rattle.format.specs.Picture.{mostDimensions}
 use Rattle.format.specs.Calls.{settingNumber, Made}
 use Rattle.checked.proofs.Number.{setting-later}
-use Rattle.archive.specs.Known.{pictureNumber}
-use Rattle.archive.proofs.Making.{setting-refused, make-refused}
+use Rattle.making.specs.Known.{pictureNumber}
+use Rattle.making.proofs.Making.{setting-refused, make-refused}
 use Rattle.c_values.specs.Extents.{dimensions}
 use Rattle.c_values.proofs.Four.{not-four}
 

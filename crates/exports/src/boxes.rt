@@ -1,9 +1,9 @@
 // A box of a picture, to words in row order.
-use archive::boxes::box_words;
-use archive::check::check;
 use c_values::extents::are_four;
 use c_values::extents::four;
 use format::signals::BEYOND;
+use reading::boxes::box_words;
+use reading::check::check;
 ghost use mathlib.Core.Path.{_≡_};
 ghost use Rattle.format.specs.Signals.{BEYOND, orElse};
 ghost use Rattle.format.specs.Accepted.{checkNumber};

@@ -3,5 +3,5 @@ pub mod boxes;
 pub mod coordinates;
 pub mod lent;
 pub mod opened;
-pub mod reading;
-pub mod writing;
+pub mod read;
+pub mod write;

@@ -1,7 +1,7 @@
 -- What a position adds: its difference, and a jump where that is 0. Assumes nothing.
 use Prim.Native.Nat.{ℕ, _+_, _-_, _^_, _≤_, _<_}
 use mathlib.Core.Path.{_≡_, refl, sym, _∙_}
-use mathlib.Core.List.{List, []}
+use mathlib.Core.List.{[]}
 use native.Mathlib.Nat.{add-zero}
 use native.Mathlib.Omega.{arith}
 use lib.ListN.{length}
@@ -9,14 +9,12 @@ use Rattle.format.specs.Bytes.{bytes}
 use Rattle.format.specs.Jumps.{difference}
 use Rattle.laws.proofs.Bytes.{length-bytes}
 use Rattle.laws.proofs.Entries.{fitting, jump-is-zero}
-use Rattle.stores.specs.Put.{put}
-use Rattle.stores.proofs.Laws.{put-nil}
 use Rattle.parts.specs.declared.Encoder.{Encoder}
-use Rattle.parts.specs.Encoder.{unchanged, takenBy, endedBy}
+use Rattle.parts.specs.Encoder.{unchanged, takenBy}
 use Rattle.parts.specs.Ready.{moved, Keeps}
 use Rattle.parts.proofs.Taking.{if-zero, if-more, if-most, taken-moved}
 use Rattle.parts.proofs.Sounds.{sound-by}
-use Rattle.jumps.specs.Coding.{differenceAt, jumpsCoder, coder}
+use Rattle.jumps.specs.Coding.{differenceAt, jumpsCoder}
 
 module _ (w : ℕ) (e : Encoder) (p : ℕ) where
   pub difference-first : e .rank ≡ 0 → 0 ≡ differenceAt w e p
@@ -71,12 +69,3 @@ keeps w h =
       cells = omega arith;
       empty = omega arith;
     })
-
--- the end adds nothing
-pub ended-same : (w l : ℕ) (e : Encoder) → e ≡ endedBy (coder w l) e
-unfolding coder jumpsCoder endedBy
-ended-same w l e = rw (add-zero (e .first), add-zero (e .second))
-
-pub finish-same : (w l : ℕ) (e : Encoder) (d : List ℕ) → d ≡ put (put d (e .first) (coder w l .endFirst e)) (e .second) (coder w l .endSecond e)
-unfolding coder jumpsCoder
-finish-same w l e d = rw (put-nil d (e .first), put-nil d (e .second))

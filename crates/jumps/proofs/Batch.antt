@@ -13,8 +13,8 @@ use Rattle.parts.specs.declared.Encoder.{Encoder}
 use Rattle.parts.specs.Encoder.{takenBy, takenAllBy}
 use Rattle.parts.specs.Ready.{passed, moved, Sound}
 use Rattle.parts.specs.Batch.{Along}
-use Rattle.parts.specs.Falls.{fallen}
-use Rattle.parts.specs.Far.{farAfter, far}
+use Rattle.rises.specs.Falls.{fallen}
+use Rattle.rises.specs.Far.{farAfter, far}
 use Rattle.parts.proofs.Taken.{along-head}
 use Rattle.jumps.specs.Coding.{jumpsCoder}
 use Rattle.jumps.proofs.Adds.{difference-near, difference-far, taken-jump, taken-on, keeps}

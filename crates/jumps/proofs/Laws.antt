@@ -12,7 +12,8 @@ use Rattle.format.specs.Jumps.{differences, jumps, jumpParts, jumpsKind}
 use Rattle.laws.proofs.Tools.{cases}
 use Rattle.laws.proofs.Bytes.{length-bytesOf}
 use Rattle.parts.specs.declared.Encoder.{Encoder}
-use Rattle.parts.specs.Cursor.{add32, movedTo, entryOf}
+use Rattle.wire.specs.Wire.{add32}
+use Rattle.parts.specs.Cursor.{movedTo, entryOf}
 use Rattle.parts.specs.Encoder.{begun, unchanged, endedBy, takenAllBy, sizesAs}
 use Rattle.parts.specs.Walks.{Walks}
 use Rattle.parts.specs.Codes.{sizesIn, Codes}

@@ -10,10 +10,10 @@ use Rattle.format.specs.Tools.{Below}
 use Rattle.format.specs.Bytes.{field}
 use Rattle.laws.proofs.Tools.{cases}
 use Rattle.laws.proofs.Bounds.{below-rising, below-widen}
-use Rattle.wire.specs.Wire.{whole, entrySize}
+use Rattle.wire.specs.Wire.{whole, entrySize, add32}
 use Rattle.wire.proofs.Laws.{entry-of}
 use Rattle.parts.specs.declared.Cursor.{Cursor}
-use Rattle.parts.specs.Cursor.{add32, before, movedTo, entryOf, walkedAs}
+use Rattle.parts.specs.Cursor.{before, movedTo, entryOf, walkedAs}
 use Rattle.parts.proofs.Steps.{add32-small, upper, RanksFit, upper-next, ranks-rest, kept-walk}
 use Rattle.differences.specs.declared.walk.Reached.{Reached}
 use Rattle.differences.specs.Walk.{stepBy, stepped}

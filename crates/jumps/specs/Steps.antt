@@ -5,7 +5,8 @@ use mathlib.Core.List.{List}
 use Rattle.format.specs.declared.View.{View}
 use Rattle.parts.specs.declared.Cursor.{Cursor}
 use Rattle.parts.specs.Walks.{sought, Climbs}
-use Rattle.parts.specs.Cursor.{add32, entryOf}
+use Rattle.wire.specs.Wire.{add32}
+use Rattle.parts.specs.Cursor.{entryOf}
 use Rattle.difference_rows.specs.Steps.{jumpBy}
 
 -- by the difference of the next rank

@@ -6,7 +6,7 @@ use parts::Encoder;
 use parts::Sizes;
 use parts::encode::limit;
 use parts::encode::move_on;
-use parts::far::count_far;
+use rises::far::count_far;
 use stores::put_entry;
 use stores::put_u32;
 ghost use mathlib.Core.Path.{_≡_};
@@ -14,9 +14,8 @@ ghost use mathlib.Core.Bool.{true};
 ghost use Prim.Native.Nat.{_+_, _≤_};
 ghost use lib.ListN.{length};
 ghost use Rattle.format.specs.Jumps.{jumpsKind};
-ghost use Rattle.stores.specs.Put.{put};
-ghost use Rattle.parts.specs.Encoder.{takenBy, endedBy, takenAllBy};
-ghost use Rattle.parts.specs.Ready.{Sound, Next, Room, putBy};
+ghost use Rattle.parts.specs.Encoder.{takenBy, takenAllBy};
+ghost use Rattle.parts.specs.Ready.{Next, Room, putBy};
 ghost use Rattle.parts.specs.Batch.{putAllBy, Along, RoomAll};
 ghost use Rattle.jumps.specs.Coding.{differenceAt, jumpsCoder, coder};
 
@@ -88,19 +87,6 @@ pub fn put_all(dst: &mut [u8], width: u32, step: u32, e: Encoder, ps: &[u32]) ->
     put_differences(dst, width, e.second, ps);
     end
 }
-
-// The end adds nothing.
-pub fn ended(width: u32, step: u32, e: Encoder) -> Encoder
-    requires { ⌜ Sound e ⌝ }
-    ensures { λ r. ⌜ r ≡ endedBy (coder width step) e ⌝ }
-{
-    e
-}
-
-pub fn finish(dst: &mut [u8], width: u32, step: u32, e: Encoder)
-    requires { ⌜ Sound e × (e .first + length (coder width step .endFirst e) ≤ length (now dst)) × (e .second + length (coder width step .endSecond e) ≤ length (now dst)) ⌝ }
-    ensures { λ _. ⌜ now (dst .exit) ≡ put (put (now (dst .entry)) (e .first) (coder width step .endFirst e)) (e .second) (coder width step .endSecond e) ⌝ }
-{}
 
 // What the header counts, after the end.
 pub fn sizes(width: u32, step: u32, e: Encoder) -> Sizes

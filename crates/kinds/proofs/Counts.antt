@@ -25,7 +25,7 @@ use Rattle.parts.specs.Walks.{GoesAlong}
 use Rattle.parts.specs.Codes.{sizesIn}
 use Rattle.parts.specs.Holds.{Holds, kindOf}
 use Rattle.run_pairs.specs.Coding.{runsCoder}
-use Rattle.runs.proofs.Walk as run-walk
+use Rattle.run_walk.proofs.Walk as run-walk
 use Rattle.positions.specs.Coding as positions
 use Rattle.page_entries.specs.Coding as paged
 use Rattle.page_walk.proofs.Walk as page-walk

@@ -2,18 +2,23 @@
 use Prim.Native.Nat.{ℕ, zero, suc}
 use mathlib.Core.Path.{_≡_, refl, sym}
 use mathlib.Core.Bool.{true}
-use mathlib.Core.List.{List}
+use mathlib.Core.List.{List, []}
+use native.Mathlib.Nat.{add-zero}
 use lib.ListN.{length}
 use Rattle.format.specs.declared.View.{View}
 use Rattle.format.specs.declared.Setting.{Setting}
 use Rattle.format.specs.Kinds.{codec, codecOf, settingAllowed}
 use Rattle.parts.specs.declared.Cursor.{Cursor}
+use Rattle.stores.specs.Put.{put}
+use Rattle.stores.proofs.Laws.{put-nil}
+use Rattle.parts.specs.declared.Encoder.{Encoder}
 use Rattle.parts.specs.declared.Sizes.{Sizes}
+use Rattle.parts.specs.Encoder.{endedBy}
 use Rattle.parts.specs.Holds.{Holds, kindOf}
-use Rattle.parts.specs.Cursor.{add32}
+use Rattle.wire.specs.Wire.{add32}
 use Rattle.parts.specs.Walks.{Walks}
 use Rattle.parts.specs.Codes.{Codes}
-use Rattle.runs.proofs.Walk as runs
+use Rattle.run_walk.proofs.Walk as runs
 use Rattle.runs.proofs.Laws as runs-coder
 use Rattle.positions.proofs.Laws as positions
 use Rattle.base_offset.proofs.Laws as based
@@ -75,3 +80,24 @@ derived-by (suc (suc (suc (suc (suc (suc k)))))) w l h z start d = refl
 pub derived-none : (s : Setting) → (s .kind ≡ 5 → ⊥) → (z : Sizes) (start : ℕ) (d : List ℕ) → d ≡ derived s z start d
 unfolding derived coder
 derived-none s h z start d = sym (derived-by (s .kind) (s .width) (s .step) h z start d)
+
+-- of the kinds that store no runs
+ends-by : (k w l : ℕ) → (k ≡ 1 → ⊥) → (k ≡ 5 → ⊥) → (e : Encoder) → (coderOf k w l .endFirst e ≡ []) × (coderOf k w l .endSecond e ≡ [])
+unfolding positions-spec.coder based-spec.coder jumps-spec.coder jumpsCoder noCoder
+ends-by zero w l f g e = (refl, refl)
+ends-by (suc zero) w l f g e = absurd (f refl)
+ends-by (suc (suc zero)) w l f g e = (refl, refl)
+ends-by (suc (suc (suc zero))) w l f g e = (refl, refl)
+ends-by (suc (suc (suc (suc zero)))) w l f g e = (refl, refl)
+ends-by (suc (suc (suc (suc (suc zero))))) w l f g e = absurd (g refl)
+ends-by (suc (suc (suc (suc (suc (suc k)))))) w l f g e = (refl, refl)
+
+-- their end adds nothing
+module _ (s : Setting) (f : s .kind ≡ 1 → ⊥) (g : s .kind ≡ 5 → ⊥) (e : Encoder) where
+  pub ended-none : e ≡ endedBy (coder s) e
+  unfolding endedBy coder
+  ended-none = let t = ends-by (s .kind) (s .width) (s .step) f g e in rw (t .0, t .1, add-zero (e .first), add-zero (e .second))
+
+  pub finish-none : (d : List ℕ) → d ≡ put (put d (e .first) (coder s .endFirst e)) (e .second) (coder s .endSecond e)
+  unfolding coder
+  finish-none d = let t = ends-by (s .kind) (s .width) (s .step) f g e in rw (t .0, t .1, put-nil d (e .first), put-nil d (e .second))

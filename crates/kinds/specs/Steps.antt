@@ -10,7 +10,7 @@ use Rattle.format.specs.Tools.{pick}
 use Rattle.parts.specs.declared.Cursor.{Cursor}
 use Rattle.parts.specs.Cursor.{before, walkedAs, steppedAs}
 use Rattle.parts.specs.Walks.{sought}
-use Rattle.runs.specs.Steps as runs
+use Rattle.run_walk.specs.Steps as runs
 use Rattle.positions.specs.Steps as positions
 use Rattle.base_groups.specs.Steps as based
 use Rattle.jumps.specs.Steps as jumps

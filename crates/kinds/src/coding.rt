@@ -49,7 +49,7 @@ pub fn put_all(dst: &mut [u8], s: Setting, e: Encoder, ps: &[u32]) -> Encoder
     }
 }
 
-// The encoder after the end, with nothing put out.
+// The encoder after the end, with nothing put out. Only kinds that store runs have something due at the end: the last run.
 pub fn ended(s: Setting, e: Encoder) -> Encoder
     requires { ⌜ (settingAllowed s ≡ true) × Sound e ⌝ }
     ensures { λ r. ⌜ r ≡ endedBy (coder s) e ⌝ }
@@ -57,15 +57,12 @@ pub fn ended(s: Setting, e: Encoder) -> Encoder
     let kind = s.kind;
     match kind {
         1 => runs::coding::ended(s.width, s.step, e),
-        2 => positions::coding::ended(s.width, s.step, e),
-        3 => base_offset::coding::ended(s.width, s.step, e),
-        4 => jumps::coding::ended(s.width, s.step, e),
         5 => paged_runs::coding::ended(s.width, s.step, e),
         _ => e,
     }
 }
 
-// The bytes at the end.
+// The bytes at the end; none for a kind that stores no runs.
 pub fn finish(dst: &mut [u8], s: Setting, e: Encoder)
     requires { ⌜ (settingAllowed s ≡ true) × Sound e × (e .first + length (coder s .endFirst e) ≤ length (now dst)) × (e .second + length (coder s .endSecond e) ≤ length (now dst)) ⌝ }
     ensures { λ _. ⌜ now (dst .exit) ≡ put (put (now (dst .entry)) (e .first) (coder s .endFirst e)) (e .second) (coder s .endSecond e) ⌝ }
@@ -73,9 +70,6 @@ pub fn finish(dst: &mut [u8], s: Setting, e: Encoder)
     let kind = s.kind;
     match kind {
         1 => runs::coding::finish(dst, s.width, s.step, e),
-        2 => positions::coding::finish(dst, s.width, s.step, e),
-        3 => base_offset::coding::finish(dst, s.width, s.step, e),
-        4 => jumps::coding::finish(dst, s.width, s.step, e),
         5 => paged_runs::coding::finish(dst, s.width, s.step, e),
         _ => (),
     }

@@ -21,9 +21,9 @@ use Rattle.parts.specs.Holds.{ViewOf}
 use Rattle.parts.proofs.Seen.{Seen, seen}
 use Rattle.kinds.proofs.Walks.{Ahead, Turned, walk-next}
 use Rattle.scatter.proofs.Turn.{word-seen}
-use Rattle.listing.specs.Text.{Room, TextPut}
-use Rattle.listing.proofs.Decimal.{length-decimal, decimal-most}
-use Rattle.listing.proofs.Placing.{text-then, room-first, room-then, length-line}
+use Rattle.text.specs.Text.{Room, TextPut}
+use Rattle.text.proofs.Decimal.{length-decimal, decimal-most}
+use Rattle.text.proofs.Placing.{text-then, room-first, room-then, length-line}
 
 -- of the text, to be put into `before` from index at on, `rest` is left, from index to on
 pub record Left (text before : List ℕ) (at : ℕ) (rest : List ℕ) (to : ℕ) (now : List ℕ) : Type 0 where

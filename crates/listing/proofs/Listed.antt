@@ -12,9 +12,9 @@ use Rattle.format.specs.Opened.{viewOf}
 use Rattle.format.specs.Lister.{mostListed, fileLines, refusedLine, tooLong, listedAs, listing}
 use Rattle.laws.proofs.Tools.{cases}
 use Rattle.stores.proofs.Laws.{put-front}
-use Rattle.listing.specs.Text.{TextPut, Offered}
-use Rattle.listing.proofs.Decimal.{decimal-most}
-use Rattle.listing.proofs.Placing.{length-refused}
+use Rattle.text.specs.Text.{TextPut, Offered}
+use Rattle.text.proofs.Decimal.{decimal-most}
+use Rattle.text.proofs.Placing.{length-refused}
 use Rattle.listing.proofs.Lines.{file-most}
 
 -- a text that fits, put at the beginning, and one that does not

@@ -1,6 +1,5 @@
 // What the lister prints for an input (document 01, "The sample picture").
 pub mod measure;
-pub mod text;
 
 use checked::check;
 use format::View;
@@ -16,7 +15,7 @@ ghost use lib.ListN.{length};
 ghost use Rattle.format.specs.Accepted.{positionsOf, keptOf};
 ghost use Rattle.format.specs.Lister.{mostListed, rankLines, fileLines, refusedLine, listing};
 ghost use Rattle.parts.specs.Holds.{ViewOf};
-ghost use Rattle.listing.specs.Text.{Room, TextPut, Offered};
+ghost use Rattle.text.specs.Text.{Room, TextPut, Offered};
 
 // A text that is at hand, into a buffer that has room for it; its length.
 fn offer(text: &[u8], out: &mut [u8]) -> usize

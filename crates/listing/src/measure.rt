@@ -1,8 +1,8 @@
 // How long the lister's text of an accepted file is.
-use crate::text::line_length;
 use format::View;
 use kinds::steps::next;
 use kinds::steps::start;
+use text::line_length;
 use wire::get_u32;
 ghost use mathlib.Core.Path.{_≡_};
 ghost use Prim.Native.Nat.{_≤_};

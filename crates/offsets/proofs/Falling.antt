@@ -11,7 +11,7 @@ use Rattle.format.specs.Bytes.{number, field, numbersOf}
 use Rattle.laws.proofs.Numbers.{numbers-turn, numbers-end}
 use Rattle.wire.specs.Wire.{entrySize}
 use Rattle.wire.proofs.Laws.{field-zero, size-none}
-use Rattle.parts.specs.Falls.{fallen}
+use Rattle.rises.specs.Falls.{fallen}
 use Rattle.offsets.specs.Falls.{fallsAfter, falls}
 
 pub fall-no : (x y : ℕ) → x < y → 0 ≡ fallen (ltb x y)

@@ -10,7 +10,7 @@ use lib.Seq.{take-all, take-suc-set, append-snoc}
 use Rattle.format.specs.Bytes.{field, numbersOf}
 use Rattle.laws.proofs.Numbers.{numbers-turn, numbers-end}
 use Rattle.laws.proofs.Check.{length-numbersOf}
-use Rattle.parts.specs.Cursor.{add32}
+use Rattle.wire.specs.Wire.{add32}
 use Rattle.offsets.specs.Sums.{sums}
 
 -- before the turn of index i the sums from i on are left

@@ -3,7 +3,7 @@ use Prim.Native.Nat.{ℕ, _+_}
 use mathlib.Core.List.{List, [], _∷_}
 use lib.Dec.{ltb}
 use Rattle.format.specs.Tools.{first, others}
-use Rattle.parts.specs.Falls.{fallen}
+use Rattle.rises.specs.Falls.{fallen}
 
 -- how many numbers are not above the one before them, which is p for the first
 unfoldable pub fallsAfter : ℕ → List ℕ → ℕ

@@ -2,8 +2,7 @@
 use Prim.Native.Nat.{ℕ, _+_, _*_, _^_, _≤_, _<_}
 use mathlib.Core.List.{List, [], _∷_}
 use lib.ListN.{length}
-use Rattle.wire.specs.Wire.{entrySize}
-use Rattle.parts.specs.Cursor.{add32}
+use Rattle.wire.specs.Wire.{entrySize, add32}
 
 -- the offsets of n ranks from a rank on, of 1 or 2 bytes, are all in the file
 pub record There (b : List ℕ) (width second rank n : ℕ) : Type 0 where

@@ -7,7 +7,7 @@ ghost use lib.ListN.{length, drop};
 ghost use lib.Dec.{ltb};
 ghost use Rattle.format.specs.Bytes.{field, numbersOf};
 ghost use Rattle.wire.specs.Wire.{entrySize};
-ghost use Rattle.parts.specs.Falls.{fallen};
+ghost use Rattle.rises.specs.Falls.{fallen};
 ghost use Rattle.offsets.specs.Falls.{fallsAfter, falls};
 
 // 1 where y is not above x.

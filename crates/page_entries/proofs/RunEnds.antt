@@ -16,7 +16,7 @@ use Rattle.parts.specs.declared.Encoder.{Encoder}
 use Rattle.parts.specs.Encoder.{Coder, runEnds, takenBy, takenAllBy}
 use Rattle.parts.specs.Ready.{Keeps, moved, putBy}
 use Rattle.parts.specs.Batch.{putAllBy, Along, RoomAll, grown}
-use Rattle.parts.specs.Far.{endsAfter, endsOf}
+use Rattle.rises.specs.Far.{endsAfter, endsOf}
 use Rattle.parts.proofs.Taking.{ends-later, put-none}
 use Rattle.parts.proofs.Taken.{Writing, write-begin, write-next, write-turn}
 use Rattle.parts.proofs.Grown.{Lengthens}

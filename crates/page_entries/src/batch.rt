@@ -3,13 +3,13 @@ use crate::entry::pages_put;
 use crate::entry::put_entry;
 use parts::Encoder;
 use parts::encode::grow;
-use parts::far::list_ends;
+use rises::far::list_ends;
 ghost use mathlib.Core.Path.{_≡_};
 ghost use Prim.Native.Nat.{_≤_};
 ghost use lib.ListN.{length};
 ghost use Rattle.parts.specs.Encoder.{takenAllBy};
 ghost use Rattle.parts.specs.Batch.{Along, RoomAll, putAllBy};
-ghost use Rattle.parts.specs.Far.{endsAfter};
+ghost use Rattle.rises.specs.Far.{endsAfter};
 ghost use Rattle.page_entries.specs.Coding.{pagesCoder};
 
 // The most positions whose run ends are listed at a time: a caller's largest batch.

@@ -19,7 +19,7 @@ use Rattle.laws.proofs.Levels.{span-path}
 use Rattle.laws.proofs.RunsBack.{leastEmpty}
 use Rattle.wire.specs.declared.Pair.{Pair}
 use Rattle.wire.specs.Wire.{fieldPair}
-use Rattle.parts.specs.Falls.{fallen, follows, pairFalls}
+use Rattle.rises.specs.Falls.{fallen, follows, pairFalls}
 use Rattle.levels.specs.Levels.{spanOf, entries}
 use Rattle.levels.specs.Comparing.{Inside}
 use Rattle.levels.proofs.Reading.{pairsIn, pairs-none, pairs-cons, entries-next}

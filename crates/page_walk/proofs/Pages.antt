@@ -10,9 +10,9 @@ use lib.Dec.{ltb}
 use borrow.Author.Tests.{lt-ltb, le-ltb}
 use Rattle.laws.proofs.Tools.{cases}
 use Rattle.wire.specs.declared.Pair.{Pair}
-use Rattle.wire.specs.Wire.{pairAt}
+use Rattle.wire.specs.Wire.{pairAt, add32}
 use Rattle.parts.specs.declared.Cursor.{Cursor}
-use Rattle.parts.specs.Cursor.{add32, alongRun, alongBy, walkedAs, steppedAs, Batch}
+use Rattle.parts.specs.Cursor.{alongRun, alongBy, walkedAs, steppedAs, Batch}
 use Rattle.parts.specs.Stretch.{Stretch}
 use Rattle.parts.specs.Walks.{GoesAlong}
 use Rattle.parts.proofs.Steps.{add32-small}

@@ -15,9 +15,9 @@ use Rattle.laws.proofs.Bounds.{below-level}
 use Rattle.laws.proofs.Levels.{none-plus}
 use Rattle.laws.proofs.Stored.{Rising}
 use Rattle.wire.specs.declared.Pair.{Pair}
-use Rattle.wire.specs.Wire.{pairAt}
+use Rattle.wire.specs.Wire.{pairAt, add32}
 use Rattle.parts.specs.declared.Cursor.{Cursor}
-use Rattle.parts.specs.Cursor.{add32, alongRun, before}
+use Rattle.parts.specs.Cursor.{alongRun, before}
 use Rattle.parts.specs.Holds.{Holds}
 use Rattle.parts.specs.Walks.{Walks, GoesAlong, StepsAlong}
 use Rattle.parts.proofs.Entries.{Entries, first-pair, rest-pairs, all-entries}

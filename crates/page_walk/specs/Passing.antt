@@ -6,7 +6,7 @@ use lib.Dec.{leb, ltb, eqb}
 use Rattle.format.specs.Tools.{both}
 use Rattle.format.specs.Runs.{Span}
 use Rattle.wire.specs.declared.Pair.{Pair}
-use Rattle.parts.specs.Falls.{fallen, follows}
+use Rattle.rises.specs.Falls.{fallen, follows}
 use Rattle.levels.specs.Levels.{spanOf}
 use Rattle.page_walk.specs.declared.check.Pages.{Pages}
 

@@ -7,9 +7,9 @@ use lib.Dec.{ltb}
 use Rattle.format.specs.declared.View.{View}
 use Rattle.format.specs.Tools.{pick}
 use Rattle.wire.specs.declared.Pair.{Pair}
-use Rattle.wire.specs.Wire.{pairAt}
+use Rattle.wire.specs.Wire.{pairAt, add32}
 use Rattle.parts.specs.declared.Cursor.{Cursor}
-use Rattle.parts.specs.Cursor.{add32, alongRun, walkedAs, steppedAs}
+use Rattle.parts.specs.Cursor.{alongRun, walkedAs, steppedAs}
 
 -- the page of the next entry: the same, or the one that begins after the cell at c
 unfoldable pub pageOf : ℕ → Cursor → Cursor

@@ -1,7 +1,7 @@
-// The check of level 0, along it once.
+// The check of level 0: all its entries in one pass, then the ends of its pages.
 use format::View;
-use parts::pairs::fall;
-use parts::pairs::pair_falls;
+use rises::pairs::fall;
+use rises::pairs::pair_falls;
 use wire::Pair;
 use wire::get_pair;
 ghost use mathlib.Core.Path.{_≡_};

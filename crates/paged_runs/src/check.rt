@@ -1,4 +1,4 @@
-// The check of kind 5's parts: along level 0 once, then the levels above it.
+// The check of kind 5's parts: level 0, then the levels above it.
 use format::View;
 use levels::check::upper_right;
 use page_walk::check::runs_right;

@@ -5,9 +5,8 @@ use mathlib.Core.List.{List}
 use native.Mathlib.Omega.{arith}
 use Rattle.format.specs.declared.View.{View}
 use Rattle.wire.specs.declared.Pair.{Pair}
-use Rattle.wire.specs.Wire.{pairAt}
+use Rattle.wire.specs.Wire.{pairAt, add32}
 use Rattle.parts.specs.declared.Cursor.{Cursor}
-use Rattle.parts.specs.Cursor.{add32}
 use Rattle.parts.proofs.Steps.{add32-back}
 use Rattle.pages_copy.specs.Page.{cursorOn}
 use Rattle.pages_copy.proofs.Behind.{Follow, pairOn, Behind}

@@ -10,10 +10,10 @@ use Rattle.format.specs.declared.View.{View}
 use Rattle.format.specs.Runs.{Span}
 use Rattle.format.specs.PagedRuns.{plus, sumsFrom, flatSpans, pagesKind}
 use Rattle.wire.specs.declared.Pair.{Pair}
-use Rattle.wire.specs.Wire.{pairAt, fieldPair}
+use Rattle.wire.specs.Wire.{pairAt, fieldPair, add32}
 use Rattle.wire.proofs.Laws.{pair-there}
 use Rattle.parts.specs.declared.Cursor.{Cursor}
-use Rattle.parts.specs.Cursor.{add32, before, steppedAs}
+use Rattle.parts.specs.Cursor.{before, steppedAs}
 use Rattle.parts.specs.Holds.{Holds}
 use Rattle.parts.specs.Carried.{Reached}
 use Rattle.parts.proofs.Batches.{stepped-as-add}

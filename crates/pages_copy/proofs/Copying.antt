@@ -9,11 +9,12 @@ use Rattle.format.specs.declared.View.{View}
 use Rattle.stores.specs.Put.{pair}
 use Rattle.parts.specs.declared.Cursor.{Cursor}
 use Rattle.parts.specs.declared.Encoder.{Encoder}
-use Rattle.parts.specs.Cursor.{add32, walkedAs}
+use Rattle.wire.specs.Wire.{add32}
+use Rattle.parts.specs.Cursor.{walkedAs}
 use Rattle.parts.specs.Encoder.{ifZero, leftAfter}
 use Rattle.parts.specs.Batch.{Along, RoomAll}
-use Rattle.parts.specs.Copied.{copied}
-use Rattle.parts.proofs.Copied.{shifted}
+use Rattle.rises.specs.Copied.{copied}
+use Rattle.rises.proofs.Copied.{shifted}
 use Rattle.parts.proofs.Taking.{left-next}
 use Rattle.parts.proofs.Carried.{Written, written-begin, written-turn}
 use Rattle.page_walk.specs.Steps.{next}

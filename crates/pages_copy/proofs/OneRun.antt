@@ -9,11 +9,11 @@ use borrow.Author.Tests.{lt-ltb, le-ltb}
 use Rattle.format.specs.declared.View.{View}
 use Rattle.format.specs.Tools.{range}
 use Rattle.wire.specs.declared.Pair.{Pair}
-use Rattle.wire.specs.Wire.{pairAt}
+use Rattle.wire.specs.Wire.{pairAt, add32}
 use Rattle.stores.specs.Put.{put}
 use Rattle.parts.specs.declared.Cursor.{Cursor}
 use Rattle.parts.specs.declared.Encoder.{Encoder}
-use Rattle.parts.specs.Cursor.{add32, alongBy, steppedAs}
+use Rattle.parts.specs.Cursor.{alongBy, steppedAs}
 use Rattle.parts.specs.Encoder.{leftAfter, runEnds, takenBy, takenAllBy}
 use Rattle.parts.specs.Batch.{putAllBy, grown}
 use Rattle.parts.proofs.Steps.{add32-small}

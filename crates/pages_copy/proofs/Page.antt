@@ -13,7 +13,7 @@ use Rattle.parts.specs.declared.Encoder.{Encoder}
 use Rattle.parts.specs.Cursor.{walkedAs, steppedAs}
 use Rattle.parts.specs.Encoder.{Coder, leftAfter, takenAllBy}
 use Rattle.parts.specs.Batch.{Along, RoomAll}
-use Rattle.parts.specs.Copied.{copied}
+use Rattle.rises.specs.Copied.{copied}
 use Rattle.parts.proofs.Taking.{if-more}
 use Rattle.parts.proofs.Carried.{Written, written-end, put-as, end-put, turn-now, turn-room-now}
 use Rattle.page_walk.specs.Steps.{next}

@@ -7,7 +7,8 @@ use Rattle.format.specs.declared.View.{View}
 use Rattle.format.specs.Tools.{range}
 use Rattle.parts.specs.declared.Cursor.{Cursor}
 use Rattle.parts.specs.declared.Encoder.{Encoder}
-use Rattle.parts.specs.Cursor.{add32, before, alongBy, walkedAs, steppedAs}
+use Rattle.wire.specs.Wire.{add32}
+use Rattle.parts.specs.Cursor.{before, alongBy, walkedAs, steppedAs}
 use Rattle.parts.specs.Encoder.{takenBy, takenAllBy}
 use Rattle.parts.specs.Batch.{Along, grown}
 use Rattle.parts.specs.Carried.{Reached}

@@ -6,7 +6,8 @@ use native.Mathlib.Numerals.{add-one}
 use native.Mathlib.Omega.{arith}
 use Rattle.format.specs.Tools.{range}
 use Rattle.parts.specs.declared.Cursor.{Cursor}
-use Rattle.parts.specs.Cursor.{add32, alongRun, alongBy, walkedAs, steppedAs}
+use Rattle.wire.specs.Wire.{add32}
+use Rattle.parts.specs.Cursor.{alongRun, alongBy, walkedAs, steppedAs}
 use Rattle.parts.specs.Walks.{GoesAlong}
 use Rattle.parts.proofs.Batches.{stepped-as-add}
 

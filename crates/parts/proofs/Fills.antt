@@ -11,7 +11,8 @@ use borrow.Author.Tests.{leb-true, leb-false}
 use Rattle.format.specs.Tools.{range}
 use Rattle.laws.proofs.Tools.{cases, range-snoc}
 use Rattle.parts.specs.declared.Cursor.{Cursor}
-use Rattle.parts.specs.Cursor.{add32, walkedAs, steppedAs}
+use Rattle.wire.specs.Wire.{add32}
+use Rattle.parts.specs.Cursor.{walkedAs, steppedAs}
 use Rattle.parts.specs.Walks.{GoesAlong}
 use Rattle.parts.specs.Stretch.{Filled, Stretch}
 use Rattle.parts.proofs.Steps.{add32-small}

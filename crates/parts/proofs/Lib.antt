@@ -15,9 +15,6 @@ pub mod Added
 pub mod Grown
 pub mod Carried
 -- The parts, and the facts of an accepted file.
-pub mod Falls
-pub mod Copied
-pub mod Ends
 pub mod Last
 pub mod Places
 pub mod Seen

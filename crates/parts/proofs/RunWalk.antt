@@ -10,7 +10,8 @@ use Rattle.laws.proofs.Bounds.{below-runs}
 use Rattle.laws.proofs.Positions.{runs-back}
 use Rattle.laws.proofs.Ranks.{InOrder, in-order}
 use Rattle.parts.specs.declared.Cursor.{Cursor}
-use Rattle.parts.specs.Cursor.{add32, alongRun, before}
+use Rattle.wire.specs.Wire.{add32}
+use Rattle.parts.specs.Cursor.{alongRun, before}
 use Rattle.parts.proofs.Steps.{add32-small, upper}
 
 -- each pair has a stored cell, and all end by B, where the first begins at e

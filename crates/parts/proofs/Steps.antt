@@ -6,10 +6,10 @@ use native.Mathlib.Nat.{mod-eq-of-lt}
 use native.Mathlib.Omega.{arith}
 use lib.ListN.{length}
 use Rattle.format.specs.declared.View.{View}
-use Rattle.wire.specs.Wire.{whole, entrySize}
+use Rattle.wire.specs.Wire.{whole, entrySize, add32}
 use Rattle.wire.proofs.Laws.{entry-none}
 use Rattle.parts.specs.declared.Cursor.{Cursor}
-use Rattle.parts.specs.Cursor.{add32, entryOf, walkedAs}
+use Rattle.parts.specs.Cursor.{entryOf, walkedAs}
 
 -- ---- sums
 

@@ -1,14 +1,10 @@
 -- The cursor's steps as the code takes them, and the positions where it stands. Assumes nothing.
-use Prim.Native.Nat.{ℕ, zero, suc, _+_, _*_, _%_, _^_}
+use Prim.Native.Nat.{ℕ, zero, suc, _+_, _*_}
 use mathlib.Core.Path.{_≡_}
 use mathlib.Core.List.{List, [], _∷_}
 use Rattle.format.specs.declared.View.{View}
-use Rattle.wire.specs.Wire.{whole, entrySize}
+use Rattle.wire.specs.Wire.{whole, entrySize, add32}
 use Rattle.parts.specs.declared.Cursor.{Cursor}
-
--- a sum of 32 bits
-unfoldable pub add32 : ℕ → ℕ → ℕ
-add32 a b = (a + b) % 2 ^ 32
 
 -- before rank 0: rank, position and last cell are -1, and a base or page is due
 abbrev pub before : Cursor

@@ -9,6 +9,3 @@ pub mod Batch
 pub mod Codes
 pub mod Carried
 pub mod Last
-pub mod Falls
-pub mod Copied
-pub mod Far

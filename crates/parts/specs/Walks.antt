@@ -8,7 +8,8 @@ use Rattle.format.specs.declared.View.{View}
 use Rattle.format.specs.Tools.{pick, both}
 use Rattle.format.specs.Codec.{Codec}
 use Rattle.parts.specs.declared.Cursor.{Cursor}
-use Rattle.parts.specs.Cursor.{add32, before, alongRun, walkedAs, steppedAs}
+use Rattle.wire.specs.Wire.{add32}
+use Rattle.parts.specs.Cursor.{before, alongRun, walkedAs, steppedAs}
 use Rattle.parts.specs.Holds.{Holds}
 
 -- a step of the kind k, which is given by width and step

@@ -1,8 +1,6 @@
 // What the kinds share (document 01, "The file"). A kind's code reads and writes the two parts of a file, wherever the header ends and whatever the calls
 // make of it; specs/ has its contract.
 pub mod encode;
-pub mod far;
-pub mod pairs;
 pub mod search;
 pub mod walk;
 

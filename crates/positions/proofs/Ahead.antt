@@ -6,10 +6,10 @@ use native.Mathlib.Omega.{arith}
 use lib.ListN.{length, set}
 use Rattle.format.specs.declared.View.{View}
 use Rattle.format.specs.Bytes.{field}
-use Rattle.wire.specs.Wire.{whole}
+use Rattle.wire.specs.Wire.{whole, add32}
 use Rattle.wire.proofs.Laws.{whole-there}
 use Rattle.parts.specs.declared.Cursor.{Cursor}
-use Rattle.parts.specs.Cursor.{add32, movedTo, Batch}
+use Rattle.parts.specs.Cursor.{movedTo, Batch}
 use Rattle.parts.proofs.Steps.{add32-small}
 use Rattle.parts.proofs.Batches.{stand, stand-first, Partly, batch-start, batch-turn, batch-end}
 use Rattle.positions.specs.Steps.{next, There}

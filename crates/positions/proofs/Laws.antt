@@ -18,7 +18,8 @@ use Rattle.parts.specs.declared.Cursor.{Cursor}
 use Rattle.parts.specs.declared.Encoder.{Encoder}
 use Rattle.parts.specs.Holds.{Holds}
 use Rattle.parts.specs.Walks.{Walks}
-use Rattle.parts.specs.Cursor.{add32, movedTo, before}
+use Rattle.wire.specs.Wire.{add32}
+use Rattle.parts.specs.Cursor.{movedTo, before}
 use Rattle.parts.specs.Encoder.{unchanged, begun, takenBy, endedBy, takenAllBy, firstsBy}
 use Rattle.parts.specs.Ready.{Next, moved}
 use Rattle.parts.specs.Codes.{sizesIn, PutOut, Codes}

@@ -3,9 +3,9 @@ use Prim.Native.Nat.{ℕ, _+_, _*_, _^_, _≤_, _<_}
 use mathlib.Core.List.{List}
 use lib.ListN.{length}
 use Rattle.format.specs.declared.View.{View}
-use Rattle.wire.specs.Wire.{whole}
+use Rattle.wire.specs.Wire.{whole, add32}
 use Rattle.parts.specs.declared.Cursor.{Cursor}
-use Rattle.parts.specs.Cursor.{add32, movedTo}
+use Rattle.parts.specs.Cursor.{movedTo}
 
 unfoldable pub next : List ℕ → View → Cursor → Cursor
 next b v c = movedTo (whole 4 (v .start + 4 * add32 (c .rank) 1) b) c

@@ -8,9 +8,8 @@ ghost use mathlib.Core.Bool.{true};
 ghost use Prim.Native.Nat.{_+_, _≤_};
 ghost use lib.ListN.{length};
 ghost use Rattle.format.specs.Positions.{positionsKind};
-ghost use Rattle.stores.specs.Put.{put};
-ghost use Rattle.parts.specs.Encoder.{takenBy, takenAllBy, endedBy};
-ghost use Rattle.parts.specs.Ready.{Next, Room, putBy, Sound};
+ghost use Rattle.parts.specs.Encoder.{takenBy, takenAllBy};
+ghost use Rattle.parts.specs.Ready.{Next, Room, putBy};
 ghost use Rattle.parts.specs.Batch.{Along, RoomAll, putAllBy};
 ghost use Rattle.positions.specs.Coding.{coder};
 
@@ -59,19 +58,6 @@ pub fn put_all(dst: &mut [u8], width: u32, step: u32, e: Encoder, ps: &[u32]) ->
     }
     at
 }
-
-// Nothing is added at the end.
-pub fn ended(width: u32, step: u32, e: Encoder) -> Encoder
-    requires { ⌜ Sound e ⌝ }
-    ensures { λ r. ⌜ r ≡ endedBy (coder width step) e ⌝ }
-{
-    e
-}
-
-pub fn finish(dst: &mut [u8], width: u32, step: u32, e: Encoder)
-    requires { ⌜ Sound e × (e .first + length (coder width step .endFirst e) ≤ length (now dst)) × (e .second + length (coder width step .endSecond e) ≤ length (now dst)) ⌝ }
-    ensures { λ _. ⌜ now (dst .exit) ≡ put (put (now (dst .entry)) (e .first) (coder width step .endFirst e)) (e .second) (coder width step .endSecond e) ⌝ }
-{}
 
 // The sizes of the file.
 pub fn sizes(width: u32, step: u32, e: Encoder) -> Sizes

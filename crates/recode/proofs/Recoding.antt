@@ -28,8 +28,8 @@ use Rattle.kinds.specs.declared.Measured.{Measured}
 use Rattle.kinds.specs.Coding.{firsts, seconds, derived, Apart}
 use Rattle.layout.specs.Laid.{countsIn, Measures, outOf, Goes}
 use Rattle.layout.proofs.WholeFile.{laidOut, Laid, laid-out, out-number, goes}
-use Rattle.rewrite.specs.declared.Edit.{Edit}
-use Rattle.rewrite.specs.Edit.{edited, overlaid, EditOf}
+use Rattle.edits.specs.declared.Edit.{Edit}
+use Rattle.edits.specs.Edit.{edited, overlaid, EditOf}
 use Rattle.recode.specs.Recoded.{wordsAfter, Recodes, Recoded}
 
 -- ---- the words after an edit

@@ -19,8 +19,8 @@ use Rattle.parts.specs.Holds.{ViewOf}
 use Rattle.parts.proofs.Seen.{seen}
 use Rattle.kinds.specs.Steps.{storesRuns, runsOf}
 use Rattle.kinds.proofs.Counts.{run-count}
-use Rattle.rewrite.specs.declared.Edit.{Edit}
-use Rattle.rewrite.specs.Edit.{edited, leftOut, EditOf}
+use Rattle.edits.specs.declared.Edit.{Edit}
+use Rattle.edits.specs.Edit.{edited, leftOut, EditOf}
 use Rattle.recode.specs.RunCount.{begins, runCount, endAfter, firstBegins, joint}
 use Rattle.recode.proofs.RunCounts.{count-runs, count-replaced, end-take}
 use Rattle.rewrite.proofs.Three.{ranks-there, edit-below}

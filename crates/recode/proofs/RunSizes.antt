@@ -21,8 +21,8 @@ use Rattle.kinds.specs.Coding.{coder, sizedByRanks, countedBy}
 use Rattle.kinds.proofs.Counts.{ByCount, by-ranks, by-runs}
 use Rattle.layout.specs.Laid.{Measures}
 use Rattle.layout.proofs.Measuring.{counts-measure}
-use Rattle.rewrite.specs.declared.Edit.{Edit}
-use Rattle.rewrite.specs.Edit.{edited, EditOf}
+use Rattle.edits.specs.declared.Edit.{Edit}
+use Rattle.edits.specs.Edit.{edited, EditOf}
 use Rattle.rewrite.proofs.Three.{ranks-there, edit-rising, cells-most, edit-below}
 
 -- how many ranks there are after the edit

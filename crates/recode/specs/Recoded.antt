@@ -10,8 +10,8 @@ use Rattle.format.specs.Stored.{stored, kept, placed}
 use Rattle.format.specs.File.{layout}
 use Rattle.format.specs.Accepted.{dimensionsOf, emptyOf, positionsOf, keptOf}
 use Rattle.format.specs.Calls.{outNumber}
-use Rattle.rewrite.specs.declared.Edit.{Edit}
-use Rattle.rewrite.specs.Edit.{edited, overlaid, EditOf}
+use Rattle.edits.specs.declared.Edit.{Edit}
+use Rattle.edits.specs.Edit.{edited, overlaid, EditOf}
 
 -- the words after the edit, w being the new one
 unfoldable pub wordsAfter : List ℕ → Edit → ℕ → List ℕ

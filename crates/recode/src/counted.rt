@@ -1,5 +1,6 @@
 // What a file measures after an edit, without a pass where the sizes follow from less: from the number of ranks in a kind with so many bytes for each;
 // where source and target store runs, from the runs, which are counted from the edit's neighbours.
+use edits::Edit;
 use format::Rank;
 use format::Setting;
 use format::View;
@@ -8,7 +9,6 @@ use kinds::coding::sized_by_ranks;
 use kinds::steps::run_count;
 use kinds::steps::stores_runs;
 use layout::by_counts;
-use rewrite::Edit;
 use rewrite::edited::measure;
 use search::stored_position;
 ghost use mathlib.Core.Path.{_≡_};
@@ -23,7 +23,7 @@ ghost use Rattle.parts.specs.Holds.{ViewOf};
 ghost use Rattle.format.specs.Kinds.{settingAllowed};
 ghost use Rattle.kinds.specs.Steps.{storesRuns};
 ghost use Rattle.layout.specs.Laid.{Measures};
-ghost use Rattle.rewrite.specs.Edit.{edited, leftOut, EditOf};
+ghost use Rattle.edits.specs.Edit.{edited, leftOut, EditOf};
 ghost use Rattle.recode.specs.RunCount.{begins, firstBegins, endAfter, joint};
 
 // 1 where the stored cell l begins a run, else 0. The stored cell before it ends at `end`, which is 0 where there is none.

@@ -2,6 +2,8 @@
 pub mod counted;
 
 use counted::sized;
+use edits::Edit;
+use edits::words::put_words;
 use format::HEADER;
 use format::Setting;
 use format::View;
@@ -10,9 +12,7 @@ use kinds::coding::put_derived;
 use layout::header_out::put_header;
 use layout::out_number;
 use parts::Sizes;
-use rewrite::Edit;
 use rewrite::edited::put_parts;
-use rewrite::words::put_words;
 ghost use mathlib.Core.Path.{_≡_};
 ghost use mathlib.Core.Bool.{true};
 ghost use lib.ListN.{length};

@@ -1,5 +1,2 @@
-pub mod Written
-pub mod Edits
-pub mod Copied
 pub mod Stretch
 pub mod Three

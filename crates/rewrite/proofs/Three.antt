@@ -28,8 +28,8 @@ use Rattle.kinds.specs.Steps.{nextOf, startOf, walked, steppedBy}
 use Rattle.kinds.specs.Coding.{coder, takenAll, firsts, seconds, addedFirst, addedSecond, Apart}
 use Rattle.kinds.proofs.Walks.{Batched, batched, walk-start}
 use Rattle.kinds.proofs.Driving.{all-append, along-added, sound-added, room-first-all, room-second-all, apart-added, put-turn-all}
-use Rattle.rewrite.specs.declared.Edit.{Edit}
-use Rattle.rewrite.specs.Edit.{edited, EditOf}
+use Rattle.edits.specs.declared.Edit.{Edit}
+use Rattle.edits.specs.Edit.{edited, EditOf}
 use Rattle.rewrite.specs.Walk.{along, added}
 use Rattle.rewrite.proofs.Stretch.{room-rest, put-all-append, put-all-is}
 

@@ -9,7 +9,7 @@ use Rattle.parts.specs.declared.Encoder.{Encoder}
 use Rattle.parts.specs.Carried.{carried}
 use Rattle.kinds.specs.Steps.{nextOf}
 use Rattle.kinds.specs.Coding.{coder}
-use Rattle.rewrite.specs.declared.Edit.{Edit}
+use Rattle.edits.specs.declared.Edit.{Edit}
 use Rattle.parts.specs.declared.walk.Walk.{Walk}
 
 -- after n ranks from c into e

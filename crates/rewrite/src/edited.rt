@@ -1,10 +1,10 @@
 // The positions of a file after an edit, measured and put out.
-use super::Edit;
 use super::walk::measure_added;
 use super::walk::measure_ranks;
 use super::walk::put_added;
 use super::walk::put_ranks;
 use super::walk::skip;
+use edits::Edit;
 use format::Setting;
 use format::View;
 use kinds::Measured;
@@ -23,7 +23,7 @@ ghost use Rattle.parts.specs.Holds.{ViewOf};
 ghost use Rattle.parts.specs.Encoder.{begun};
 ghost use Rattle.kinds.specs.Coding.{firsts, seconds, Apart};
 ghost use Rattle.layout.specs.Laid.{Measures};
-ghost use Rattle.rewrite.specs.Edit.{edited, EditOf};
+ghost use Rattle.edits.specs.Edit.{edited, EditOf};
 
 // What the edited positions measure.
 pub fn measure(file: &[u8], v: View, x: Edit, s: Setting) -> Measured

@@ -1,6 +1,6 @@
 // A stretch of ranks of a file into an encoder, by runs or in batches: to measure, and to write.
-use super::Edit;
 use super::runs::put_runs;
+use edits::Edit;
 use format::Setting;
 use format::View;
 use kinds::coding::put_all;

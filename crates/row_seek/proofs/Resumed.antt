@@ -22,7 +22,8 @@ use Rattle.laws.proofs.Bounds.{below-widen}
 use Rattle.laws.proofs.Positions.{rising-at}
 use Rattle.laws.proofs.Search.{rankAmong, not-among, rank-among}
 use Rattle.parts.specs.declared.Cursor.{Cursor}
-use Rattle.parts.specs.Cursor.{add32, before}
+use Rattle.wire.specs.Wire.{add32}
+use Rattle.parts.specs.Cursor.{before}
 use Rattle.parts.specs.Holds.{ViewOf}
 use Rattle.parts.proofs.Steps.{add32-small}
 use Rattle.parts.proofs.Seen.{Seen, seen}

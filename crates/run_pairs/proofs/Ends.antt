@@ -18,7 +18,7 @@ use Rattle.parts.specs.declared.Encoder.{Encoder}
 use Rattle.parts.specs.Encoder.{runEnds, takenBy}
 use Rattle.parts.specs.Ready.{putBy}
 use Rattle.parts.specs.Batch.{addedFirstBy, addedSecondBy, putAllBy, Along, RoomAll}
-use Rattle.parts.specs.Far.{endsAfter, endsOf}
+use Rattle.rises.specs.Far.{endsAfter, endsOf}
 use Rattle.parts.proofs.Taken.{room-tail, put-all-cons}
 use Rattle.run_pairs.specs.Coding.{runPair, runsCoder, endPairs}
 use Rattle.run_pairs.proofs.Adds.{run-pair, first-pair, first-none}

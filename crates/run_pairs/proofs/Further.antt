@@ -14,8 +14,8 @@ use Rattle.parts.specs.declared.Encoder.{Encoder}
 use Rattle.parts.specs.Encoder.{runEnds, takenBy, takenAllBy}
 use Rattle.parts.specs.Ready.{passed, moved}
 use Rattle.parts.specs.Batch.{Along}
-use Rattle.parts.specs.Falls.{fallen}
-use Rattle.parts.specs.Far.{farAfter, far}
+use Rattle.rises.specs.Falls.{fallen}
+use Rattle.rises.specs.Far.{farAfter, far}
 use Rattle.parts.proofs.Taking.{ends-later}
 use Rattle.parts.proofs.Taken.{along-head}
 use Rattle.run_pairs.specs.Coding.{runsCoder, further}

@@ -2,8 +2,8 @@
 use crate::pair::put_one;
 use crate::pair::take_one;
 use parts::Encoder;
-use parts::far::count_far;
-use parts::far::list_ends;
+use rises::far::count_far;
+use rises::far::list_ends;
 use stores::put_pair;
 ghost use mathlib.Core.Path.{_≡_};
 ghost use Prim.Native.Nat.{_+_, _*_, _≤_};
@@ -13,7 +13,7 @@ ghost use Rattle.laws.proofs.Stored.{Rising};
 ghost use Rattle.stores.specs.Put.{put};
 ghost use Rattle.parts.specs.Encoder.{takenAllBy};
 ghost use Rattle.parts.specs.Batch.{Along, RoomAll, putAllBy};
-ghost use Rattle.parts.specs.Far.{far, endsOf};
+ghost use Rattle.rises.specs.Far.{far, endsOf};
 ghost use Rattle.run_pairs.specs.Coding.{runsCoder, further, endPairs};
 
 // The most positions whose run ends are listed at a time: a caller's largest batch.

@@ -1,6 +1,6 @@
 // The check of kind 1's parts: the first pair, each pair by the one before, the last pair.
 use format::View;
-use parts::pairs::pair_falls;
+use rises::pairs::pair_falls;
 use wire::get_pair;
 ghost use mathlib.Core.Path.{_≡_};
 ghost use Rattle.format.specs.Runs.{runsKind};

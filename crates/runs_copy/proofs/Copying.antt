@@ -10,28 +10,28 @@ use borrow.Author.Tests.{ne-eqb}
 use Rattle.format.specs.declared.View.{View}
 use Rattle.format.specs.Tools.{range}
 use Rattle.format.specs.Runs.{runsKind}
-use Rattle.wire.specs.Wire.{pairAt, fieldPair}
+use Rattle.wire.specs.Wire.{pairAt, fieldPair, add32}
 use Rattle.wire.proofs.Laws.{pair-there}
 use Rattle.stores.specs.Put.{put, pair}
 use Rattle.parts.specs.declared.Cursor.{Cursor}
 use Rattle.parts.specs.declared.Encoder.{Encoder}
-use Rattle.parts.specs.Cursor.{add32, walkedAs, steppedAs}
+use Rattle.parts.specs.Cursor.{walkedAs, steppedAs}
 use Rattle.parts.specs.Encoder.{runEnds, takenAllBy}
 use Rattle.parts.specs.Ready.{moved}
 use Rattle.parts.specs.Batch.{Along, RoomAll, putAllBy, grown}
 use Rattle.parts.specs.Holds.{Holds}
-use Rattle.parts.specs.Copied.{copied}
+use Rattle.rises.specs.Copied.{copied}
 use Rattle.parts.proofs.Steps.{add32-small}
-use Rattle.parts.proofs.Copied.{shifted}
+use Rattle.rises.proofs.Copied.{shifted}
 use Rattle.parts.proofs.Taking.{ends-later, put-first}
 use Rattle.parts.proofs.Grown.{taken-range, put-range}
 use Rattle.parts.proofs.Carried.{Written, written-begin, Cells, written-turn}
 use Rattle.run_search.specs.Before.{lastAt, emptyAt, ranksBefore}
-use Rattle.runs.specs.Steps.{next}
+use Rattle.run_walk.specs.Steps.{next}
 use Rattle.run_pairs.specs.Coding.{runPair, runsCoder}
 use Rattle.runs_copy.specs.Copy.{atRun, ranOn}
-use Rattle.runs.proofs.Body.{inside}
-use Rattle.runs.proofs.Walk.{next-along}
+use Rattle.run_walk.proofs.Body.{inside}
+use Rattle.run_walk.proofs.Walk.{next-along}
 use Rattle.run_pairs.proofs.Adds.{first-pair, taken-pair, lengthens, keeps}
 use Rattle.runs_copy.proofs.Whole.{whole-run, ranks-next, InRunAt, to-next, at-first}
 

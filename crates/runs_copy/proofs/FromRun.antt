@@ -23,15 +23,15 @@ use Rattle.parts.specs.Carried.{carried, PutAs, Reached}
 use Rattle.parts.proofs.Along.{walked-along}
 use Rattle.parts.specs.Batch.{Along, RoomAll, grown}
 use Rattle.parts.specs.Holds.{Holds}
-use Rattle.parts.specs.Copied.{copied}
+use Rattle.rises.specs.Copied.{copied}
 use Rattle.parts.proofs.Grown.{taken-range}
 use Rattle.parts.proofs.Carried.{Written}
 use Rattle.run_search.specs.Before.{lastAt, emptyAt, ranksBefore}
-use Rattle.runs.specs.Steps.{next}
+use Rattle.run_walk.specs.Steps.{next}
 use Rattle.run_pairs.specs.Coding.{runsCoder}
 use Rattle.runs_copy.specs.Copy.{atRun, atEnd, ranOn, BetweenRuns}
-use Rattle.runs.proofs.Body.{inside}
-use Rattle.runs.proofs.Walk.{next-along}
+use Rattle.run_walk.proofs.Body.{inside}
+use Rattle.run_walk.proofs.Walk.{next-along}
 use Rattle.run_pairs.proofs.Adds.{lengthens}
 use Rattle.runs.proofs.Lookup.{FirstWith}
 use Rattle.runs_copy.proofs.Whole.{whole-run, words-before, at-rank-before, step-on, to-next, at-first, Stands, stands}

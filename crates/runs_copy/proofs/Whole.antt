@@ -13,7 +13,8 @@ use Rattle.format.specs.Runs.{Run, runs, flatRuns, runsKind}
 use Rattle.laws.proofs.Tools.{cases, both-true}
 use Rattle.laws.proofs.RunsBack.{InOrder', runs-ordered}
 use Rattle.parts.specs.declared.Cursor.{Cursor}
-use Rattle.parts.specs.Cursor.{add32, before, alongRun, alongBy, steppedAs}
+use Rattle.wire.specs.Wire.{add32}
+use Rattle.parts.specs.Cursor.{before, alongRun, alongBy, steppedAs}
 use Rattle.parts.specs.Holds.{Holds}
 use Rattle.parts.proofs.Places.{rising-below}
 use Rattle.parts.proofs.Steps.{add32-small}
@@ -21,11 +22,11 @@ use Rattle.parts.proofs.Entries.{Entries, rest-pairs}
 use Rattle.parts.proofs.Batches.{stepped-as-add}
 use Rattle.parts.proofs.Along.{past-along}
 use Rattle.run_search.specs.Before.{lastAt, emptyAt, ranksBefore}
-use Rattle.runs.specs.Steps.{entered, next}
+use Rattle.run_walk.specs.Steps.{entered, next}
 use Rattle.runs_copy.specs.Copy.{atRun, atEnd}
-use Rattle.runs.proofs.Body.{held}
+use Rattle.run_walk.proofs.Body.{held}
 use Rattle.runs.proofs.Lookup.{told, count, in-run, at-rank, ranks}
-use Rattle.runs.proofs.Walk.{next-along}
+use Rattle.run_walk.proofs.Walk.{next-along}
 
 -- run i + k + 1 of the file has more empty cells before it than the run before
 more-among : (b : List ℕ) (s : ℕ) (rs : List Run) (i e v k : ℕ) → InOrder' e v rs → Entries b 4 s (2 * i) (flatRuns rs) → suc k < length rs

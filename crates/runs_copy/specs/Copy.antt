@@ -5,7 +5,7 @@ use mathlib.Core.List.{List}
 use Rattle.format.specs.declared.View.{View}
 use Rattle.parts.specs.declared.Cursor.{Cursor}
 use Rattle.parts.specs.declared.Encoder.{Encoder}
-use Rattle.parts.specs.Cursor.{add32}
+use Rattle.wire.specs.Wire.{add32}
 use Rattle.run_search.specs.Before.{lastAt, emptyAt, ranksBefore}
 
 -- the cursor c at the first cell of run i

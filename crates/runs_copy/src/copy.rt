@@ -2,8 +2,8 @@
 use format::View;
 use parts::Cursor;
 use parts::Encoder;
-use parts::pairs::copy_pairs;
 use parts::walk::Walk;
+use rises::pairs::copy_pairs;
 use run_search::search::run_with;
 use runs::coding::put_run;
 use runs::steps::next;
@@ -21,7 +21,7 @@ ghost use Rattle.parts.specs.Holds.{Holds, said};
 ghost use Rattle.parts.specs.Batch.{Along, RoomAll};
 ghost use Rattle.parts.specs.Carried.{PutAs, Reached};
 ghost use Rattle.run_search.specs.Before.{ranksBefore};
-ghost use Rattle.runs.specs.Steps.{next};
+ghost use Rattle.run_walk.specs.Steps.{next};
 ghost use Rattle.run_pairs.specs.Coding.{runsCoder};
 ghost use Rattle.runs_copy.specs.Copy.{atRun, atEnd, ranOn, BetweenRuns};
 

@@ -1,5 +1,5 @@
--- Numbers in bytes as the code loads them. Assumes nothing.
-use Prim.Native.Nat.{ℕ, zero, suc, _+_}
+-- Numbers as the code loads and adds them. Assumes nothing.
+use Prim.Native.Nat.{ℕ, zero, suc, _+_, _%_, _^_}
 use mathlib.Core.List.{List}
 use lib.ListN.{length}
 use lib.Dec.{leb}
@@ -25,3 +25,7 @@ fieldPair at b = record { first = field 4 at b; second = field 4 (at + 4) b }
 -- the same; zeros where its bytes are not all there
 unfoldable pub pairAt : ℕ → List ℕ → Pair
 pairAt at b = pick (leb (at + 8) (length b)) (fieldPair at b) (record { first = 0; second = 0 })
+
+-- a sum of 32 bits, which wraps
+unfoldable pub add32 : ℕ → ℕ → ℕ
+add32 a b = (a + b) % 2 ^ 32

@@ -3,7 +3,7 @@ use mathlib.Core.Path.{sym}
 use native.Mathlib.Omega.{arith}
 use lib.Seq.{length-take-le}
 use Rattle.format.specs.Lister.{refusedLine}
-use Rattle.listing.proofs.Placing.{text-inside, text-front}
+use Rattle.text.proofs.Placing.{text-inside, text-front}
 use Rattle.listing.proofs.Listed.{refused-most, same-text}
 use borrow.Author.Needs.{needs}
 use Rattle.listing.proofs.offer_refused.Statement.{statement}

@@ -8,7 +8,7 @@ use Rattle.format.specs.Accepted.{positionsOf, keptOf}
 use Rattle.format.specs.Lister.{rankLines}
 use Rattle.parts.proofs.Seen.{seen}
 use Rattle.kinds.proofs.Walks.{Ahead, walk-start}
-use Rattle.listing.proofs.Placing.{text-size}
+use Rattle.text.proofs.Placing.{text-size}
 use Rattle.listing.proofs.Lines.{Left, word-inside, lines-end, step, lines-turn, line-room}
 use borrow.Author.Needs.{needs}
 use Rattle.listing.proofs.put_ranks.Statement.{statement}

@@ -1,6 +1,6 @@
 -- `put_refused` meets its contract. Assumes nothing.
 use native.Mathlib.Omega.{arith}
-use Rattle.listing.proofs.Placing.{length-refused, number-room, refused-put}
+use Rattle.text.proofs.Placing.{length-refused, number-room, refused-put}
 use borrow.Author.Needs.{needs}
 use Rattle.listing.proofs.put_refused.Statement.{statement}
 use Rattle.listing.proofs.put_refused.Tie as tie

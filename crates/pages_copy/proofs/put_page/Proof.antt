@@ -4,7 +4,7 @@ use native.Mathlib.Nat.{le-refl}
 use native.Mathlib.Omega.{arith}
 use lib.ListN.{length}
 use Rattle.parts.specs.Encoder.{leftAfter}
-use Rattle.parts.specs.Copied.{copied}
+use Rattle.rises.specs.Copied.{copied}
 use Rattle.page_walk.specs.Steps.{next}
 use Rattle.page_entries.specs.Coding.{pagesCoder}
 use Rattle.pages_copy.specs.Page.{cursorOn, encoderOn, Fits, Further}

@@ -1,5 +1,5 @@
 use borrow.Author.Tests.{lt-ltb, le-ltb}
-use Rattle.parts.specs.Cursor.{add32}
+use Rattle.wire.specs.Wire.{add32}
 use Rattle.base_groups.specs.Steps.{baseOf}
 use borrow.Author.Needs.{needs}
 use Rattle.base_groups.proofs.steps.base_of.Statement.{statement}

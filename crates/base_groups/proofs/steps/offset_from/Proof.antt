@@ -1,4 +1,5 @@
-use Rattle.parts.specs.Cursor.{add32, movedTo}
+use Rattle.wire.specs.Wire.{add32}
+use Rattle.parts.specs.Cursor.{movedTo}
 use Rattle.base_groups.specs.Steps.{offsetFrom}
 use borrow.Author.Needs.{needs}
 use Rattle.base_groups.proofs.steps.offset_from.Statement.{statement}

@@ -5,7 +5,7 @@ use mathlib.Core.Bool.{true}
 use native.Mathlib.Nat.{add-zero}
 use native.Mathlib.Omega.{arith}
 use borrow.Author.Tests.{not-false}
-use Rattle.parts.specs.Cursor.{add32}
+use Rattle.wire.specs.Wire.{add32}
 use Rattle.differences.specs.Walk.{Room, plain}
 use Rattle.differences.proofs.Sums.{earlier}
 use Rattle.parts.proofs.Batches.{stand, stand-first}

@@ -1,4 +1,4 @@
-use Rattle.parts.specs.Cursor.{add32}
+use Rattle.wire.specs.Wire.{add32}
 use Rattle.jumps.specs.Steps.{next}
 use borrow.Author.Needs.{needs}
 use Rattle.jumps.proofs.steps.next.Statement.{statement}

@@ -1,5 +1,5 @@
 use Rattle.kinds.proofs.At.{setting-ended}
-use Rattle.kinds.proofs.None.{no-setting}
+use Rattle.kinds.proofs.Laws.{ended-none}
 use borrow.Author.Needs.{needs}
 use Rattle.kinds.proofs.coding.ended.Statement.{statement}
 use Rattle.kinds.proofs.coding.ended.Tie as tie
@@ -10,12 +10,6 @@ ended-spec =
     (tie.spec
     (λ c κs. search needs)
     (λ c κs. search needs)
-    (λ c κs. search needs)
-    (λ c κs. search needs)
-    (λ c κs. search needs)
     (λ c. setting-ended _ 1 (c .before .match .keys1) _ _ (c .ended .ensures))
-    (λ c. setting-ended _ 2 (c .before .match .keys2) _ _ (c .ended2 .ensures))
-    (λ c. setting-ended _ 3 (c .before .match .keys3) _ _ (c .ended3 .ensures))
-    (λ c. setting-ended _ 4 (c .before .match .keys4) _ _ (c .ended4 .ensures))
-    (λ c. setting-ended _ 5 (c .before .match .keys5) _ _ (c .ended5 .ensures))
-    (λ c. absurd (no-setting _ (c .before .pre .0) (c .match .rest))))
+    (λ c. setting-ended _ 5 (c .before .match .keys2) _ _ (c .ended2 .ensures))
+    (λ c. ended-none _ (c .match .rest .0 .1) (c .match .rest .1) _))

@@ -4,7 +4,7 @@ use mathlib.Core.Path.{sym, _∙_}
 use native.Mathlib.Omega.{arith}
 use lib.ListN.{length}
 use Rattle.wire.proofs.Laws.{pair-there}
-use Rattle.parts.specs.Cursor.{add32}
+use Rattle.wire.specs.Wire.{add32}
 use Rattle.page_walk.specs.Steps.{nextIn, Filled}
 use Rattle.page_walk.proofs.Walk.{in-along}
 use Rattle.page_walk.proofs.Pages.{filled-none, filled-then, filled-run, still-there, in-run, in-page}

@@ -1,4 +1,4 @@
-use Rattle.parts.specs.Cursor.{add32}
+use Rattle.wire.specs.Wire.{add32}
 use Rattle.page_walk.specs.Steps.{enteredBy}
 use borrow.Author.Needs.{needs}
 use Rattle.page_walk.proofs.steps.enter.Statement.{statement}

@@ -2,7 +2,8 @@ use Prim.Native.Nat.{_+_}
 use mathlib.Core.Path.{_≡_, sym, ap, _∙_}
 use native.Mathlib.Omega.{arith}
 use Rattle.wire.proofs.Laws.{pair-there}
-use Rattle.parts.specs.Cursor.{add32, alongRun, alongBy, steppedAs}
+use Rattle.wire.specs.Wire.{add32}
+use Rattle.parts.specs.Cursor.{alongRun, alongBy, steppedAs}
 use Rattle.parts.proofs.Along.{past-along}
 use Rattle.page_walk.specs.Steps.{next}
 use Rattle.page_walk.proofs.Walk.{next-along, page-next, next-entered}

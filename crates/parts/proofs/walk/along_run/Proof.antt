@@ -1,4 +1,5 @@
-use Rattle.parts.specs.Cursor.{add32, alongBy}
+use Rattle.wire.specs.Wire.{add32}
+use Rattle.parts.specs.Cursor.{alongBy}
 use borrow.Author.Needs.{needs}
 use Rattle.parts.proofs.walk.along_run.Statement.{statement}
 use Rattle.parts.proofs.walk.along_run.Tie as tie

@@ -1,7 +1,7 @@
 use Prim.Native.Nat.{_-_, _≤_}
 use mathlib.Core.Path.{_≡_}
 use native.Mathlib.Omega.{arith}
-use Rattle.parts.specs.Cursor.{add32}
+use Rattle.wire.specs.Wire.{add32}
 use Rattle.parts.specs.Stretch.{Filled}
 use Rattle.parts.proofs.Fills.{fill-start, fill-turn}
 use borrow.Author.Needs.{needs}

@@ -1,4 +1,5 @@
-use Rattle.parts.specs.Cursor.{add32, movedTo}
+use Rattle.wire.specs.Wire.{add32}
+use Rattle.parts.specs.Cursor.{movedTo}
 use Rattle.positions.specs.Steps.{next}
 use borrow.Author.Needs.{needs}
 use Rattle.positions.proofs.steps.next.Statement.{statement}

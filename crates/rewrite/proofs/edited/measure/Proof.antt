@@ -7,7 +7,7 @@ use Rattle.kinds.specs.Steps.{startOf, walked, steppedBy}
 use Rattle.kinds.specs.Coding.{takenAll}
 use Rattle.layout.proofs.Measuring.{measures, bounded}
 use Rattle.parts.specs.declared.walk.Walk.{Walk}
-use Rattle.rewrite.specs.Edit.{edited}
+use Rattle.edits.specs.Edit.{edited}
 use Rattle.rewrite.proofs.Three.{allowed, ranks-there, cells-most, edit-rising, along-cursor, along-encoder, edit-along, edit-all}
 use borrow.Author.Needs.{needs}
 use Rattle.rewrite.proofs.edited.measure.Statement.{statement}

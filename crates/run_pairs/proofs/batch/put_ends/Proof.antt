@@ -7,7 +7,7 @@ use lib.ListN.{length, take}
 use lib.Seq.{length-take-le}
 use Rattle.laws.proofs.Stored.{rising-weaken}
 use Rattle.stores.specs.Put.{put}
-use Rattle.parts.proofs.Ends.{length-ends}
+use Rattle.rises.proofs.Ends.{length-ends}
 use Rattle.run_pairs.specs.Coding.{endPairs}
 use Rattle.run_pairs.proofs.Ends.{below-ends}
 use borrow.Author.Needs.{needs}

@@ -1,7 +1,7 @@
 -- `runs::check::parts_right` meets its contract. Assumes nothing.
 use native.Mathlib.Omega.{arith}
 use Rattle.laws.proofs.Bounds.{below-elements}
-use Rattle.runs.proofs.Body.{inside, no-parts, parts-by}
+use Rattle.run_walk.proofs.Body.{inside, no-parts, parts-by}
 use borrow.Author.Needs.{needs}
 use Rattle.runs.proofs.check.parts_right.Statement.{statement}
 use Rattle.runs.proofs.check.parts_right.Tie as tie

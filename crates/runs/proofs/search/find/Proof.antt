@@ -4,7 +4,7 @@ use native.Mathlib.Omega.{arith}
 use borrow.Author.Tests.{ltb-true}
 use Rattle.wire.specs.declared.Pair.{Pair}
 use Rattle.run_search.specs.Before.{emptyAt}
-use Rattle.runs.proofs.Pairs.{unlike}
+use Rattle.run_walk.proofs.Pairs.{unlike}
 use Rattle.runs.proofs.Lookup.{not-above, found-end, found-empty, found-stored}
 use borrow.Author.Needs.{needs}
 use Rattle.runs.proofs.search.find.Statement.{statement}

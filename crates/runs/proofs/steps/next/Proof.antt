@@ -1,7 +1,8 @@
 -- `runs::steps::next` meets its contract. Assumes nothing.
 use borrow.Author.Tests.{lt-ltb, le-ltb}
-use Rattle.parts.specs.Cursor.{add32, alongRun}
-use Rattle.runs.specs.Steps.{next}
+use Rattle.wire.specs.Wire.{add32}
+use Rattle.parts.specs.Cursor.{alongRun}
+use Rattle.run_walk.specs.Steps.{next}
 use borrow.Author.Needs.{needs}
 use Rattle.runs.proofs.steps.next.Statement.{statement}
 use Rattle.runs.proofs.steps.next.Tie as tie

@@ -2,8 +2,8 @@
 use mathlib.Core.Path.{_∙_, ap}
 use native.Mathlib.Omega.{arith}
 use Rattle.parts.proofs.Along.{past-along}
-use Rattle.runs.specs.Steps.{next}
-use Rattle.runs.proofs.Walk.{next-along}
+use Rattle.run_walk.specs.Steps.{next}
+use Rattle.run_walk.proofs.Walk.{next-along}
 use borrow.Author.Needs.{needs}
 use Rattle.runs.proofs.steps.past.Statement.{statement}
 use Rattle.runs.proofs.steps.past.Tie as tie

@@ -5,8 +5,8 @@ use native.Mathlib.Omega.{arith}
 use lib.ListN.{length}
 use Rattle.parts.proofs.Batches.{Partly, batch-start, batch-end, length-walked-as}
 use Rattle.parts.proofs.Fills.{stretch-turn}
-use Rattle.runs.specs.Steps.{next}
-use Rattle.runs.proofs.Walk.{next-along}
+use Rattle.run_walk.specs.Steps.{next}
+use Rattle.run_walk.proofs.Walk.{next-along}
 use borrow.Author.Needs.{needs}
 use Rattle.runs.proofs.steps.positions.Statement.{statement}
 use Rattle.runs.proofs.steps.positions.Tie as tie

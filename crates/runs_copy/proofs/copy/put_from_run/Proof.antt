@@ -6,7 +6,7 @@ use lib.ListN.{length}
 use Rattle.parts.specs.declared.Cursor.{Cursor}
 use Rattle.parts.proofs.Carried.{Written, written-begin, written-then, written-end, turn-now, turn-room-now}
 use Rattle.run_search.specs.Before.{ranksBefore}
-use Rattle.runs.specs.Steps.{next}
+use Rattle.run_walk.specs.Steps.{next}
 use Rattle.run_pairs.specs.Coding.{runsCoder}
 use Rattle.run_pairs.proofs.Adds.{keeps}
 use Rattle.runs.proofs.Lookup.{FirstWith, first-with}

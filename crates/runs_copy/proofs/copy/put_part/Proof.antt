@@ -5,9 +5,9 @@ use native.Mathlib.Omega.{arith}
 use lib.ListN.{length}
 use Rattle.parts.proofs.Along.{stretch-inside}
 use Rattle.parts.proofs.Carried.{written-begin, written-turn, written-end, Cells, run-asked, run-room}
-use Rattle.runs.specs.Steps.{next}
+use Rattle.run_walk.specs.Steps.{next}
 use Rattle.run_pairs.specs.Coding.{runsCoder}
-use Rattle.runs.proofs.Walk.{next-along}
+use Rattle.run_walk.proofs.Walk.{next-along}
 use Rattle.run_pairs.proofs.Adds.{keeps}
 use borrow.Author.Needs.{needs}
 use Rattle.runs_copy.proofs.copy.put_part.Statement.{statement}

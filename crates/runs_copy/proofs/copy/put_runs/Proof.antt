@@ -3,7 +3,7 @@ use native.Mathlib.Nat.{le-refl}
 use native.Mathlib.Omega.{arith}
 use lib.ListN.{length}
 use Rattle.parts.proofs.Carried.{Written, written-begin, written-then, written-end, turn-now, turn-room-now}
-use Rattle.runs.specs.Steps.{next}
+use Rattle.run_walk.specs.Steps.{next}
 use Rattle.run_pairs.specs.Coding.{runsCoder}
 use Rattle.run_pairs.proofs.Adds.{keeps}
 use Rattle.runs_copy.proofs.FromRun.{in-order, between-runs, ranks-fit}

@@ -3,10 +3,10 @@ use mathlib.Core.Path.{_≡_, ap, _∙_}
 use native.Mathlib.Omega.{arith}
 use lib.ListN.{length}
 use Rattle.wire.specs.declared.Pair.{Pair}
-use Rattle.parts.specs.Copied.{copied}
+use Rattle.rises.specs.Copied.{copied}
 use Rattle.parts.proofs.Carried.{Written, written-end}
 use Rattle.run_search.specs.Before.{lastAt, emptyAt, ranksBefore}
-use Rattle.runs.specs.Steps.{next}
+use Rattle.run_walk.specs.Steps.{next}
 use Rattle.run_pairs.specs.Coding.{runsCoder}
 use Rattle.runs_copy.specs.Copy.{atRun, ranOn}
 use Rattle.runs_copy.proofs.FromRun.{Ahead, ahead, ran, stepped, ran-room}

@@ -1,0 +1,5 @@
+pub mod Pairs
+pub mod Accepts
+pub mod Body
+pub mod Walk
+pub mod Passing
