@@ -2,8 +2,12 @@
 use format::CellAnswer;
 use format::PositionAnswer;
 use format::RankAnswer;
+use format::signals::BEYOND;
 ghost use mathlib.Core.Path.{_≡_};
-ghost use Rattle.format.specs.Answers.{cellSays, rankSays, positionSays};
+ghost use lib.Dec.{ltb};
+ghost use Rattle.format.specs.Tools.{pick};
+ghost use Rattle.format.specs.Signals.{BEYOND};
+ghost use Rattle.format.specs.Answers.{refused, given, cellSays, rankSays, positionSays};
 ghost use Rattle.c_values.specs.Code.{coded, codeAndValue};
 
 pub fn code_and_value(code: u32, value: u32) -> u64
@@ -38,4 +42,15 @@ pub fn position_code(a: PositionAnswer) -> u64
         PositionAnswer::Position(p) => code_and_value(0, p.0),
         PositionAnswer::Refused(number) => code_and_value(number, 0),
     }
+}
+
+// The code of a number that was found for a position: 8 where the picture has no such cell. Made without an answer, so that one comparison alone waits for the
+// number.
+pub fn found_code(at: u64, cells: u32) -> u64
+    ensures { λ r. ⌜ r ≡ coded (pick (ltb at cells) (given at) (refused BEYOND)) ⌝ }
+{
+    if cells as u64 <= at {
+        return code_and_value(BEYOND, 0);
+    }
+    code_and_value(0, at as u32)
 }

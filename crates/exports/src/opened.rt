@@ -2,18 +2,22 @@
 // open nothing: 8.
 use c_values::code::cell_code;
 use c_values::code::code_and_value;
+use c_values::code::found_code;
 use c_values::code::position_code;
 use c_values::code::rank_code;
 use format::Position;
 use format::Rank;
+use format::View;
 use format::signals::BEYOND;
 use header::view::read_view;
 use header::view::whole_header;
 use kinds::search::placed_by_rank;
+use kinds::search::placed_position;
 use search::cell_in;
-use search::placed_in;
 use search::position_in;
 use search::rank_in;
+ghost use Rattle.kinds.specs.Search.{placedByRank};
+ghost use Rattle.search.specs.Searched.{PositionSearched};
 ghost use Rattle.c_values.specs.Code.{Coded};
 ghost use Rattle.exports.specs.Unchecked.{cellUnchecked, rankUnchecked, positionUnchecked};
 
@@ -39,6 +43,17 @@ pub extern "C" fn ra_opened_rank(file: &[u8], place: u32) -> u64
     rank_code(rank_in(file, read_view(file), Position(place)))
 }
 
+// The code of a position in a kind where the rank gives its place: no search is compiled in.
+fn placed_code(file: &[u8], v: View, r: Rank) -> u64
+    requires { ⌜ placedByRank (v .kind) ⌝ }
+    ensures { λ c. ⌜ Coded (PositionSearched (now (file .entry)) v (r .0)) c ⌝ }
+{
+    if v.words <= r.0 {
+        return code_and_value(BEYOND, 0);
+    }
+    found_code(placed_position(file, v, r), v.cells)
+}
+
 // The position of a rank.
 #[no_mangle]
 pub extern "C" fn ra_opened_position(file: &[u8], number: u32) -> u64
@@ -49,7 +64,7 @@ pub extern "C" fn ra_opened_position(file: &[u8], number: u32) -> u64
     }
     let v = read_view(file);
     if placed_by_rank(v.kind) {
-        return position_code(placed_in(file, v, Rank(number)));
+        return placed_code(file, v, Rank(number));
     }
     position_code(position_in(file, v, Rank(number)))
 }

@@ -8,7 +8,6 @@ use format::RankAnswer;
 use format::View;
 use format::signals::BEYOND;
 use kinds::search::find;
-use kinds::search::placed_position;
 use kinds::search::position_of;
 use parts::Found;
 use wire::load_u32;
@@ -18,7 +17,6 @@ ghost use lib.ListN.{getD};
 ghost use Rattle.format.specs.Answers.{cellSays, rankSays, positionSays};
 ghost use Rattle.format.specs.Accepted.{positionsOf};
 ghost use Rattle.parts.specs.Holds.{ViewOf};
-ghost use Rattle.kinds.specs.Search.{placedByRank};
 ghost use Rattle.search.specs.Searched.{rankFrom, positionFrom, CellSearched, RankSearched, PositionSearched};
 
 // A place as an answer: a rank, or "empty".
@@ -59,17 +57,6 @@ pub fn position_in(file: &[u8], v: View, r: Rank) -> PositionAnswer
         return PositionAnswer::Refused(BEYOND);
     }
     position_answer(position_of(file, v, r), v.cells)
-}
-
-// The position of a rank in a kind where the rank gives its place: no search is called, so none is compiled into the caller.
-pub fn placed_in(file: &[u8], v: View, r: Rank) -> PositionAnswer
-    requires { ⌜ placedByRank (v .kind) ⌝ }
-    ensures { λ a. ⌜ PositionSearched (now (file .entry)) v (r .0) (positionSays a) ⌝ }
-{
-    if v.words <= r.0 {
-        return PositionAnswer::Refused(BEYOND);
-    }
-    position_answer(placed_position(file, v, r), v.cells)
 }
 
 // The position of a rank of an accepted file.

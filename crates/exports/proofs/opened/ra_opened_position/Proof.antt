@@ -22,19 +22,17 @@ returns c =
 whole : (c : tie.Else1) → WholeHeader (c .before .before .before .args .file .now)
 whole c = c .before .whole-header .ensures .there (not-false _ (c .if1 .left))
 
-placed : tie.Need-placed-in-requires
+placed : tie.Need-placed-code-requires
 placed c κs = c .before .placed-by-rank .ensures (c .if2 .taken)
 
 returns-2 : tie.Need-returns-2
 returns-2 c =
-    let g = c .before .before .before .before .before .before .before .before .args in
+    let g = c .before .before .before .before .before .before .before .args in
+    let p = c .placed-code .ensures in
     record {
-      answer = positionSays (c .before .placed-in .result);
-      right =
-          position-unchecked (g .file .now) _ (c .before .before .before .before .read-view .ensures) (whole (c .before .before .before .before .before)) (g .number)
-          (positionSays (c .before .placed-in .result))
-          (c .before .placed-in .ensures);
-      code = c .position-code .ensures;
+      answer = p .answer;
+      right = position-unchecked (g .file .now) _ (c .before .before .before .read-view .ensures) (whole (c .before .before .before .before)) (g .number) (p .answer) (p .right);
+      code = p .code;
     }
 
 returns-3 : tie.Need-returns-3
@@ -46,7 +44,7 @@ returns-3 c =
           position-unchecked (g .file .now) _ (c .before .before .before .before .read-view .ensures) (whole (c .before .before .before .before .before)) (g .number)
           (positionSays (c .before .position-in .result))
           (c .before .position-in .ensures);
-      code = c .position-code2 .ensures;
+      code = c .position-code .ensures;
     }
 
 pub ra-opened-position-spec : {M : Type 1} → statement M
@@ -59,7 +57,6 @@ ra-opened-position-spec =
     (λ c κs. whole c)
     (λ c κs. search needs)
     placed
-    (λ c κs. search needs)
     returns-2
     (λ c κs. search needs)
     (λ c κs. search needs)
