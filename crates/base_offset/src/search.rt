@@ -18,7 +18,7 @@ pub fn find(file: &[u8], v: View, p: Position) -> Found
     ensures { λ r. ⌜ FoundIn (basedKind (v .width) (v .step)) (now (file .entry)) v (p .0) r ⌝ }
 {
     let wanted = p.0;
-    let j = last_at_most(file, v.start, v.firsts, wanted);
+    let j = last_at_most(file, v.start as usize, v.firsts, wanted);
     let base = load_u32(file, v.start as usize + 4 * (j as usize));
     let start = (j as u64) * (v.step as u64);
     if wanted < base || v.words as u64 <= start {

@@ -1,17 +1,28 @@
 -- A batch of positions put out, turn by turn: the differences and jumps after the first. Assumes nothing.
 use Prim.Native.Nat.{ℕ, zero, suc, _+_, _-_, _*_, _≤_, _<_}
-use mathlib.Core.Path.{_≡_, refl, sym, _∙_}
+use mathlib.Core.Path.{_≡_, refl, sym, ap, _∙_}
 use mathlib.Core.List.{List, [], _∷_}
 use native.Mathlib.Nat.{mul-suc}
 use native.Mathlib.Numerals.{add-one}
 use native.Mathlib.Omega.{arith}
-use lib.ListN.{length, getD, drop, length-drop}
-use lib.Seq.{drop-cons}
+use lib.ListN.{length, getD, set, drop, length-drop}
+use lib.Seq.{drop-cons, set-set}
 use Rattle.format.specs.Bytes.{bytes, bytesOf}
 use Rattle.format.specs.Jumps.{difference, differencesFrom, jumpsOf}
+use Rattle.laws.proofs.Bytes.{length-bytes, length-bytesOf}
 use Rattle.stores.specs.Put.{put}
-use Rattle.stores.proofs.Laws.{put-numbers-cons, put-numbers-nil}
+use Rattle.stores.proofs.Laws.{put-comm, put-numbers-cons, put-numbers-nil}
+use Rattle.parts.specs.Encoder.{ifZero}
 use Rattle.difference_rows.specs.Later.{laterDifferences, laterJumps}
+
+-- bytes put over others that begin at the same place and end where they end, or before
+put-over : (d : List ℕ) (at : ℕ) (xs ys : List ℕ) → length xs ≤ length ys → put (put d at xs) at ys ≡ put d at ys
+unfolding put
+put-over d at [] ys h = refl
+put-over d at (x ∷ xs) [] h = absurd (omega arith)
+put-over d at (x ∷ xs) (y ∷ ys) h =
+    rw (sym (put-comm (set d at x) at (y ∷ []) (suc at) xs (omega arith)), set-set d at x y)
+    (put-over (set d at y) (suc at) xs ys (omega arith))
 
 module _ (w : ℕ) (ls : List ℕ) (i : ℕ) where
   -- the positions from the one before index i on
@@ -49,31 +60,53 @@ module _ (w : ℕ) (ls : List ℕ) (i : ℕ) where
   pub differences-put : length ls ≤ i → (at : ℕ) (d : List ℕ) → put d at (bytesOf w (laterDifferences w (drop (i - 1) ls))) ≡ d
   differences-put h at d = rw (short-differences (drop (i - 1) ls) (one-left h)) (put-numbers-nil w d at)
 
-  short-jumps : (xs : List ℕ) → length xs ≤ 1 → laterJumps w xs ≡ []
+  -- a jump is a position after another
+  two-of-jump : (xs : List ℕ) → 1 ≤ length (laterJumps w xs) → 2 ≤ length xs
   unfolding laterJumps differencesFrom jumpsOf
-  short-jumps [] h = refl
-  short-jumps (p ∷ []) h = refl
-  short-jumps (p ∷ q ∷ xs) h = absurd (omega arith)
+  two-of-jump [] h = absurd (omega arith)
+  two-of-jump (p ∷ []) h = absurd (omega arith)
+  two-of-jump (p ∷ q ∷ xs) h = omega arith
 
-  pub jumps-put : length ls ≤ i → (at : ℕ) (d : List ℕ) → put d at (bytesOf 4 (laterJumps w (drop (i - 1) ls))) ≡ d
-  jumps-put h at d = rw (short-jumps (drop (i - 1) ls) (one-left h)) (put-numbers-nil 4 d at)
+  -- where a jump is left, a position is left
+  pub jump-left : 1 ≤ length (laterJumps w (drop (i - 1) ls)) → i < length ls
+  jump-left h =
+      let m = two-of-jump (drop (i - 1) ls) h in
+      let n = length-drop (i - 1) ls in
+      omega arith
 
-  -- the next position is a jump, or is none
-  jump-or-none : (d p : ℕ) (ds xs : List ℕ) → (d ≡ 0 → jumpsOf (d ∷ ds) (p ∷ xs) ≡ p ∷ jumpsOf ds xs) × ((d ≡ 0 → ⊥) → jumpsOf (d ∷ ds) (p ∷ xs) ≡ jumpsOf ds xs)
+  jump-or-none : (d p : ℕ) (ds xs : List ℕ) → jumpsOf (d ∷ ds) (p ∷ xs) ≡ ifZero d (p ∷ jumpsOf ds xs) (jumpsOf ds xs)
   unfolding jumpsOf
-  jump-or-none zero p ds xs = (λ h. refl, λ h. absurd (h refl))
-  jump-or-none (suc d) p ds xs = (λ h. absurd (omega arith), λ h. refl)
+  jump-or-none zero p ds xs = refl
+  jump-or-none (suc d) p ds xs = refl
 
-  module _ (h : 1 ≤ i) (k : i < length ls) {x : ℕ} (e : x ≡ difference w (getD ls (i - 1) 0) (getD ls i 0)) where
-    pub jump-turn : x ≡ 0 → laterJumps w (drop (i - 1) ls) ≡ getD ls i 0 ∷ laterJumps w (drop (i + 1 - 1) ls)
-    unfolding laterJumps differencesFrom
-    jump-turn z = rw (two-left h k, from-next h k, ← e) (jump-or-none x (getD ls i 0) _ (drop (i + 1) ls) .0 z)
+  jump-turn : 1 ≤ i → i < length ls → {x : ℕ} → x ≡ difference w (getD ls (i - 1) 0) (getD ls i 0)
+      → laterJumps w (drop (i - 1) ls) ≡ ifZero x (getD ls i 0 ∷ laterJumps w (drop (i + 1 - 1) ls)) (laterJumps w (drop (i + 1 - 1) ls))
+  unfolding laterJumps differencesFrom
+  jump-turn h k {x} e = rw (two-left h k, from-next h k, ← e) (jump-or-none x (getD ls i 0) _ (drop (i + 1) ls))
 
-    -- the next jump is put out
-    pub put-jump : x ≡ 0 → (at : ℕ) (d : List ℕ) {o : List ℕ} → o ≡ put d at (bytes 4 (getD ls i 0))
-        → put o (at + 4) (bytesOf 4 (laterJumps w (drop (i + 1 - 1) ls))) ≡ put d at (bytesOf 4 (laterJumps w (drop (i - 1) ls)))
-    put-jump z at d f = rw (f, jump-turn z) (sym (put-numbers-cons 4 d at (getD ls i 0) (laterJumps w (drop (i + 1 - 1) ls))))
+  -- the next position is put out where the next jump goes: the place moves on behind a jump, and stays where it is none
+  module _ (h : 1 ≤ i) (j : 1 ≤ length (laterJumps w (drop (i - 1) ls))) {x : ℕ} (e : x ≡ difference w (getD ls (i - 1) 0) (getD ls i 0)) {r : ℕ} (f : r ≡ ifZero x 1 0) where
+    pub place-next : (at : ℕ) → at + 4 * r + 4 * length (laterJumps w (drop (i + 1 - 1) ls)) ≡ at + 4 * length (laterJumps w (drop (i - 1) ls))
+    place-next at = go x f _ (jump-turn h (jump-left j) e)
+      where
+        go : (x : ℕ) → r ≡ ifZero x 1 0 → {js : List ℕ} (ks : List ℕ) → js ≡ ifZero x (getD ls i 0 ∷ ks) ks → at + 4 * r + 4 * length ks ≡ at + 4 * length js
+        go zero f {js} ks t = let n : length js ≡ suc (length ks) = ap length t in omega arith
+        go (suc x) f {js} ks t = let n : length js ≡ length ks = ap length t in omega arith
 
-    pub jump-none : (x ≡ 0 → ⊥) → laterJumps w (drop (i - 1) ls) ≡ laterJumps w (drop (i + 1 - 1) ls)
-    unfolding laterJumps differencesFrom
-    jump-none n = rw (two-left h k, from-next h k, ← e) (jump-or-none x (getD ls i 0) _ (drop (i + 1) ls) .1 n)
+    pub jump-next : (at : ℕ) (d : List ℕ) {o : List ℕ} → o ≡ put d at (bytes 4 (getD ls i 0))
+        → put o (at + 4 * r) (bytesOf 4 (laterJumps w (drop (i + 1 - 1) ls))) ≡ put d at (bytesOf 4 (laterJumps w (drop (i - 1) ls)))
+    jump-next at d {o} g = go x f _ j (jump-turn h (jump-left j) e)
+      where
+        go : (x : ℕ) → r ≡ ifZero x 1 0 → {js : List ℕ} (ks : List ℕ) → 1 ≤ length js → js ≡ ifZero x (getD ls i 0 ∷ ks) ks
+            → put o (at + 4 * r) (bytesOf 4 ks) ≡ put d at (bytesOf 4 js)
+        go zero f {js} ks j t = let n : at + 4 * r ≡ at + 4 = omega arith in rw (g, n, t) (sym (put-numbers-cons 4 d at (getD ls i 0) ks))
+        go (suc x) f {js} ks j t =
+            let n : at + 4 * r ≡ at = omega arith in
+            let u = length-bytes 4 (getD ls i 0) in
+            let v = length-bytesOf 4 js in
+            rw (g, n, ← t) (put-over d at (bytes 4 (getD ls i 0)) (bytesOf 4 js) (omega arith))
+
+-- no numbers are left to put out
+pub put-none : (w : ℕ) (d : List ℕ) (at : ℕ) (xs : List ℕ) → length xs ≡ 0 → put d at (bytesOf w xs) ≡ d
+put-none w d at [] h = put-numbers-nil w d at
+put-none w d at (x ∷ xs) h = absurd (omega arith)

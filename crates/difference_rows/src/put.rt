@@ -1,4 +1,5 @@
 // The differences and jumps of a batch of positions, put out.
+use differences::groups::zero;
 use parts::encode::limit;
 use stores::put_u8;
 use stores::put_u16;
@@ -59,20 +60,19 @@ pub fn put_differences(dst: &mut [u8], width: u32, at: usize, ps: &[u32])
     }
 }
 
-// The jumps among all positions but the first, from an offset on.
-pub fn put_jumps(dst: &mut [u8], width: u32, at: usize, ps: &[u32])
-    requires { ⌜ Rising 0 16777216 (now ps) × (at + 4 * length (laterJumps width (now ps)) ≤ length (now dst)) × (1 ≤ width) × (width ≤ 2) ⌝ }
+// The jumps among all positions but the first, `count` of them, from an offset on. Each position is put, and the next over it where it is no jump.
+pub fn put_jumps(dst: &mut [u8], width: u32, at: usize, ps: &[u32], count: usize)
+    requires { ⌜ Rising 0 16777216 (now ps) × (count ≡ length (laterJumps width (now ps))) × (at + 4 * count ≤ length (now dst)) × (1 ≤ width) × (width ≤ 2) ⌝ }
     ensures { λ _. ⌜ now (dst .exit) ≡ put (now (dst .entry)) at (bytesOf 4 (laterJumps width (now (ps .entry)))) ⌝ }
 {
+    let end = at + 4 * count;
     let mut place = at;
     let mut i: usize = 1;
-    while i < ps.len() {
+    while place < end {
         let p = ps[i];
         let d = stored_difference(width, ps[i - 1], p);
+        put_u32(dst, place, p);
+        place += 4 * (zero(d) as usize);
         i += 1;
-        if d == 0 {
-            put_u32(dst, place, p);
-            place += 4;
-        }
     }
 }

@@ -1,3 +1,4 @@
 pub mod Sums
 -- The walks.
 pub mod Walked
+pub mod JumpsAfter

@@ -1,8 +1,8 @@
 -- The steps of a search, one by one and all at once. Assumes nothing.
 use Prim.Native.Nat.{ℕ, zero, suc, _+_, _-_, _*_, _^_, _≤_, _<_}
-use mathlib.Core.Path.{_≡_, refl, sym, _∙_}
+use mathlib.Core.Path.{_≡_, refl, sym, ap, _∙_}
 use mathlib.Core.List.{List}
-use native.Mathlib.Nat.{add-zero, zero-add, add-suc, add-assoc}
+use native.Mathlib.Nat.{add-zero, add-suc, add-assoc}
 use native.Mathlib.Numerals.{add-one}
 use native.Mathlib.Omega.{arith}
 use lib.ListN.{length}
@@ -21,10 +21,6 @@ pub room : {w second n r : ℕ} (b : List ℕ) → 1 ≤ w → w ≤ 2 → secon
 room {w} {second} {n} {r} b narrow wide h m k =
     let i = entry-inside w n r k in
     record { narrow = narrow; wide = wide; inside = omega arith; rank = omega arith }
-
--- at rank 0, by the first jump
-abbrev pub origin : ℕ → List ℕ → Reached
-origin start b = record { position = whole 4 start b; taken = 1 }
 
 -- ---- from rank to rank
 
@@ -50,7 +46,7 @@ module _ (w start second : ℕ) (b : List ℕ) where
     walked-next k s e f = rw (f, e, add-one k)
 
     -- rank by rank is all at once
-    at-once : (n : ℕ) (s : Reached) → walked w start second b r n s ≡ atOnce w start second b r n s
+    pub at-once : (n : ℕ) (s : Reached) → walked w start second b r n s ≡ atOnce w start second b r n s
     unfolding walked stepped stepBy zeros behind atOnce
     at-once zero s = rw (add-zero (s .position), add-zero (s .taken))
     at-once (suc n) s =
@@ -64,25 +60,32 @@ module _ (w start second : ℕ) (b : List ℕ) where
 
     module _ (n : ℕ) (s : Reached) {z : ℕ} (e : z ≡ zeros w second b r n) where
       -- without a jump
-      pub by-sum : z ≡ 0 → {x : ℕ} → x ≡ total w second b r n
+      pub by-behind : z ≡ 0 → {x : ℕ} → x ≡ behind w second b r n
           → _≡_ {A = Reached} (record { position = s .position + x; taken = s .taken }) (walked w start second b r n s)
       unfolding atOnce
-      by-sum h f =
+      by-behind h f =
           let o : zeros w second b r n ≡ 0 = sym e ∙ h in
-          rw (at-once n s, o, f, behind-all w second b r n o, add-zero (s .taken))
+          rw (at-once n s, o, f, add-zero (s .taken))
+
+      pub by-sum : z ≡ 0 → {x : ℕ} → x ≡ total w second b r n
+          → _≡_ {A = Reached} (record { position = s .position + x; taken = s .taken }) (walked w start second b r n s)
+      by-sum h f = by-behind h (f ∙ sym (behind-all w second b r n (sym e ∙ h)))
 
       -- from the last jump on
-      pub by-last-jump : (z ≡ 0 → ⊥) → {j x : ℕ} → j ≡ whole 4 (start + 4 * (s .taken + z - 1)) b → x ≡ behind w second b r n
-          → _≡_ {A = Reached} (record { position = j + x; taken = s .taken + z }) (walked w start second b r n s)
+      pub by-last-jump : (z ≡ 0 → ⊥) → {x : ℕ} → x ≡ behind w second b r n → {t : Reached}
+          → t ≡ record { position = whole 4 (start + 4 * (s .taken + z - 1)) b + x; taken = s .taken + z } → t ≡ walked w start second b r n s
       unfolding atOnce
-      by-last-jump h f g = rw (at-once n s, f, g, ← e, ne-eqb z 0 h)
+      by-last-jump h g f = f ∙ rw (at-once n s, g, ← e, ne-eqb z 0 h)
 
   -- a walk from where another stopped
-  walked-on : (r m : ℕ) (s : Reached) → walked w start second b r m (walked w start second b 0 r s) ≡ walked w start second b 0 (r + m) s
+  walked-on : (q r m : ℕ) (s : Reached) → walked w start second b (q + r) m (walked w start second b q r s) ≡ walked w start second b q (r + m) s
   unfolding walked
-  walked-on r zero s = rw (add-zero r)
-  walked-on r (suc m) s = rw (walked-on r m s, add-suc r m, zero-add)
+  walked-on q r zero s = rw (add-zero r)
+  walked-on q r (suc m) s = rw (walked-on q r m s, add-suc r m) (ap (λ (k : ℕ). stepped w start second b k (walked w start second b q (r + m) s)) (omega arith))
 
-  pub walked-further : (r m : ℕ) (s : Reached) {t u : Reached} → t ≡ walked w start second b 0 r s → u ≡ walked w start second b r m t
-      → u ≡ walked w start second b 0 (r + m) s
-  walked-further r m s e f = f ∙ rw e (walked-on r m s)
+  pub walked-further : (q r m : ℕ) (s : Reached) {t u : Reached} → q ≤ r → t ≡ walked w start second b q (r - q) s → u ≡ walked w start second b r m t
+      → u ≡ walked w start second b q (r + m - q) s
+  walked-further q r m s h e f =
+      let k : q + (r - q) ≡ r = omega arith in
+      let n : r - q + m ≡ r + m - q = omega arith in
+      f ∙ rw e (rw (k, n) at (walked-on q (r - q) m s))

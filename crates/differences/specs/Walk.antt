@@ -5,6 +5,7 @@ use mathlib.Core.Bool.{Bool, true, not}
 use mathlib.Core.List.{List}
 use lib.ListN.{length}
 use lib.Dec.{eqb}
+use Rattle.format.specs.declared.View.{View}
 use Rattle.format.specs.Tools.{pick, both}
 use Rattle.format.specs.Bytes.{field}
 use Rattle.wire.specs.Wire.{whole}
@@ -12,9 +13,23 @@ use Rattle.parts.specs.Encoder.{ifZero}
 use Rattle.differences.specs.declared.walk.Reached.{Reached}
 use Rattle.differences.specs.declared.walk.Place.{Place}
 
+-- jumps of 4 bytes in the first part, and in front of the second part a difference of 1 or 2 bytes for each stored word
+pub record Laid (b : List ℕ) (v : View) : Type 0 where
+  pub narrow : 1 ≤ v .width
+  pub wide : v .width ≤ 2
+  pub firsts : v .firsts ≤ v .words
+  pub cells : v .cells ≤ 16777216
+  pub words : v .words ≤ v .cells
+  pub place : v .second ≡ v .start + 4 * v .firsts
+  pub inside : v .second + v .width * v .words ≤ length b
+
 -- by the difference d, l being the next jump
 unfoldable pub stepBy : ℕ → ℕ → Reached → Reached
 stepBy d l s = pick (eqb d 0) (record { position = l; taken = s .taken + 1 }) (record { position = s .position + d; taken = s .taken })
+
+-- at rank 0, by the first jump
+abbrev pub origin : ℕ → List ℕ → Reached
+origin start b = record { position = whole 4 start b; taken = 1 }
 
 -- to rank r: the jumps begin at `start`, the differences, of w bytes each, at `second`
 unfoldable pub stepped : ℕ → ℕ → ℕ → List ℕ → ℕ → Reached → Reached
@@ -66,10 +81,17 @@ pub record Room (w second : ℕ) (b : List ℕ) (r : ℕ) : Type 0 where
   pub inside : second + w * r + w ≤ length b
   pub rank : r < 2 ^ 32
 
--- a walk from rank 0 on, at most to rank n: past rank 0 only below the target, and to rank n where no position is as far as the target
-pub record Stopped (w start second : ℕ) (b : List ℕ) (n target : ℕ) (s : Reached) (t : Place) : Type 0 where
+-- a walk from a place on, at most to rank n: past the place only below the target, and to rank n where no position is as far as the target
+pub record Stopped (w start second : ℕ) (b : List ℕ) (from : Place) (n target : ℕ) (t : Place) : Type 0 where
+  pub least : from .rank ≤ t .rank
   pub most : t .rank ≤ n
-  pub there : t .reached ≡ walked w start second b 0 (t .rank) s
+  pub there : t .reached ≡ walked w start second b (from .rank) (t .rank - from .rank) (from .reached)
   pub within : Within (t .rank + 1) (t .reached)
-  pub below : 1 ≤ t .rank → t .reached .position < target
+  pub below : from .rank < t .rank → t .reached .position < target
   pub all : 2 ^ 50 ≤ target → t .rank ≡ n
+
+-- t is the rank of the m-th jump after rank r, where there is one up to rank `last`; rank r itself where m is 0
+pub record JumpAfter (w second : ℕ) (b : List ℕ) (r m last t : ℕ) : Type 0 where
+  pub least : r ≤ t
+  pub most : t ≤ last
+  pub found : (u : ℕ) → r ≤ u → u ≤ last → zeros w second b r (u - r) ≡ m → (r < u → field w (second + w * u) b ≡ 0) → t ≡ u

@@ -20,7 +20,7 @@ pub fn difference(file: &[u8], second: usize, i: usize, width: u32) -> u32
 }
 
 // 1 for 0, and 0 for any other number.
-fn zero(d: u32) -> u8
+pub fn zero(d: u32) -> u8
     ensures { λ r. ⌜ (r ≡ ifZero d 1 0) × (r ≤ 1) ⌝ }
 {
     if d == 0 { 1 } else { 0 }
@@ -65,6 +65,45 @@ pub fn zeros(file: &[u8], second: usize, width: u32, r: usize) -> usize
     zeros_u16(file, second, r) as usize
 }
 
+// How many of the n differences after rank r are 0, for fewer than a group, so that a byte counts them; for differences of one byte.
+fn few_zeros_u8(file: &[u8], second: usize, r: usize, n: usize) -> u8
+    requires { ⌜ Room 1 second (now file) (r + n) × (n < 128) ⌝ }
+    ensures { λ z. ⌜ z ≡ zeros 1 second (now (file .entry)) r n ⌝ }
+{
+    let mut count: u8 = 0;
+    let mut k: usize = 0;
+    while k < n {
+        k += 1;
+        count += zero(difference(file, second, r + k, 1));
+    }
+    count
+}
+
+// The same for differences of two bytes.
+fn few_zeros_u16(file: &[u8], second: usize, r: usize, n: usize) -> u16
+    requires { ⌜ Room 2 second (now file) (r + n) × (n < 128) ⌝ }
+    ensures { λ z. ⌜ z ≡ zeros 2 second (now (file .entry)) r n ⌝ }
+{
+    let mut count: u16 = 0;
+    let mut k: usize = 0;
+    while k < n {
+        k += 1;
+        count += zero(difference(file, second, r + k, 2)) as u16;
+    }
+    count
+}
+
+// How many of the n differences after rank r are 0, for fewer than a group.
+pub fn few_zeros(file: &[u8], second: usize, width: u32, r: usize, n: usize) -> usize
+    requires { ⌜ Room width second (now file) (r + n) × (n < 128) ⌝ }
+    ensures { λ z. ⌜ (z ≡ zeros width second (now (file .entry)) r n) × (z ≤ n) ⌝ }
+{
+    if width == 1 {
+        return few_zeros_u8(file, second, r, n) as usize;
+    }
+    few_zeros_u16(file, second, r, n) as usize
+}
+
 // The sum of the 128 differences after rank r.
 pub fn sum(file: &[u8], second: usize, width: u32, r: usize) -> u32
     requires { ⌜ Room width second (now file) (r + 128) ⌝ }
@@ -79,13 +118,13 @@ pub fn sum(file: &[u8], second: usize, width: u32, r: usize) -> u32
     x
 }
 
-// The sum of those behind the last 0, from the last rank backwards; of all where none is 0.
-pub fn sum_behind(file: &[u8], second: usize, width: u32, r: usize) -> u32
-    requires { ⌜ Room width second (now file) (r + 128) ⌝ }
-    ensures { λ x. ⌜ (x ≡ behind width second (now (file .entry)) r 128) × (x ≤ 65536 * 128) ⌝ }
+// The sum of those of the n differences after rank r that are behind the last 0, from the last rank backwards; of all where none is 0.
+pub fn sum_behind(file: &[u8], second: usize, width: u32, r: usize, n: usize) -> u32
+    requires { ⌜ Room width second (now file) (r + n) × (n ≤ 128) ⌝ }
+    ensures { λ x. ⌜ (x ≡ behind width second (now (file .entry)) r n) × (x ≤ 65536 * n) ⌝ }
 {
     let mut x: u32 = 0;
-    let mut k: usize = 128;
+    let mut k: usize = n;
     while 0 < k {
         let d = difference(file, second, r + k, width);
         if d == 0 {
@@ -99,7 +138,7 @@ pub fn sum_behind(file: &[u8], second: usize, width: u32, r: usize) -> u32
 
 // The ranks to take next where so many are left: a group, or what is left.
 pub fn next_group(left: usize) -> usize
-    ensures { λ n. ⌜ (n ≤ left) × (1 ≤ left → 1 ≤ n) ⌝ }
+    ensures { λ n. ⌜ (n ≤ left) × (1 ≤ left → 1 ≤ n) × (n ≤ 128) ⌝ }
 {
     if left < 128 {
         return left;

@@ -1,3 +1,4 @@
-// A row of differences and its jumps, as kind 4 has them (document 01, "The file"): one by one, in groups, and the walk of a search.
+// A row of differences and its jumps, as kinds 4 and 6 have them (document 01, "The file"): one by one, in groups, the jumps after a rank, and the walk of a search.
+pub mod after;
 pub mod groups;
 pub mod walk;

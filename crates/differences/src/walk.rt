@@ -1,12 +1,13 @@
 // A walk from rank to rank over any bytes, for a search. Ranks are taken in groups.
 use super::groups::difference;
+use super::groups::few_zeros;
 use super::groups::next_group;
 use super::groups::sum;
 use super::groups::sum_behind;
 use super::groups::zeros;
 use wire::load_u32;
 ghost use mathlib.Core.Path.{_≡_};
-ghost use Prim.Native.Nat.{ℕ, _+_, _^_};
+ghost use Prim.Native.Nat.{ℕ, _+_, _-_, _*_, _^_, _≤_};
 ghost use Rattle.wire.specs.Wire.{whole};
 ghost use Rattle.differences.specs.Walk.{stepped, walked, Within, Room, Stopped};
 
@@ -46,6 +47,19 @@ pub fn advance(file: &[u8], start: u32, second: usize, width: u32, r: usize, s: 
     }
 }
 
+// Past z jumps, on from the last of them by the sum behind it.
+fn past_jumps(file: &[u8], start: u32, s: Reached, z: usize, behind: u32) -> Reached
+    requires { ⌜ (1 ≤ z) × (z ≤ 128) × (s .taken ≤ 2 ^ 32) ⌝ }
+    ensures { λ t. ⌜ (t ≡ record { position = whole 4 (start + 4 * (s .taken + z - 1)) (now (file .entry)) + behind; taken = s .taken + z }) × ((m : ℕ) → s .taken + z ≤ m → behind ≤ 65536 * m → Within m t) ⌝ }
+{
+    let taken = s.taken + z;
+    let jump = load_u32(file, start as usize + 4 * (taken - 1)) as usize;
+    Reached {
+        position: jump + behind as usize,
+        taken,
+    }
+}
+
 // Over the 128 ranks after rank r at once: by the sum of their differences, or from the last jump among them by the sum behind it.
 pub fn take_group(
     file: &[u8],
@@ -65,15 +79,11 @@ pub fn take_group(
             taken: s.taken,
         };
     }
-    let taken = s.taken + z;
-    let jump = load_u32(file, start as usize + 4 * (taken - 1)) as usize;
-    Reached {
-        position: jump + sum_behind(file, second, width, r) as usize,
-        taken,
-    }
+    let behind = sum_behind(file, second, width, r, 128);
+    past_jumps(file, start, s, z, behind)
 }
 
-// From rank r to the n-th rank after it.
+// From rank r to the n-th rank after it, a group or fewer, at once.
 fn walk_group(
     file: &[u8],
     start: u32,
@@ -83,31 +93,38 @@ fn walk_group(
     n: usize,
     s: Reached,
 ) -> Reached
-    requires { ⌜ Room width second (now file) (r + n) × Within (r + 1) s ⌝ }
+    requires { ⌜ Room width second (now file) (r + n) × Within (r + 1) s × (n ≤ 128) ⌝ }
     ensures { λ t. ⌜ (t ≡ walked width start second (now (file .entry)) r n s) × Within (r + n + 1) t ⌝ }
 {
     if n == 128 {
         return take_group(file, start, second, width, r, s);
     }
-    let mut t = s;
-    let mut k: usize = 0;
-    while k < n {
-        k += 1;
-        t = advance(file, start, second, width, r + k, t);
+    let jumps = few_zeros(file, second, width, r, n);
+    let behind = sum_behind(file, second, width, r, n);
+    if jumps == 0 {
+        return Reached {
+            position: s.position + behind as usize,
+            taken: s.taken,
+        };
     }
-    t
+    past_jumps(file, start, s, jumps, behind)
 }
 
-// From rank 0 on to rank n, group by group, as long as the position stays below the target.
-pub fn walk(file: &[u8], start: u32, second: usize, width: u32, n: usize, target: usize) -> Place
-    requires { ⌜ Room width second (now file) n ⌝ }
-    ensures { λ t. ⌜ Stopped width start second (now (file .entry)) n target (record { position = whole 4 start (now (file .entry)); taken = 1 }) t ⌝ }
+// From a place on to rank n, group by group, as long as the position stays below the target.
+pub fn walk(
+    file: &[u8],
+    start: u32,
+    second: usize,
+    width: u32,
+    from: Place,
+    n: usize,
+    target: usize,
+) -> Place
+    requires { ⌜ Room width second (now file) n × (from .rank ≤ n) × Within (from .rank + 1) (from .reached) ⌝ }
+    ensures { λ t. ⌜ Stopped width start second (now (file .entry)) from n target t ⌝ }
 {
-    let mut t = Reached {
-        position: load_u32(file, start as usize) as usize,
-        taken: 1,
-    };
-    let mut r: usize = 0;
+    let mut t = from.reached;
+    let mut r = from.rank;
     while r < n {
         let m = next_group(n - r);
         let next = walk_group(file, start, second, width, r, m, t);

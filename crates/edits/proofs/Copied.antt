@@ -1,11 +1,10 @@
--- Bytes copied one after the other, and the words of a file after an edit as three stretches of bytes. Assumes nothing.
-use Prim.Native.Nat.{ℕ, suc, _+_, _-_, _*_, _≤_, _<_}
+-- The words of a file after an edit as three stretches of bytes. Assumes nothing.
+use Prim.Native.Nat.{ℕ, _+_, _-_, _*_, _≤_}
 use mathlib.Core.Path.{_≡_, refl, sym, ap, _∙_}
 use mathlib.Core.List.{List, [], _∷_, _++_, append-nil}
-use native.Mathlib.Nat.{sub-zero, add-zero}
 use native.Mathlib.Omega.{arith}
-use lib.ListN.{length, getD, set, take, drop, length-append, length-drop}
-use lib.Seq.{drop-cons, drop-drop, take-all, length-take-le}
+use lib.ListN.{length, take, drop, length-append, length-drop}
+use lib.Seq.{drop-drop, take-all, length-take-le}
 use Rattle.format.specs.Bytes.{bytes, bytesOf}
 use Rattle.laws.proofs.Bytes.{length-bytesOf, bytes-append}
 use Rattle.format.specs.declared.View.{View}
@@ -19,26 +18,6 @@ use Rattle.parts.specs.Holds.{ViewOf}
 use Rattle.parts.proofs.Seen.{Seen, seen}
 use Rattle.edits.specs.declared.Edit.{Edit}
 use Rattle.edits.specs.Edit.{overlaid, EditOf}
-
--- what is left to copy after i bytes
-abbrev pub Left : List ℕ → ℕ → List ℕ → ℕ → ℕ → ℕ → List ℕ
-Left d at s from n i = put d (at + i) (take (n - i) (drop (from + i) s))
-
-pub copy-start : (d s : List ℕ) (at from n : ℕ) → Left d at s from n 0 ≡ put d at (take n (drop from s))
-copy-start d s at from n = rw (add-zero at, add-zero from, sub-zero n)
-
-pub copy-turn : (d s : List ℕ) (at from n i : ℕ) → from + n ≤ length s → i < n
-    → Left (set d (at + i) (getD s (from + i) 0)) at s from n (i + 1) ≡ Left d at s from n i
-unfolding put
-copy-turn d s at from n i h k =
-    let m : n - i ≡ suc (n - (i + 1)) = omega arith in
-    let e : at + (i + 1) ≡ suc (at + i) = omega arith in
-    let f : from + (i + 1) ≡ suc (from + i) = omega arith in
-    rw (m, drop-cons s (from + i) 0 (omega arith), e, f)
-
-pub copy-end : (d s : List ℕ) (at from n i : ℕ) → n ≤ i → Left d at s from n i ≡ d
-unfolding put
-copy-end d s at from n i h = let z : n - i ≡ 0 = omega arith in rw z
 
 -- ---- one word, or none
 

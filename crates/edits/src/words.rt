@@ -1,29 +1,18 @@
 // The stored words after an edit, copied in bulk.
 use super::Edit;
 use format::View;
+use stores::copy::copy;
 use stores::put_u32;
 ghost use mathlib.Core.Path.{_≡_};
 ghost use mathlib.Core.List.{[], _∷_};
 ghost use Prim.Native.Nat.{_+_, _*_, _≤_};
-ghost use lib.ListN.{length, take, drop};
+ghost use lib.ListN.{length};
 ghost use Rattle.format.specs.Tools.{pick};
 ghost use Rattle.format.specs.Bytes.{bytesOf};
 ghost use Rattle.format.specs.Accepted.{keptOf};
 ghost use Rattle.stores.specs.Put.{put};
 ghost use Rattle.parts.specs.Holds.{ViewOf};
 ghost use Rattle.edits.specs.Edit.{overlaid, EditOf};
-
-// n bytes of src from `from` on, at `at`.
-pub fn copy(dst: &mut [u8], at: usize, src: &[u8], from: usize, n: usize)
-    requires { ⌜ (from + n ≤ length (now src)) × (at + n ≤ length (now dst)) ⌝ }
-    ensures { λ _. ⌜ now (dst .exit) ≡ put (now (dst .entry)) at (take n (drop from (now (src .entry)))) ⌝ }
-{
-    let mut i: usize = 0;
-    while i < n {
-        dst[at + i] = src[from + i];
-        i += 1;
-    }
-}
 
 // The new word at `at`, where there is one; the place after it.
 fn put_word(dst: &mut [u8], at: usize, there: bool, word: u32) -> usize

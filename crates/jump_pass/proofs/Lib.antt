@@ -1,3 +1,5 @@
 pub mod Pass
 pub mod Turns
+pub mod Below
 pub mod Groups
+pub mod Rows

@@ -23,7 +23,7 @@ pub record Follow (w bound before : ℕ) (js ds : List ℕ) : Type 0 where
   pub differences : differencesFrom w before (jumpedFrom before js ds) ≡ ds
   pub jumps : jumpsOf ds (jumpedFrom before js ds) ≡ js
 
-never : false ≡ true → ⊥
+pub never : false ≡ true → ⊥
 never e = let y : _≡_ {A = ℕ} 0 1 = cc in omega arith
 
 pub follow : (w bound before : ℕ) (js ds : List ℕ) → Below (256 ^ w) ds → passes w bound (before + 256 ^ w) js ds ≡ true → Follow w bound before js ds

@@ -13,8 +13,9 @@ use borrow.Author.Tests.{le-leb, lt-leb}
 use Rattle.format.specs.declared.View.{View}
 use Rattle.format.specs.Bytes.{field, numbersOf}
 use Rattle.laws.proofs.Numbers.{numbers-turn, numbers-end}
+use Rattle.differences.specs.Walk.{Laid}
 use Rattle.differences.proofs.Sums.{entry-inside}
-use Rattle.jump_pass.specs.Pass.{Laid, entriesFrom, passes, jumpsLeft, differencesLeft, passesFrom, passesOn, starts}
+use Rattle.jump_pass.specs.Pass.{entriesFrom, passes, jumpsLeft, differencesLeft, passesFrom, passesOn, starts}
 
 -- ---- entries by index
 

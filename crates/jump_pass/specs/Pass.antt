@@ -1,7 +1,7 @@
 -- Jumps and differences as one pass goes through them. Assumes nothing.
 use Prim.Native.Nat.{ℕ, zero, suc, _+_, _-_, _*_, _^_, _≤_, _<_}
 use mathlib.Core.Path.{_≡_}
-use mathlib.Core.Bool.{Bool, false}
+use mathlib.Core.Bool.{Bool, true, false}
 use mathlib.Core.List.{List, [], _∷_}
 use lib.ListN.{length, drop}
 use lib.Dec.{leb, ltb, eqb}
@@ -10,16 +10,6 @@ use Rattle.format.specs.Tools.{both, first}
 use Rattle.format.specs.Bytes.{field, numbersOf}
 use Rattle.parts.specs.Encoder.{ifZero}
 use Rattle.jump_pass.specs.declared.check.Passed.{Passed}
-
--- jumps of 4 bytes in the first part, and in front of the second part a difference of 1 or 2 bytes for each stored word
-pub record Laid (b : List ℕ) (v : View) : Type 0 where
-  pub narrow : 1 ≤ v .width
-  pub wide : v .width ≤ 2
-  pub firsts : v .firsts ≤ v .words
-  pub cells : v .cells ≤ 16777216
-  pub words : v .words ≤ v .cells
-  pub place : v .second ≡ v .start + 4 * v .firsts
-  pub inside : v .second + v .width * v .words ≤ length b
 
 -- the entries from the i-th on, of a part of n entries of w bytes each that begins at `at`
 unfoldable pub entriesFrom : ℕ → ℕ → ℕ → ℕ → List ℕ → List ℕ
@@ -63,12 +53,19 @@ pub record Readable (w second : ℕ) (b : List ℕ) (i end : ℕ) (s : Passed) :
   pub jumps : 4 * s .left ≤ second
   pub least : s .least ≤ 4295032832 + 65536 * i
 
--- it goes from s at rank i to t at rank `end`: however many ranks follow, the rest of the pass is right where t is right and what is left from t on is
+-- the jumps below rank i
+unfoldable pub jumpsBelow : ℕ → ℕ → List ℕ → ℕ → ℕ
+jumpsBelow w second b zero = 0
+jumpsBelow w second b (suc i) = jumpsBelow w second b i + ifZero (field w (second + w * i) b) 1 0
+
+-- it goes from s at rank i to t at rank `end`: however many ranks follow, the rest of the pass is right where t is right and what is left from t on is;
+-- and where t is right a jump is taken for each difference 0
 pub record Goes (w second : ℕ) (b : List ℕ) (i end : ℕ) (s t : Passed) : Type 0 where
   pub left : t .left ≤ s .left
   pub least : t .least ≤ 4295032832 + 65536 * end
   pub same : (words bound : ℕ) → end ≤ words
       → passesOn w second words bound b (s .least) (s .left) i ≡ both (t .right) (passesOn w second words bound b (t .least) (t .left) end)
+  pub jumps : t .right ≡ true → t .left + jumpsBelow w second b end ≡ s .left + jumpsBelow w second b i
 
 -- the sum of the differences of rank k and the next, or 0 where one of them is a jump
 unfoldable pub bothNear : ℕ → ℕ → List ℕ → ℕ → ℕ

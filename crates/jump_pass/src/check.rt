@@ -8,7 +8,8 @@ use wire::get_u32;
 ghost use mathlib.Core.Path.{_≡_};
 ghost use Prim.Native.Nat.{_+_, _*_, _^_, _≤_, _<_};
 ghost use lib.ListN.{length};
-ghost use Rattle.jump_pass.specs.Pass.{Laid, Readable, Goes, bothNear, passesFrom, starts};
+ghost use Rattle.differences.specs.Walk.{Laid};
+ghost use Rattle.jump_pass.specs.Pass.{Readable, Goes, bothNear, passesFrom, starts};
 
 // Rank 0 has the difference 0.
 pub fn starts_right(file: &[u8], v: View) -> bool
@@ -145,26 +146,53 @@ fn pass_group(
     pass_ranks(file, second, width, reach, i, end, s)
 }
 
-// One pass over the ranks, group by group: positions rise, and only the last is held against cells.
+// The same, group by group.
+pub fn pass_span(
+    file: &[u8],
+    second: usize,
+    width: u32,
+    reach: usize,
+    i: usize,
+    end: usize,
+    s: Passed,
+) -> Passed
+    requires { ⌜ Readable width second (now file) i end s × (reach ≡ 256 ^ width) ⌝ }
+    ensures { λ t. ⌜ Goes width second (now (file .entry)) i end s t ⌝ }
+{
+    let mut t = s;
+    t.right = true;
+    let mut k = i;
+    while k < end {
+        let next = k + next_group(end - k);
+        t = pass_group(file, second, width, reach, k, next, t);
+        if !t.right {
+            return t;
+        }
+        k = next;
+    }
+    t
+}
+
+// One pass over all ranks: positions rise, and only the last is held against cells.
 pub fn pass(file: &[u8], v: View, width: u32, reach: usize) -> bool
     requires { ⌜ Laid (now file) v × (width ≡ v .width) × (reach ≡ 256 ^ width) ⌝ }
     ensures { λ r. ⌜ r ≡ passesFrom v (now (file .entry)) 0 0 0 ⌝ }
 {
-    let n = v.words as usize;
-    let second = v.second as usize;
-    let mut s = Passed {
-        least: 0,
-        left: v.firsts as usize,
-        right: true,
-    };
-    let mut i: usize = 0;
-    while i < n {
-        let end = i + next_group(n - i);
-        s = pass_group(file, second, width, reach, i, end, s);
-        if !s.right {
-            return false;
-        }
-        i = end;
+    let s = pass_span(
+        file,
+        v.second as usize,
+        width,
+        reach,
+        0,
+        v.words as usize,
+        Passed {
+            least: 0,
+            left: v.firsts as usize,
+            right: true,
+        },
+    );
+    if !s.right {
+        return false;
     }
     if s.left != 0 {
         return false;

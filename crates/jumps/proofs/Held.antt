@@ -4,27 +4,17 @@ use mathlib.Core.Path.{_≡_}
 use mathlib.Core.Bool.{true}
 use mathlib.Core.List.{List}
 use native.Mathlib.Omega.{arith}
-use lib.ListN.{length}
 use lib.Dec.{leb}
 use borrow.Author.Tests.{leb-true, eqb-true}
 use Rattle.format.specs.declared.View.{View}
 use Rattle.format.specs.Tools.{Below, within}
 use Rattle.format.specs.Jumps.{differences, jumps, jumpParts, jumpsKind}
 use Rattle.laws.proofs.Tools.{both-true, within-true}
-use Rattle.laws.proofs.Stored.{Rising}
 use Rattle.laws.proofs.Bounds.{below-rising, below-widen, below-differences, below-jumpsOf}
 use Rattle.parts.specs.Holds.{Counted, Holds}
-use Rattle.parts.proofs.Entries.{Entries, all-entries}
-use Rattle.jump_pass.specs.Pass.{Laid}
-
--- the jumps and differences of the positions ls
-pub record Held (b : List ℕ) (v : View) (ls : List ℕ) : Type 0 where
-  pub laid : Laid b v
-  pub rising : Rising 0 (v .cells) ls
-  pub size : length ls ≡ v .words
-  pub count : length (jumps (v .width) ls) ≡ v .firsts
-  pub jumps : Entries b 4 (v .start) 0 (jumps (v .width) ls)
-  pub differences : Entries b (v .width) (v .second) 0 (differences (v .width) ls)
+use Rattle.parts.proofs.Entries.{all-entries}
+use Rattle.differences.specs.Walk.{Laid}
+use Rattle.jump_walk.specs.Held.{Held}
 
 pub widths : (w l : ℕ) → jumpsKind w l .allowed ≡ true → (1 ≤ w) × (w ≤ 2)
 unfolding jumpsKind

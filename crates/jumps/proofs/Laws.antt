@@ -6,33 +6,29 @@ use mathlib.Core.List.{List}
 use native.Mathlib.Nat.{zero-add}
 use native.Mathlib.Omega.{arith}
 use lib.ListN.{length}
-use lib.Dec.{eqb}
 use Rattle.format.specs.Bytes.{bytesOf}
 use Rattle.format.specs.Jumps.{differences, jumps, jumpParts, jumpsKind}
-use Rattle.laws.proofs.Tools.{cases}
 use Rattle.laws.proofs.Bytes.{length-bytesOf}
 use Rattle.parts.specs.declared.Encoder.{Encoder}
-use Rattle.wire.specs.Wire.{add32}
-use Rattle.parts.specs.Cursor.{movedTo, entryOf}
 use Rattle.parts.specs.Encoder.{begun, unchanged, endedBy, takenAllBy, sizesAs}
 use Rattle.parts.specs.Walks.{Walks}
 use Rattle.parts.specs.Codes.{sizesIn, Codes}
 use Rattle.parts.proofs.Outright.{outright}
 use Rattle.parts.proofs.Taking.{same-fit, rank-all, first-all, second-all}
-use Rattle.difference_rows.specs.Steps.{jumpFrom, jumpBy}
-use Rattle.jumps.specs.Steps.{next}
-use Rattle.jumps.specs.Coding.{jumpsCoder, coder}
+use Rattle.jump_walk.specs.Steps.{next}
+use Rattle.jump_walk.proofs.Walks.{next-rank, walk-held}
+use Rattle.jump_entries.specs.Coding.{jumpsCoder}
+use Rattle.jump_entries.proofs.Adds.{keeps}
+use Rattle.jump_entries.proofs.Taken.{seconds, firsts}
+use Rattle.jumps.specs.Coding.{coder}
 use Rattle.jumps.proofs.Held.{widths, held}
-use Rattle.jumps.proofs.Walks.{walk-held}
-use Rattle.jumps.proofs.Adds.{keeps}
-use Rattle.jumps.proofs.Taken.{seconds, firsts}
 
 -- ---- the cursor
 
 pub walks : Walks jumpsKind next
 walks =
     record {
-      rank = λ b v c. unfold next jumpBy jumpFrom movedTo in cases (eqb (entryOf b v (add32 (c .rank) 1)) 0) (λ e. rw e) (λ e. rw e);
+      rank = next-rank;
       walk = λ b v ls h. walk-held b v ls (held b v ls h);
     }
 

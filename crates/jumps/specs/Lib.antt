@@ -1,3 +1,1 @@
-pub mod Width
-pub mod Steps
 pub mod Coding

@@ -1,15 +1,16 @@
 // The searches: one pass from rank 0 on, over any bytes and any view.
 use differences::walk::NO_TARGET;
-use differences::walk::advance;
 use differences::walk::walk;
 use format::Position;
 use format::Rank;
 use format::View;
+use jump_walk::search::first_place;
+use jump_walk::search::seek_from;
 use parts::Found;
 ghost use Prim.Native.Nat.{_≤_, _<_};
 ghost use Rattle.format.specs.Jumps.{jumpsKind};
 ghost use Rattle.parts.specs.Found.{FoundIn, PositionIn};
-ghost use Rattle.jumps.specs.Width.{OfWidth};
+ghost use Rattle.jump_walk.specs.Width.{OfWidth};
 
 // The place of a position. The width is 1 or 2; on right parts it is the view's. A file too short for its counts has no right parts.
 fn seek(file: &[u8], v: View, width: u32, p: u32) -> Found
@@ -22,31 +23,13 @@ fn seek(file: &[u8], v: View, width: u32, p: u32) -> Found
             here: false,
         };
     }
-    let second = v.second as usize;
-    if file.len() < second + width as usize * v.words as usize {
+    if file.len() < v.second as usize + width as usize * v.words as usize {
         return Found {
             below: 0,
             here: false,
         };
     }
-    let target = p as usize;
-    let place = walk(file, v.start, second, width, v.words as usize - 1, target);
-    let mut s = place.reached;
-    let mut r = place.rank as u32;
-    while s.position < target {
-        r += 1;
-        if r == v.words {
-            return Found {
-                below: v.words,
-                here: false,
-            };
-        }
-        s = advance(file, v.start, second, width, r as usize, s);
-    }
-    Found {
-        below: r,
-        here: s.position == target,
-    }
+    seek_from(file, v, width, first_place(file, v.start), p)
 }
 
 // The position of a rank below the words, as above.
@@ -58,7 +41,15 @@ fn seek_position(file: &[u8], v: View, width: u32, rank: u32) -> u64
     if file.len() < second + width as usize * v.words as usize {
         return 0;
     }
-    let place = walk(file, v.start, second, width, rank as usize, NO_TARGET);
+    let place = walk(
+        file,
+        v.start,
+        second,
+        width,
+        first_place(file, v.start),
+        rank as usize,
+        NO_TARGET,
+    );
     place.reached.position as u64
 }
 

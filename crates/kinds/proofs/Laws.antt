@@ -30,7 +30,7 @@ use Rattle.run_pairs.specs.Coding.{runsCoder}
 use Rattle.positions.specs.Coding as positions-spec
 use Rattle.base_groups.specs.Coding as based-spec
 use Rattle.jumps.specs.Coding as jumps-spec
-use Rattle.jumps.specs.Coding.{jumpsCoder}
+use Rattle.jump_entries.specs.Coding.{jumpsCoder}
 use Rattle.kinds.specs.Coding.{noCoder, coderOf, coder, derived}
 use Rattle.kinds.proofs.None.{never}
 

@@ -13,7 +13,7 @@ use Rattle.parts.specs.Walks.{sought}
 use Rattle.run_walk.specs.Steps as runs
 use Rattle.positions.specs.Steps as positions
 use Rattle.base_groups.specs.Steps as based
-use Rattle.jumps.specs.Steps as jumps
+use Rattle.jump_walk.specs.Steps as jumps
 use Rattle.page_walk.specs.Steps as paged
 
 abbrev pub nextBy : ℕ → List ℕ → View → Cursor → Cursor

@@ -21,7 +21,7 @@ pub fn next(file: &[u8], v: View, c: Cursor) -> Cursor
         1 => runs::steps::next(file, v, c),
         2 => positions::steps::next(file, v, c),
         3 => base_offset::steps::next(file, v, c),
-        4 => jumps::steps::next(file, v, c),
+        4 => jump_walk::steps::next(file, v, c),
         5 => paged_runs::steps::next(file, v, c),
         _ => c,
     }
@@ -45,7 +45,7 @@ pub fn positions(file: &[u8], v: View, c: Cursor, out: &mut [u32]) -> Cursor
         1 => runs::steps::positions(file, v, c, out),
         2 => positions::steps::positions(file, v, c, out),
         3 => base_offset::steps::positions(file, v, c, out),
-        4 => jumps::steps::positions(file, v, c, out),
+        4 => jump_walk::steps::positions(file, v, c, out),
         5 => paged_runs::steps::positions(file, v, c, out),
         _ => c,
     }
@@ -63,7 +63,7 @@ pub fn seek(file: &[u8], v: View, c: Cursor, p: Position) -> Cursor
     requires { ⌜ (byWalk (v .kind) ≡ true) × Climbs (nextOf (now file) v) (v .words) c ⌝ }
     ensures { λ r. ⌜ r ≡ soughtBy (now (file .entry)) v (p .0) (v .words - c .rank) c ⌝ }
 {
-    jumps::steps::seek(file, v, c, p)
+    jump_walk::steps::seek(file, v, c, p)
 }
 
 // Whether a kind stores runs.

@@ -11,6 +11,7 @@ pub mod Taking
 pub mod Sounds
 pub mod Taken
 pub mod Outright
+pub mod Alike
 pub mod Added
 pub mod Grown
 pub mod Carried

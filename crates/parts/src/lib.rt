@@ -28,7 +28,7 @@ pub struct Cursor {
     // the rank where it stands, and the position of that rank
     pub rank: u32,
     pub at: u32,
-    // kinds 1, 3, 4 and 5: the index of the next run, base, jump, entry of level 0
+    // kinds 1, 3, 4 and 6, and 5: the index of the next run, base, jump, entry of level 0
     pub next: u32,
     // kinds 1 and 5: the last cell of the run
     pub last: u32,

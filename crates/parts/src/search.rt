@@ -1,7 +1,7 @@
 // A search among rising numbers of 4 bytes, in eighths: which of them it goes on in is counted, and not branched on. Any bytes are safe.
 use wire::get_u32;
 ghost use mathlib.Core.Path.{_≡_};
-ghost use Prim.Native.Nat.{_+_, _*_, _≤_};
+ghost use Prim.Native.Nat.{_+_, _*_, _^_, _≤_, _<_};
 ghost use lib.ListN.{length};
 ghost use lib.Dec.{leb};
 ghost use Rattle.format.specs.Tools.{pick};
@@ -29,11 +29,11 @@ fn at_most(file: &[u8], at: usize, stride: usize, n: usize, x: u32) -> usize
     count
 }
 
-// The index of the last of the n numbers of 4 bytes from `at` on that is at most x, where they rise; 0 where none is.
-pub fn last_at_most(file: &[u8], at: u32, n: u32, x: u32) -> u32
-    ensures { λ r. ⌜ LastAtMost (λ i. whole 4 (at + 4 * i) (now (file .entry))) n x r ⌝ }
+// The index of the last of the n numbers of 4 bytes from `start` on that is at most x, where they rise; 0 where none is.
+pub fn last_at_most(file: &[u8], start: usize, n: u32, x: u32) -> u32
+    requires { ⌜ start < 2 ^ 40 ⌝ }
+    ensures { λ r. ⌜ LastAtMost (λ i. whole 4 (start + 4 * i) (now (file .entry))) n x r ⌝ }
 {
-    let start = at as usize;
     if n == 0 {
         return 0;
     }

@@ -21,7 +21,7 @@ pub fn find(file: &[u8], v: View, p: Position) -> Found
             here: false,
         };
     }
-    let r = last_at_most(file, v.start, v.words, wanted);
+    let r = last_at_most(file, v.start as usize, v.words, wanted);
     let entry = load_u32(file, v.start as usize + 4 * (r as usize));
     if entry < wanted {
         return Found {

@@ -1,4 +1,6 @@
-// Numbers stored in bytes, lowest byte first, where there is room for them.
+// Numbers stored in bytes, lowest byte first, where there is room for them, and bytes copied.
+pub mod copy;
+
 ghost use mathlib.Core.Path.{_≡_};
 ghost use Prim.Native.Nat.{_+_, _≤_};
 ghost use lib.ListN.{length};

@@ -1,12 +1,12 @@
 // The setting of a file changed.
 use checked::check;
 use edits::Edit;
-use edits::words::copy;
 use format::Setting;
 use format::View;
 use format::signals::SMALL;
 use kinds::setting::setting_number;
 use recode::recoded;
+use stores::copy::copy;
 ghost use mathlib.Core.Path.{_≡_};
 ghost use Rattle.format.specs.Calls.{Changed};
 ghost use Rattle.writing.specs.Same.{Copied, sameSetting};

@@ -10,14 +10,14 @@ use Rattle.base_offset.proofs.search.find.Statement.{statement}
 use Rattle.base_offset.proofs.search.find.Tie as tie
 
 at-base : (c : tie.After-load-u32)
-    → let a = c .before .before .before .before .args in AtBase (a .file .now) (a .v) (a .p .0) (c .before .before .last-at-most .result) (c .load-u32 .result)
+    → let a = c .before .before .before .before .before .args in AtBase (a .file .now) (a .v) (a .p .0) (c .before .before .last-at-most .result) (c .load-u32 .result)
 at-base c = record { last = c .before .before .last-at-most .ensures; is = c .load-u32 .ensures .0 }
 
-started : (c : tie.Else2) → let a = c .before .before .before .before .before .before .before .before .args in c .before .before .before .before .before .before .last-at-most .result * a .v .step < a .v .words
+started : (c : tie.Else2) → let a = c .before .before .before .before .before .before .before .before .before .args in c .before .before .before .before .before .before .last-at-most .result * a .v .step < a .v .words
 started c = leb-false _ _ (c .if2 .left)
 
 at-group : (c : tie.After-last-offset)
-    → let a = c .before .before .before .before .before .before .before .before .before .before .before .before .before .args in
+    → let a = c .before .before .before .before .before .before .before .before .before .before .before .before .before .before .args in
     let u = c .before .before .before .before .before .before .before .before .before in
     AtGroup (a .file .now) (a .v) (a .p .0) (u .before .before .last-at-most .result) (u .load-u32 .result) (c .before .before .lesser .result) (c .last-offset .result)
 at-group c =
@@ -42,10 +42,10 @@ returns c =
 
 cast-n : tie.Need-cast-n
 cast-n c =
-    let v = c .before .before .before .before .before .before .before .before .before .before .before .args .v in
+    let v = c .before .before .before .before .before .before .before .before .before .before .before .before .args .v in
     let e = c .lesser .ensures in
     let m = min-le-left (v .step) (v .words - c .before .before .before .before .before .before .before .before .before .last-at-most .result * v .step) in
-    let k = c .before .before .struct-known4 .given in
+    let k = c .before .before .struct-known5 .given in
     omega arith
 
 returns-2 : tie.Need-returns-2
@@ -53,7 +53,7 @@ returns-2 c = find-no-group (at-base (c .before .before .before .before .before 
 
 last-offset-requires : tie.Need-last-offset-requires
 last-offset-requires c κs =
-    let v = c .before .before .before .before .before .before .before .before .before .before .before .before .args .v in
+    let v = c .before .before .before .before .before .before .before .before .before .before .before .before .before .args .v in
     let e = c .before .lesser .ensures in
     let m = min-le-right (v .step) (v .words - c .before .before .before .before .before .before .before .before .before .before .last-at-most .result * v .step) in
     let s = started (c .before .before .before .before) in
@@ -62,7 +62,7 @@ last-offset-requires c κs =
 add-r : tie.Need-add-r
 add-r c =
     let w = rank-within (at-group c) in
-    let k = c .before .before .before .struct-known5 .given in
+    let k = c .before .before .before .struct-known6 .given in
     omega arith
 
 returns-3 : tie.Need-returns-3
@@ -71,7 +71,7 @@ returns-3 c = find-here (at-group (c .before .before)) (sym (c .before .entry-of
 add-t20 : tie.Need-add-t20
 add-t20 c =
     let w = rank-within (at-group (c .before .before)) in
-    let k = c .before .before .before .before .before .struct-known5 .given in
+    let k = c .before .before .before .before .before .struct-known6 .given in
     omega arith
 
 returns-4 : tie.Need-returns-4
@@ -81,6 +81,7 @@ pub find-spec : {M : Type 1} → statement M
 find-spec =
     tie.close
     (tie.spec
+    (λ c. search needs)
     (λ c κs. search needs)
     (λ c. search needs)
     (λ c. search needs)
@@ -92,7 +93,7 @@ find-spec =
     mul-start
     (λ c. search needs)
     returns
-    (λ c. let s = started c in let k = c .before .struct-known3 .given in record { fits = omega arith })
+    (λ c. let s = started c in let k = c .before .struct-known4 .given in record { fits = omega arith })
     (λ c. search needs)
     (λ c. let s = started (c .before .before) in omega arith)
     (λ c. search needs)

@@ -1,4 +1,4 @@
--- The sum behind the last jump of a group. Assumes nothing.
+-- The sum behind the last jump of some ranks. Assumes nothing.
 use Prim.Native.Nat.{_+_, _*_, _≤_}
 use mathlib.Core.Path.{_≡_}
 use native.Mathlib.Nat.{add-zero}
@@ -11,15 +11,15 @@ use Rattle.differences.proofs.groups.sum_behind.Tie as tie
 
 -- those behind rank k are added
 abbrev Inv-loop : tie.InvT-loop
-Inv-loop file second width r x₀ k₀ x k = (k ≤ 128) × (x + 65536 * k ≤ 65536 * 128) × (behind width second file r k + x ≡ behind width second file r 128)
+Inv-loop file second width r n x₀ k₀ x k = (k ≤ n) × (x + 65536 * k ≤ 65536 * n) × (behind width second file r k + x ≡ behind width second file r n)
 
 abbrev μ-loop : tie.MeasureT-loop
-μ-loop file second width r x₀ k₀ x k = k
+μ-loop file second width r n x₀ k₀ x k = k
 
 -- the difference of rank k lies in the file
 room : (c : tie.In-loop Inv-loop μ-loop)
     → let a = c .before .before .before .args in Room (a .width) (a .second) (a .file .now) (a .r + c .before .loop .k)
-room c = earlier _ _ _ (c .before .before .before .pre) (omega arith)
+room c = earlier _ _ _ (c .before .before .before .pre .0) (omega arith)
 
 loop-holds : tie.Need-loop-holds Inv-loop μ-loop
 loop-holds c = (omega arith, omega arith, add-zero _)

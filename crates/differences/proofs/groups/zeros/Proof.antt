@@ -1,6 +1,5 @@
 -- The zeros of a group, at each width. Assumes nothing.
 use mathlib.Core.Path.{_≡_}
-use native.Mathlib.Omega.{arith}
 use Rattle.wire.proofs.Laws.{other-width}
 use Rattle.differences.proofs.Sums.{zeros-most}
 use borrow.Author.Needs.{needs}

@@ -3,6 +3,8 @@ use Prim.Native.Nat.{ℕ, _+_, _*_, _-_, _≤_, _<_}
 use native.Mathlib.Nat.{pos-of-ne-zero, le-refl}
 use native.Mathlib.Omega.{arith}
 use Rattle.differences.proofs.Sums.{entry-inside}
+use Rattle.jump_pass.proofs.Pass.{never}
+use Rattle.jump_pass.proofs.Below.{below-difference, below-jump}
 use Rattle.jump_pass.proofs.Turns.{none, reach-most, turn-difference, turn-none, turn-near, turn-jump}
 use borrow.Author.Needs.{needs}
 use Rattle.jump_pass.proofs.check.pass_rank.Statement.{statement}
@@ -34,11 +36,13 @@ returns c =
     let m = o .pre .0 .least in
     let d = c .before .difference .ensures in
     let d1 = d .1 in
+    let j = below-difference (a .width) (a .second) (a .file .now) (a .k) (d .0) (pos-of-ne-zero (c .if1 .taken)) in
     record {
       left = le-refl _;
       least = omega arith;
       same = λ words bound h.
           turn-difference (a .width) (a .second) words bound (a .file .now) (a .s .least) (a .s .left) (a .k) (omega arith) (d .0) (pos-of-ne-zero (c .if1 .taken));
+      jumps = λ x. omega arith;
     }
 
 returns-2 : tie.Need-returns-2
@@ -52,6 +56,7 @@ returns-2 c =
       same = λ words bound h.
           turn-none (a .width) (a .second) words bound (a .file .now) (a .s .least) (a .s .left) (a .k) (omega arith) (c .before .before .difference .ensures .0)
           (c .before .if1 .left) (none (c .if2 .taken));
+      jumps = λ x. absurd (never x);
     }
 
 mul-get-u32 : tie.Need-mul-get-u32
@@ -73,6 +78,7 @@ returns-3 c =
       same = λ words bound h.
           turn-near (a .width) (a .second) words bound (a .file .now) (a .s .least) (a .s .left) (a .k) (omega arith) (e .before .before .difference .ensures .0)
           (e .before .if1 .left) (pos-of-ne-zero (e .if2 .left)) (z .jumps) (c .before .get-u32 .ensures .0) (c .if3 .taken);
+      jumps = λ x. absurd (never x);
     }
 
 add-reach : tie.Need-add-t16
@@ -91,12 +97,15 @@ returns-4 c =
     let e = c .before .before in
     let r = c .before .get-u32 .ensures in
     let r1 = r .1 in
+    let h = pos-of-ne-zero (e .if2 .left) in
+    let j = below-jump (a .width) (a .second) (a .file .now) (a .k) (e .before .before .difference .ensures .0) (e .before .if1 .left) in
     record {
       left = omega arith;
       least = omega arith;
       same = λ words bound h.
           turn-jump (a .width) (a .second) words bound (a .file .now) (a .s .least) (a .s .left) (a .k) (omega arith) (e .before .before .difference .ensures .0)
           (e .before .if1 .left) (pos-of-ne-zero (e .if2 .left)) (z .jumps) (r .0) (o .pre .1) (c .if3 .left);
+      jumps = λ x. omega arith;
     }
 
 pub pass-rank-spec : {M : Type 1} → statement M

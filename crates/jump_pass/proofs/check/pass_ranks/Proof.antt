@@ -1,15 +1,13 @@
 -- A pass over some ranks: two at once, or one. Assumes nothing.
-use Prim.Native.Nat.{ℕ, _+_, _*_, _-_, _≤_, _<_}
+use Prim.Native.Nat.{_+_, _-_, _≤_}
 use mathlib.Core.Path.{_≡_, refl}
 use mathlib.Core.Bool.{true}
-use mathlib.Core.List.{List}
 use native.Mathlib.Nat.{pos-of-ne-zero, le-refl}
 use native.Mathlib.Omega.{arith}
 use borrow.Author.Tests.{not-true, not-false}
 use Rattle.differences.proofs.Sums.{entry-inside}
-use Rattle.jump_pass.specs.declared.check.Passed.{Passed}
 use Rattle.jump_pass.specs.Pass.{Goes}
-use Rattle.jump_pass.proofs.Groups.{goes-on, goes-wrong, goes-nowhere, goes-two, readable-part}
+use Rattle.jump_pass.proofs.Groups.{goes-on, goes-wrong, goes-nowhere, goes-two, goes-from, readable-part}
 use borrow.Author.Needs.{needs}
 use Rattle.jump_pass.proofs.check.pass_ranks.Statement.{statement}
 use Rattle.jump_pass.proofs.check.pass_ranks.Tie as tie
@@ -20,10 +18,6 @@ Inv-loop file second width reach i end t₀ k₀ t k = (i ≤ k) × (k ≤ end) 
 
 abbrev μ-loop : tie.MeasureT-loop
 μ-loop file second width reach i end t₀ k₀ t k = end - k
-
--- whether all was right before counts for nothing
-from : {w second i k : ℕ} {b : List ℕ} {s t : Passed} → Goes w second b i k (record { least = s .least; left = s .left; right = true }) t → Goes w second b i k s t
-from g = record { left = g .left; least = g .least; same = g .same }
 
 loop-holds : tie.Need-loop-holds Inv-loop μ-loop
 loop-holds c =
@@ -61,7 +55,7 @@ loop-again c =
       omega arith,
       omega arith,
       v .2,
-      rw (v .2) (goes-on (a .width) (a .second) (a .file .now) (a .i) (l .k) (l .k + 2) (v .3) (omega arith) (v .2)
+      rw (v .2) (goes-on (v .3) (omega arith) (v .2)
           (goes-two (a .width) (a .second) (a .file .now) (l .k) (l .t) (x .0) (pos-of-ne-zero (c .before .if1 .taken)) (x .1) (v .3 .least))),
     )
 
@@ -71,7 +65,7 @@ pass-rank-requires c κs =
     let a = o .args in
     let l = c .before .before .before .loop in
     let h = c .before .before .loop-test .taken in (
-      readable-part (a .width) (a .second) (a .file .now) (a .i) (a .end) (a .s) (o .pre .0) (l .k) (l .k + 1) (omega arith) (omega arith) (l .inv .3 .left)
+      readable-part (o .pre .0) (omega arith) (omega arith) (l .inv .3 .left)
           (l .inv .3 .least),
       o .pre .1,
     )
@@ -81,9 +75,9 @@ returns c =
     let a = c .before .before .before .before .before .before .before .before .args in
     let l = c .before .before .before .before .before .before .loop in
     let h = c .before .before .before .before .before .loop-test .taken in
-    from
-    (goes-on (a .width) (a .second) (a .file .now) (a .i) (l .k) (a .end) (l .inv .3) (l .inv .1) (l .inv .2)
-    (goes-wrong (a .width) (a .second) (a .file .now) (l .k) (l .k + 1) (a .end) (c .before .before .pass-rank .ensures) (omega arith)
+    goes-from
+    (goes-on (l .inv .3) (l .inv .1) (l .inv .2)
+    (goes-wrong (c .before .before .pass-rank .ensures) (omega arith)
     (not-true (c .before .before .pass-rank .result .right) (c .if2 .taken))))
 
 loop-again-2 : tie.Need-loop-again-2 Inv-loop μ-loop
@@ -96,7 +90,7 @@ loop-again-2 c =
       omega arith,
       omega arith,
       not-false (c .before .before .pass-rank .result .right) (c .if2 .left),
-      goes-on (a .width) (a .second) (a .file .now) (a .i) (l .k) (l .k + 1) (v .3) (omega arith) (v .2) (c .before .before .pass-rank .ensures),
+      goes-on (v .3) (omega arith) (v .2) (c .before .before .pass-rank .ensures),
     )
 
 pass-rank-requires-2 : tie.Need-pass-rank-requires-2 Inv-loop μ-loop
@@ -105,7 +99,7 @@ pass-rank-requires-2 c κs =
     let a = o .args in
     let l = c .before .before .loop in
     let h = c .if3 .taken in (
-      readable-part (a .width) (a .second) (a .file .now) (a .i) (a .end) (a .s) (o .pre .0) (l .k) (l .k + 1) (omega arith) (omega arith) (l .inv .3 .left)
+      readable-part (o .pre .0) (omega arith) (omega arith) (l .inv .3 .left)
           (l .inv .3 .least),
       o .pre .1,
     )
@@ -117,8 +111,8 @@ returns-2 c =
     let h = c .before .if3 .taken in
     let n = c .before .before .loop-test .left in
     let e : l .k + 1 ≡ a .end = omega arith in
-    from
-    (goes-on (a .width) (a .second) (a .file .now) (a .i) (l .k) (a .end) (l .inv .3) (l .inv .1) (l .inv .2) (rw e at (c .pass-rank2 .ensures)))
+    goes-from
+    (goes-on (l .inv .3) (l .inv .1) (l .inv .2) (rw e at (c .pass-rank2 .ensures)))
 
 returns-3 : tie.Need-returns-3 Inv-loop μ-loop
 returns-3 c =
@@ -127,7 +121,7 @@ returns-3 c =
     let n = c .if3 .left in
     let m = l .inv .1 in
     let e : l .k ≡ a .end = omega arith in
-    from (rw e at (l .inv .3))
+    goes-from (rw e at (l .inv .3))
 
 pub pass-ranks-spec : {M : Type 1} → statement M
 pass-ranks-spec =

@@ -1,5 +1,6 @@
 use mathlib.Core.Path.{refl}
-use Rattle.jumps.specs.Coding.{jumpsCoder, coder}
+use Rattle.jump_entries.specs.Coding.{jumpsCoder}
+use Rattle.jumps.specs.Coding.{coder}
 use borrow.Author.Needs.{needs}
 use Rattle.jumps.proofs.coding.sizes.Statement.{statement}
 use Rattle.jumps.proofs.coding.sizes.Tie as tie

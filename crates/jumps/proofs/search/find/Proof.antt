@@ -1,4 +1,4 @@
-use Rattle.jumps.proofs.Found.{of-width}
+use Rattle.jump_walk.proofs.Found.{of-width}
 use borrow.Author.Needs.{needs}
 use Rattle.jumps.proofs.search.find.Statement.{statement}
 use Rattle.jumps.proofs.search.find.Tie as tie

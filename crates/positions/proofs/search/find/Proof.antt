@@ -15,15 +15,15 @@ returns c =
     record { right = λ ls h. find-none (a .file .now) (a .v) ls h (a .p .0) _ (c .if1 .taken) refl refl; free = never-here refl }
 
 -- the search has found a rank
-found : (c : tie.After-load-u32) → c .before .before .last-at-most .result < c .before .before .before .before .before .before .args .v .words
+found : (c : tie.After-load-u32) → c .before .before .last-at-most .result < c .before .before .before .before .before .before .before .args .v .words
 found c = c .before .before .last-at-most .ensures .within (omega arith)
 
 add-t12 : tie.Need-add-t12
-add-t12 c = let f = found (c .before) in let k = c .before .before .before .before .before .struct-known .given in record { fits = omega arith }
+add-t12 c = let f = found (c .before) in let k = c .before .before .before .before .before .before .struct-known .given in record { fits = omega arith }
 
 returns-2 : tie.Need-returns-2
 returns-2 c =
-    let a = c .before .before .before .before .before .before .before .args in
+    let a = c .before .before .before .before .before .before .before .before .args in
     let e = c .before .load-u32 .ensures .0 in
     let m = c .before .before .before .last-at-most in
     record {
@@ -33,7 +33,7 @@ returns-2 c =
 
 returns-3 : tie.Need-returns-3
 returns-3 c =
-    let a = c .before .before .before .before .before .before .before .args in
+    let a = c .before .before .before .before .before .before .before .before .args in
     let e = c .before .load-u32 .ensures .0 in
     let m = c .before .before .before .last-at-most in
     let w = c .before .load-u32 .result in
@@ -54,6 +54,7 @@ find-spec =
     tie.close
     (tie.spec
     returns
+    (λ c. search needs)
     (λ c κs. search needs)
     (λ c. search needs)
     (λ c. search needs)

@@ -1,0 +1,4 @@
+pub mod Width
+pub mod Held
+pub mod Passed
+pub mod Steps
