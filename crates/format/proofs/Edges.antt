@@ -10,6 +10,7 @@ use Rattle.format.specs.Positions.{positionParts, positionsKind}
 use Rattle.format.specs.BaseOffset.{bases, offsets, offsetsFit, basedPositions, basedParts, basedKind}
 use Rattle.format.specs.Jumps.{difference, differencesFrom, differences, jumpsOf, jumps, jumpedFrom, jumpedPositions, jumpParts, jumpsKind}
 use Rattle.format.specs.PagedRuns.{sumsFrom, level, lastsFrom, lasts, levelsAbove, upperLevels, entriesAbove, upperEntries, pairsFrom, pairsOf, flatSpans, spansIn, pagedParts, pagesKind, walkFrom, through, levels, descent}
+use Rattle.format.specs.PointedJumps.{jumpRanksFrom, pointers, pointedParts, pointedKind}
 use Rattle.format.specs.Kinds.{codec, kindAllowed, settingAllowed}
 use Rattle.format.specs.File.{header, fileFrom, layout}
 use Rattle.format.specs.Accepted.{settingOf, dimensionsOf, emptyOf, wordsCount, firstCount, secondCount, firstOffset, secondOffset, wordsOffset, lengthField, secondAt, wordsAt, endAt, countsRight, positionsOf, keptOf, wordsOf, bodyRight, headerNumber, checkNumber}
@@ -20,5 +21,5 @@ use Rattle.format.specs.Sample.{Row}
 use Rattle.format.specs.Edges.{edges}
 
 pub edges-hold : map (λ (r : Row). r .given) edges ≡ map (λ (r : Row). r .said) edges
-unfolding listed range bytes number bytesOf field numbersOf product cells dimensionsAllowed insideExtents inside storedFrom stored kept placedFrom placed runAt runsFrom runs spansFrom spans positionsFrom flatRuns runsIn runParts runsKind runRankFrom runRank runPosition positionParts positionsKind bases offsets offsetsFit basedPositions basedParts basedKind difference differencesFrom differences jumpsOf jumps jumpedFrom jumpedPositions jumpParts jumpsKind sumsFrom level lastsFrom lasts levelsAbove upperLevels entriesAbove upperEntries pairsFrom pairsOf flatSpans spansIn pagedParts pagesKind walkFrom through levels descent codec kindAllowed settingAllowed header fileFrom layout settingOf dimensionsOf emptyOf wordsCount firstCount secondCount firstOffset secondOffset wordsOffset lengthField secondAt wordsAt endAt countsRight positionsOf keptOf wordsOf bodyRight headerNumber checkNumber outNumber settingNumber makeNumber writeSignal changeSignal writeNumber changeNumber expandNumber ordered boxAllowed boxFrom boxPositions boxWords boxNumber samePicture shorterNumber
+unfolding listed range bytes number bytesOf field numbersOf product cells dimensionsAllowed insideExtents inside storedFrom stored kept placedFrom placed runAt runsFrom runs spansFrom spans positionsFrom flatRuns runsIn runParts runsKind runRankFrom runRank runPosition positionParts positionsKind bases offsets offsetsFit basedPositions basedParts basedKind difference differencesFrom differences jumpsOf jumps jumpedFrom jumpedPositions jumpParts jumpsKind sumsFrom level lastsFrom lasts levelsAbove upperLevels entriesAbove upperEntries pairsFrom pairsOf flatSpans spansIn pagedParts pagesKind walkFrom through levels descent jumpRanksFrom pointers pointedParts pointedKind codec kindAllowed settingAllowed header fileFrom layout settingOf dimensionsOf emptyOf wordsCount firstCount secondCount firstOffset secondOffset wordsOffset lengthField secondAt wordsAt endAt countsRight positionsOf keptOf wordsOf bodyRight headerNumber checkNumber outNumber settingNumber makeNumber writeSignal changeSignal writeNumber changeNumber expandNumber ordered boxAllowed boxFrom boxPositions boxWords boxNumber samePicture shorterNumber
 edges-hold = refl

@@ -10,6 +10,7 @@ use Rattle.format.specs.Positions.{positionParts, positionsKind}
 use Rattle.format.specs.BaseOffset.{bases, offsets, offsetsFit, basedPositions, basedParts, basedKind}
 use Rattle.format.specs.Jumps.{difference, differencesFrom, differences, jumpsOf, jumps, jumpedFrom, jumpedPositions, jumpParts, jumpsKind}
 use Rattle.format.specs.PagedRuns.{sumsFrom, level, lastsFrom, lasts, levelsAbove, upperLevels, entriesAbove, upperEntries, pairsFrom, pairsOf, flatSpans, spansIn, pagedParts, pagesKind, walkFrom, through, levels, descent}
+use Rattle.format.specs.PointedJumps.{jumpRanksFrom, pointers, pointedParts, pointedKind}
 use Rattle.format.specs.Kinds.{codec, kindAllowed, settingAllowed}
 use Rattle.format.specs.File.{header, fileFrom, layout}
 use Rattle.format.specs.Accepted.{settingOf, dimensionsOf, emptyOf, wordsCount, firstCount, secondCount, firstOffset, secondOffset, wordsOffset, lengthField, secondAt, wordsAt, endAt, countsRight, positionsOf, keptOf, wordsOf, bodyRight, headerNumber, checkNumber}
@@ -20,5 +21,5 @@ use Rattle.format.specs.Lister.{digits, decimal, line, rankLines, fileLi
 use Rattle.format.specs.Sample.{Row, rows}
 
 pub rows-hold : map (λ (r : Row). r .given) rows ≡ map (λ (r : Row). r .said) rows
-unfolding listed range bytes number bytesOf field numbersOf product cells dimensionsAllowed storedFrom stored kept rankAt placedFrom placed runAt runsFrom runs spansFrom spans positionsFrom flatRuns runsIn runParts runsKind runRankFrom runRank runPosition positionParts positionsKind bases offsets offsetsFit basedPositions basedParts basedKind difference differencesFrom differences jumpsOf jumps jumpedFrom jumpedPositions jumpParts jumpsKind sumsFrom level lastsFrom lasts levelsAbove upperLevels entriesAbove upperEntries pairsFrom pairsOf flatSpans spansIn pagedParts pagesKind walkFrom through levels descent codec kindAllowed settingAllowed header fileFrom layout settingOf dimensionsOf emptyOf wordsCount firstCount secondCount firstOffset secondOffset wordsOffset lengthField secondAt wordsAt endAt countsRight positionsOf keptOf wordsOf bodyRight headerNumber checkNumber outNumber settingNumber makeNumber changeSignal changeNumber rankIn positionIn rankAnswer positionAnswer coordinatesNumber digits decimal line rankLines fileLines refusedLine listing
+unfolding listed range bytes number bytesOf field numbersOf product cells dimensionsAllowed storedFrom stored kept rankAt placedFrom placed runAt runsFrom runs spansFrom spans positionsFrom flatRuns runsIn runParts runsKind runRankFrom runRank runPosition positionParts positionsKind bases offsets offsetsFit basedPositions basedParts basedKind difference differencesFrom differences jumpsOf jumps jumpedFrom jumpedPositions jumpParts jumpsKind sumsFrom level lastsFrom lasts levelsAbove upperLevels entriesAbove upperEntries pairsFrom pairsOf flatSpans spansIn pagedParts pagesKind walkFrom through levels descent jumpRanksFrom pointers pointedParts pointedKind codec kindAllowed settingAllowed header fileFrom layout settingOf dimensionsOf emptyOf wordsCount firstCount secondCount firstOffset secondOffset wordsOffset lengthField secondAt wordsAt endAt countsRight positionsOf keptOf wordsOf bodyRight headerNumber checkNumber outNumber settingNumber makeNumber changeSignal changeNumber rankIn positionIn rankAnswer positionAnswer coordinatesNumber digits decimal line rankLines fileLines refusedLine listing
 rows-hold = refl

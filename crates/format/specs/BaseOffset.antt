@@ -4,13 +4,13 @@ use mathlib.Core.Bool.{Bool, not}
 use mathlib.Core.List.{List}
 use lib.ListN.{length, getD}
 use lib.Dec.{leb, eqb}
-use Rattle.format.specs.Tools.{listed, upTo, every, both, within}
+use Rattle.format.specs.Tools.{listed, upTo, everyNth, every, both, within}
 use Rattle.format.specs.Bytes.{bytesOf, numbersOf}
 use Rattle.format.specs.Codec.{Codec, Parts}
 
 -- the bases: L(0), L(l), L(2l) and so on
 unfoldable pub bases : ℕ → List ℕ → List ℕ
-bases l ls = listed (upTo (length ls) l) (λ j. getD ls (j * l) 0)
+bases l ls = everyNth l ls
 
 -- for each rank r, L(r) less the base at r div l
 unfoldable pub offsets : ℕ → List ℕ → List ℕ

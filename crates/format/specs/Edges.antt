@@ -19,7 +19,7 @@ abbrev boxed : List ℕ → List ℕ → ℕ
 boxed low high = boxNumber gridFile low high 12
 
 -- parts of c1 and c2 entries with these bytes
-abbrev parts : ℕ → List ℕ → ℕ → List ℕ → Parts
+abbrev pub parts : ℕ → List ℕ → ℕ → List ℕ → Parts
 parts c1 b1 c2 b2 = record { firstCount = c1; first = b1; secondCount = c2; second = b2 }
 
 -- what check gives of a file without words that has c1 and c2 entries, all 0, and all else in agreement; and that for each kind
@@ -28,7 +28,8 @@ wordless c1 c2 s = claimed s (parts c1 (replicate (codec s .firstBytes c1 c2) 0)
 
 abbrev wordlessEach : ℕ → ℕ → List ℕ
 wordlessEach c1 c2 =
-    wordless c1 c2 (setting 1 0 0) ∷ wordless c1 c2 (setting 2 0 0) ∷ wordless c1 c2 (setting 3 1 2) ∷ wordless c1 c2 (setting 4 1 0) ∷ wordless c1 c2 (setting 5 0 2) ∷ []
+    wordless c1 c2 (setting 1 0 0) ∷ wordless c1 c2 (setting 2 0 0) ∷ wordless c1 c2 (setting 3 1 2) ∷ wordless c1 c2 (setting 4 1 0) ∷ wordless c1 c2 (setting 5 0 2)
+    ∷ wordless c1 c2 (setting 6 1 2) ∷ []
 
 -- the same in kind 1, of v pairs, with four words; in kind 4, of jumps and differences, with a word for each difference; in kind 5, of the runs of
 -- positions, with n words
@@ -46,7 +47,7 @@ abbrev alone : List ℕ
 alone = 0 ∷ 2 ∷ 4 ∷ []
 
 -- what a change of the file of M2 gives, with room enough
-abbrev changed : ℕ → ℕ → ℕ → ℕ
+abbrev pub changed : ℕ → ℕ → ℕ → ℕ
 changed k w l = changeNumber (file 2 0 0) (setting k w l) 1000
 
 -- what make gives of n words for an extent of e
@@ -67,9 +68,9 @@ edges =
     -- a false offset of the first part, and of the words
     ∷ M 0 (damaged 36 51 ∷ damaged 36 53 ∷ damaged 44 67 ∷ damaged 44 69 ∷ []) (5 ∷ 5 ∷ 5 ∷ 5 ∷ [])
     -- in each kind, for no words: no entries; one in the first part; one in the second
-    ∷ M 0 (wordlessEach 0 0) (0 ∷ 0 ∷ 0 ∷ 0 ∷ 0 ∷ [])
-    ∷ M 0 (wordlessEach 1 0) (5 ∷ 5 ∷ 5 ∷ 5 ∷ 5 ∷ [])
-    ∷ M 0 (wordlessEach 0 1) (5 ∷ 5 ∷ 5 ∷ 5 ∷ 5 ∷ [])
+    ∷ M 0 (wordlessEach 0 0) (0 ∷ 0 ∷ 0 ∷ 0 ∷ 0 ∷ 0 ∷ [])
+    ∷ M 0 (wordlessEach 1 0) (5 ∷ 5 ∷ 5 ∷ 5 ∷ 5 ∷ 5 ∷ [])
+    ∷ M 0 (wordlessEach 0 1) (5 ∷ 5 ∷ 5 ∷ 5 ∷ 5 ∷ 5 ∷ [])
     -- three runs for two words, and for three: that hold four cells, and three
     ∷ M 0 (claimedRuns sampleL 2 ∷ claimedRuns sampleL 3 ∷ claimedRuns alone 3 ∷ []) (5 ∷ 6 ∷ 0 ∷ [])
     ∷ M 0 (claimedPages sampleL 2 ∷ claimedPages sampleL 3 ∷ claimedPages alone 3 ∷ []) (5 ∷ 6 ∷ 0 ∷ [])
@@ -80,8 +81,8 @@ edges =
     -- two jumps for one word, and for two, where the difference fits; one jump and none for one word
     ∷ M 0 (claimedJumps (5 ∷ 7 ∷ []) (0 ∷ []) ∷ claimedJumps (5 ∷ 7 ∷ []) (0 ∷ 0 ∷ []) ∷ []) (5 ∷ 6 ∷ [])
     ∷ M 0 (claimedJumps (5 ∷ []) (0 ∷ []) ∷ claimedJumps [] (0 ∷ []) ∷ []) (0 ∷ 6 ∷ [])
-    -- the kinds are 1 to 5
-    ∷ M 0 (changed 0 0 0 ∷ changed 6 0 0 ∷ changed 257 0 0 ∷ []) (2 ∷ 2 ∷ 2 ∷ [])
+    -- the kinds are 1 to 6
+    ∷ M 0 (changed 0 0 0 ∷ changed 7 0 0 ∷ changed 257 0 0 ∷ []) (2 ∷ 2 ∷ 2 ∷ [])
     -- kinds 1 and 2: width and step 0
     ∷ M 0 (changed 1 1 0 ∷ changed 1 0 1 ∷ changed 2 1 0 ∷ changed 2 0 1 ∷ []) (3 ∷ 3 ∷ 3 ∷ 3 ∷ [])
     -- kind 3: width 1 or 2, step 1 to 255

@@ -1,4 +1,4 @@
--- The five header kinds by number (document 01, "The file"), and the rule of a setting. Assumes nothing.
+-- The six header kinds by number (document 01, "The file"; document 02, S-7), and the rule of a setting. Assumes nothing.
 use Prim.Native.Nat.{ℕ, zero, suc}
 use mathlib.Core.Bool.{Bool}
 use Rattle.format.specs.declared.Setting.{Setting}
@@ -9,8 +9,9 @@ use Rattle.format.specs.Positions.{positionsKind}
 use Rattle.format.specs.BaseOffset.{basedKind}
 use Rattle.format.specs.Jumps.{jumpsKind}
 use Rattle.format.specs.PagedRuns.{pagesKind}
+use Rattle.format.specs.PointedJumps.{pointedKind}
 
--- the kind with a number, at a width and a step: no kind for 0, then kinds 1 to 5, and no kind above
+-- the kind with a number, at a width and a step: no kind for 0, then kinds 1 to 6, and no kind above
 abbrev pub codecOf : ℕ → ℕ → ℕ → Codec
 codecOf zero w l = noCodec
 codecOf (suc zero) w l = runsKind w l
@@ -18,14 +19,15 @@ codecOf (suc (suc zero)) w l = positionsKind w l
 codecOf (suc (suc (suc zero))) w l = basedKind w l
 codecOf (suc (suc (suc (suc zero)))) w l = jumpsKind w l
 codecOf (suc (suc (suc (suc (suc zero))))) w l = pagesKind w l
-codecOf (suc (suc (suc (suc (suc (suc k)))))) w l = noCodec
+codecOf (suc (suc (suc (suc (suc (suc zero)))))) w l = pointedKind w l
+codecOf (suc (suc (suc (suc (suc (suc (suc k))))))) w l = noCodec
 
 unfoldable pub codec : Setting → Codec
 codec s = codecOf (s .kind) (s .width) (s .step)
 
--- the kinds are 1 to 5
+-- the kinds are 1 to 6
 abbrev pub lastKind : ℕ
-lastKind = 5
+lastKind = 6
 
 unfoldable pub kindAllowed : Setting → Bool
 kindAllowed s = within 1 lastKind (s .kind)

@@ -1,4 +1,4 @@
--- Document 01 as definitions, in its order.
+-- Document 01 as definitions, in its order, and the requests of document 02 where they belong.
 pub mod Tools
 pub mod Signals
 pub mod Answers
@@ -11,6 +11,7 @@ pub mod Positions
 pub mod BaseOffset
 pub mod Jumps
 pub mod PagedRuns
+pub mod PointedJumps
 pub mod Kinds
 pub mod File
 pub mod Accepted
@@ -27,3 +28,4 @@ pub mod Sample
 pub mod Lister
 pub mod Examples
 pub mod Edges
+pub mod Requests

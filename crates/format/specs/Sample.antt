@@ -33,9 +33,9 @@ sampleL = stored 0 sample
 abbrev pub file : ℕ → ℕ → ℕ → List ℕ
 file k w l = layout (setting k w l) (row 12) 0 sample
 
--- something of its files in the five kinds
+-- something of its files in the six kinds
 abbrev pub inEach : (List ℕ → List ℕ) → List ℕ
-inEach f = f (file 1 0 0) ++ f (file 2 0 0) ++ f (file 3 1 2) ++ f (file 4 1 0) ++ f (file 5 0 2)
+inEach f = f (file 1 0 0) ++ f (file 2 0 0) ++ f (file 3 1 2) ++ f (file 4 1 0) ++ f (file 5 0 2) ++ f (file 6 1 2)
 
 -- 300 cells, stored at 2 and q only
 abbrev pub pair : ℕ → List ℕ
@@ -52,7 +52,7 @@ byRuns ls p = shown (runRank (runs ls) p) ++ shown (rankAtPlace (descent allCell
 abbrev pub byRunsBack : List ℕ → ℕ → List ℕ
 byRunsBack ls r = shown (runPosition (runs ls) r) ++ shown (positionAtPlace (descent storedCells 2 (spans (runs ls)) r))
 
--- a row: the number of the case (3 for M3, 0 for what has no number), what the definitions give, and what document 01 says
+-- a row: the number of the case (3 for M3, 0 for what has no number), what the definitions give, and what the document says
 pub record Row : Type 0 where
   pub case : ℕ
   pub given : List ℕ

@@ -10,13 +10,13 @@ use native.Mathlib.Omega.{arith}
 use lib.ListN.{length, getD, length-append}
 use lib.Dec.{eqb, leb}
 use borrow.Author.Tests.{eqb-true, leb-true, leb-false}
-use Rattle.format.specs.Tools.{Below, listed, upTo, every}
+use Rattle.format.specs.Tools.{Below, listed, upTo, everyNth, every}
 use Rattle.format.specs.Runs.{Run, Span, runAt, runsFrom, runs, spansFrom, spans, flatRuns}
 use Rattle.format.specs.PagedRuns.{flatSpans, plus, none, sumsFrom, level, lastsFrom, lasts, levelsAbove, upperLevels, entriesAbove, upperEntries}
 use Rattle.format.specs.BaseOffset.{bases, offsets, offsetsFit}
 use Rattle.format.specs.Jumps.{difference, differencesFrom, differences, jumpsOf}
 use Rattle.laws.proofs.Stored.{Rising}
-use Rattle.laws.proofs.Tools.{cases, both-true}
+use Rattle.laws.proofs.Tools.{cases, both-true, length-listed, getD-listed}
 
 -- ---- bounds of lists
 
@@ -55,15 +55,7 @@ below-every w (x ∷ xs) h =
     let t = both-true (leb x (256 ^ w - 1)) (every (λ o. leb o (256 ^ w - 1)) xs) h in
     (at-most w x (leb-true x (256 ^ w - 1) (t .0)), below-every w xs (t .1))
 
--- ---- kind 3
-
-pub below-bases : (l B : ℕ) (ls : List ℕ) → 0 < B → Below B ls → Below B (bases l ls)
-unfolding bases
-below-bases l B ls h r = below-listed B (upTo (length ls) l) (λ j. getD ls (j * l) 0) (λ j. below-getD B ls (j * l) h r)
-
-pub below-offsets : (w l : ℕ) (ls : List ℕ) → offsetsFit w l ls ≡ true → Below (256 ^ w) (offsets l ls)
-unfolding offsetsFit
-below-offsets w l ls h = below-every w (offsets l ls) h
+-- ---- the elements 0, n, 2n and so on
 
 pub upTo-le : (n l : ℕ) → 1 ≤ l → upTo n l ≤ n
 upTo-le n l h = le-of-suc-le-suc (div-lt-iff-lt-mul h .1 (rw suc-mul (omega (arith, mul-le-mul (le-refl n) h, mul-one n))))
@@ -74,6 +66,25 @@ index-inside l n j h k = let e = suc-mul j l in let z : suc j * l ≤ n + (l - 1
 
 pub inside-index : (l n j : ℕ) → 1 ≤ l → j * l < n → j < upTo n l
 inside-index l n j h k = le-div-iff-mul-le h .1 (rw suc-mul (omega arith))
+
+pub length-everyNth : (n : ℕ) (xs : List ℕ) → length (everyNth n xs) ≡ upTo (length xs) n
+length-everyNth n xs = length-listed (upTo (length xs) n) _
+
+pub getD-everyNth : (n k : ℕ) (xs : List ℕ) → 1 ≤ n → k * n < length xs → getD (everyNth n xs) k 0 ≡ getD xs (k * n) 0
+getD-everyNth n k xs h i = getD-listed (upTo (length xs) n) _ k (inside-index n (length xs) k h i)
+
+pub below-everyNth : (n B : ℕ) (xs : List ℕ) → 0 < B → Below B xs → Below B (everyNth n xs)
+below-everyNth n B xs h r = below-listed B (upTo (length xs) n) (λ k. getD xs (k * n) 0) (λ k. below-getD B xs (k * n) h r)
+
+-- ---- kind 3
+
+pub below-bases : (l B : ℕ) (ls : List ℕ) → 0 < B → Below B ls → Below B (bases l ls)
+unfolding bases
+below-bases l B ls h r = below-everyNth l B ls h r
+
+pub below-offsets : (w l : ℕ) (ls : List ℕ) → offsetsFit w l ls ≡ true → Below (256 ^ w) (offsets l ls)
+unfolding offsetsFit
+below-offsets w l ls h = below-every w (offsets l ls) h
 
 -- ---- kind 4
 

@@ -3,23 +3,22 @@ use Prim.Native.Nat.{ℕ, zero, suc, _-_, _*_, _^_, _≤_, _<_}
 use mathlib.Core.Path.{_≡_, refl}
 use mathlib.Core.Logic.{_↔_, _⊎_, inl, inr, ⊎-elim}
 use mathlib.Core.List.{List, [], _∷_}
-use native.Mathlib.Nat.{suc-mul, le-div-iff-mul-le}
 use native.Mathlib.Omega.{arith}
 use lib.ListN.{length, getD}
 use lib.Dec.{leb}
 use borrow.Author.Tests.{leb-true, leb-false, le-leb}
-use Rattle.format.specs.Tools.{upTo}
 use Rattle.format.specs.BaseOffset.{bases}
 use Rattle.format.specs.Jumps.{difference, differencesFrom, differences}
 use Rattle.laws.proofs.Stored.{Rising}
-use Rattle.laws.proofs.Tools.{cases, getD-listed}
+use Rattle.laws.proofs.Tools.{cases}
+use Rattle.laws.proofs.Bounds.{getD-everyNth}
 
 -- ---- kind 3
 
 -- a base stands every l ranks
 pub base-every : (l j : ℕ) (ls : List ℕ) → 1 ≤ l → j * l < length ls → getD (bases l ls) j 0 ≡ getD ls (j * l) 0
 unfolding bases
-base-every l j ls p h = getD-listed (upTo (length ls) l) _ j (le-div-iff-mul-le p .1 (rw suc-mul (omega arith)))
+base-every l j ls p h = getD-everyNth l j ls p h
 
 -- ---- kind 4
 
@@ -41,7 +40,7 @@ difference-first w [] = refl
 difference-first w (l ∷ ls) = refl
 
 -- a rising list rises at each step
-rising-next : (a B r : ℕ) (ls : List ℕ) → Rising a B ls → suc r < length ls → getD ls r 0 < getD ls (suc r) 0
+pub rising-next : (a B r : ℕ) (ls : List ℕ) → Rising a B ls → suc r < length ls → getD ls r 0 < getD ls (suc r) 0
 rising-next a B r [] o h = absurd (omega arith)
 rising-next a B r (l ∷ []) o h = absurd (omega arith)
 rising-next a B zero (l ∷ m ∷ ls) o h = o .2 .0

@@ -8,6 +8,7 @@ pub mod Stored
 pub mod Positions
 pub mod Settings
 pub mod Bounds
+pub mod Pointers
 pub mod Parts
 pub mod Stretches
 pub mod Entries

@@ -1,11 +1,11 @@
 -- The parts of each kind: the positions come back, and sizes and counts are those that the layout gives. Assumes nothing.
-use Prim.Native.Nat.{ℕ, _+_, _-_, _*_, _^_, _≤_}
-use mathlib.Core.Path.{_≡_, refl, _∙_, subst}
+use Prim.Native.Nat.{ℕ, _+_, _*_, _^_, _≤_}
+use mathlib.Core.Path.{_≡_, refl, sym, ap, _∙_, subst}
 use mathlib.Core.Bool.{true, false}
-use mathlib.Core.List.{List, _++_}
+use mathlib.Core.List.{List, _++_, append-assoc}
 use native.Mathlib.Nat.{le-refl, mul-le-mul}
 use native.Mathlib.Omega.{arith}
-use lib.ListN.{length}
+use lib.ListN.{length, length-append}
 use borrow.Author.Tests.{eq-eqb, le-leb}
 use Rattle.format.specs.Tools.{Below, upTo}
 use Rattle.format.specs.Bytes.{bytesOf, numbersOf}
@@ -13,15 +13,17 @@ use Rattle.format.specs.Runs.{runs, spans, flatRuns, runParts, runsKind}
 use Rattle.format.specs.PagedRuns.{flatSpans, level, upperLevels, upperEntries, pagedParts, pagesKind}
 use Rattle.format.specs.BaseOffset.{bases, offsets, offsetsFit, basedParts, basedKind}
 use Rattle.format.specs.Jumps.{differences, jumps, jumpParts, jumpsKind}
+use Rattle.format.specs.PointedJumps.{pointers, pointedParts, pointedKind}
 use Rattle.format.specs.Positions.{positionParts, positionsKind}
 use Rattle.format.specs.Codec.{Codec}
 use Rattle.format.specs.declared.Setting.{Setting}
 use Rattle.format.specs.Kinds.{codec, settingAllowed}
 use Rattle.laws.proofs.Stored.{Rising, rising-length}
 use Rattle.laws.proofs.Tools.{not-false}
-use Rattle.laws.proofs.Bytes.{length-bytesOf, numbersOf-bytesOf, below-bytesOf}
+use Rattle.laws.proofs.Bytes.{length-bytesOf, numbersOf-bytesOf, below-append, below-bytesOf}
 use Rattle.laws.proofs.Positions.{based-back, length-bases, length-offsets, jumps-back, runs-back, pairs-back, runs-in-flat, spans-in-flat, length-flatRuns, length-flatSpans}
 use Rattle.laws.proofs.Bounds.{below-rising, below-widen, below-bases, below-offsets, upTo-le, length-differences, below-differences, below-jumpsOf, length-jumpsOf, below-runs, length-runs, length-level, length-upperLevels, upperEntries-le, below-level, length-spans}
+use Rattle.laws.proofs.Pointers.{length-jumps, length-pointers}
 use Rattle.laws.proofs.Settings.{by-kind}
 
 -- what is known of the parts of the stored positions ls of n cells in a kind
@@ -160,6 +162,33 @@ module _ (B : ℕ) (ls : List ℕ) (small : B ≤ 16777216) (r : Rising 0 B ls) 
         second-small = below-bytesOf 4 (flatSpans (level b xs));
       }
 
+  pointed-known : (w n : ℕ) → w ≤ 2 → 1 ≤ n → Known (pointedKind w n) B ls
+  unfolding pointedKind pointedParts jumpsKind jumpParts jumps
+  pointed-known w n hw hn =
+      let k = jump-known w hw in
+      let ds = differences w ls in
+      let ps = bytesOf 4 (pointers n ds) in
+      let c : length (pointers n ds) ≡ upTo (length (jumps w ls)) n = length-pointers n ds ∙ ap (λ (j : ℕ). upTo j n) (sym (length-jumps w ls)) in
+      let t4 : length ps ≡ 4 * upTo (length (jumps w ls)) n = length-bytesOf 4 (pointers n ds) ∙ ap (λ (j : ℕ). 4 * j) c in
+      let t : length (bytesOf w ds) ≡ w * length ls = k .second-size in
+      let a : length (bytesOf w ds ++ ps) ≡ length (bytesOf w ds) + length ps = length-append (bytesOf w ds) ps in
+      let t2 : w * length ls ≤ 2 * length ls = mul-le-mul hw (le-refl (length ls)) in
+      let m : length (jumps w ls) ≤ length ls = length-jumpsOf ds ls in
+      let m1 = upTo-le (length (jumps w ls)) n hn in
+      let m0 = few in
+      record {
+        back = λ more more′. rw (append-assoc (bytesOf w ds) ps more′) (k .back more (ps ++ more′));
+        first-size = k .first-size;
+        second-size = omega arith;
+        allowed = k .allowed;
+        first-most = k .first-most;
+        second-most = omega arith;
+        firsts = k .firsts;
+        seconds = k .seconds;
+        first-small = k .first-small;
+        second-small = below-append 256 (bytesOf w ds) ps (k .second-small) (below-bytesOf 4 (pointers n ds));
+      }
+
   pub known : (s : Setting) → settingAllowed s ≡ true → codec s .unfit ls ≡ false → Known (codec s) B ls
   unfolding codec basedKind
   known = by-kind (λ (s : Setting). codec s .unfit ls ≡ false → Known (codec s) B ls)
@@ -169,4 +198,5 @@ module _ (B : ℕ) (ls : List ℕ) (small : B ≤ 16777216) (r : Rising 0 B ls) 
         based = λ w l a b c e u. based-known w l b c (not-false (offsetsFit w l ls) u);
         jumps = λ w a b u. jump-known w b;
         paged = λ b a c u. paged-known b a;
+        pointed = λ w n a b c e u. pointed-known w n b c;
       })

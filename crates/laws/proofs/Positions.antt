@@ -2,7 +2,7 @@
 use Prim.Native.Nat.{ℕ, zero, suc, _+_, _-_, _*_, _/_, _^_, _≤_, _<_}
 use mathlib.Core.Path.{_≡_, refl, sym, ap, _∙_}
 use mathlib.Core.List.{List, [], _∷_, _++_}
-use native.Mathlib.Nat.{suc-mul, le-div-iff-mul-le, le-refl, add-sub-of-le, div-mul-le-self, add-sub-cancel-left}
+use native.Mathlib.Nat.{le-refl, add-sub-of-le, div-mul-le-self, add-sub-cancel-left}
 use native.Mathlib.Omega.{arith}
 use lib.ListN.{length, getD}
 use lib.Seq.{ext-getD, append-snoc}
@@ -16,6 +16,7 @@ use Rattle.format.specs.BaseOffset.{bases, offsets, basedPositions}
 use Rattle.format.specs.Jumps.{difference, differencesFrom, differences, jumpsOf, jumps, jumpedFrom, jumpedPositions}
 use Rattle.laws.proofs.Stored.{Rising}
 use Rattle.laws.proofs.Tools.{cases, length-listed, getD-listed, range-snoc}
+use Rattle.laws.proofs.Bounds.{length-everyNth, getD-everyNth}
 
 -- ---- kind 3
 
@@ -32,21 +33,17 @@ rising-le a B (l ∷ ls) zero (suc j) r h k = let i = rising-at (suc l) B ls j (
 rising-le a B (l ∷ ls) (suc i) zero r h k = absurd (omega arith)
 rising-le a B (l ∷ ls) (suc i) (suc j) r h k = rising-le (suc l) B ls i j (r .2) (omega arith) (omega arith)
 
--- r div l is the index of a base
-base-index : (l n r : ℕ) → 0 < l → r < n → r / l < upTo n l
-base-index l n r p h = le-div-iff-mul-le p .1 (rw suc-mul (omega (arith, div-mul-le-self r l)))
-
 pub length-offsets : (l : ℕ) (ls : List ℕ) → length (offsets l ls) ≡ length ls
 unfolding offsets
 length-offsets l ls = length-listed (length ls) _
 
 pub length-bases : (l : ℕ) (ls : List ℕ) → length (bases l ls) ≡ upTo (length ls) l
 unfolding bases
-length-bases l ls = length-listed (upTo (length ls) l) _
+length-bases l ls = length-everyNth l ls
 
 pub getD-bases : (l : ℕ) (ls : List ℕ) (r : ℕ) → 0 < l → r < length ls → getD (bases l ls) (r / l) 0 ≡ getD ls (r / l * l) 0
 unfolding bases
-getD-bases l ls r p h = getD-listed (upTo (length ls) l) _ (r / l) (base-index l (length ls) r p h)
+getD-bases l ls r p h = getD-everyNth l (r / l) ls p (omega (arith, div-mul-le-self r l))
 
 pub getD-offsets : (l : ℕ) (ls : List ℕ) (r : ℕ) → r < length ls → getD (offsets l ls) r 0 ≡ getD ls r 0 - getD (bases l ls) (r / l) 0
 unfolding offsets

@@ -1,17 +1,19 @@
 -- The rank lookups of kinds 1 and 5, and the position lookup along runs, give those of the picture. Assumes nothing.
 use Prim.Native.Nat.{ℕ, zero, suc, _+_, _-_, _≤_, _<_}
 use mathlib.Core.Path.{_≡_, refl, sym, ap, _∙_}
+use mathlib.Core.Bool.{Bool, true, false}
 use mathlib.Core.List.{List, [], _∷_}
 use native.Mathlib.Nat.{le-refl, sub-zero, sub-add-eq}
 use native.Mathlib.Omega.{arith}
 use lib.ListN.{length, getD}
 use lib.Dec.{eqb, leb, ltb}
 use borrow.Author.Tests.{eq-eqb, ne-eqb, eqb-true, leb-true, leb-false, ltb-true, ltb-false, lt-ltb, le-ltb}
-use Rattle.format.specs.Tools.{pick}
-use Rattle.format.specs.Stored.{stored}
+use Rattle.format.specs.Tools.{pick, first}
+use Rattle.format.specs.Signals.{BEYOND}
+use Rattle.format.specs.Stored.{stored, rankAt}
 use Rattle.format.specs.Runs.{Run, Span, runAt, runsFrom, runs, spansFrom, spans, runRankFrom, runRank, runPosition}
 use Rattle.format.specs.PagedRuns.{plus, none, allCells, storedCells, positionAtPlace, rankAtPlace, descent}
-use Rattle.format.specs.Answers.{empty, given}
+use Rattle.format.specs.Answers.{empty, given, refused, valuesOf}
 use Rattle.format.specs.Lookups.{rankIn, positionIn}
 use Rattle.laws.proofs.Stored.{Rising, rising}
 use Rattle.laws.proofs.Search.{rankAmong, seekFrom, Proper, along, rank-among, positionAmong, along-position}
@@ -218,3 +220,16 @@ rank-at E r ws h =
     below-getD-at r a B [] o h = absurd (omega arith)
     below-getD-at zero a B (l ∷ ls) o h = o .1
     below-getD-at (suc r) a B (l ∷ ls) o h = below-getD-at r (suc l) B ls (o .2) (omega arith)
+
+-- and as many stored cells stand before it
+pub rank-counts : (E r : ℕ) (ws : List ℕ) → r < length (stored E ws) → rankAt E ws (getD (stored E ws) r 0) ≡ r
+unfolding rankIn
+rank-counts E r ws h = counted (ltb p (length ws)) (eqb (getD ws p 0) E) (ap valuesOf (rank-at E r ws h))
+  where
+    p : ℕ
+    p = getD (stored E ws) r 0
+
+    counted : (s t : Bool) → valuesOf (pick s (pick t empty (given (rankAt E ws p))) (refused BEYOND)) ≡ r ∷ [] → rankAt E ws p ≡ r
+    counted true true e = absurd (omega (arith, ap length e))
+    counted true false e = ap first e
+    counted false t e = absurd (omega (arith, ap length e))

@@ -19,6 +19,7 @@ use Rattle.format.specs.Runs.{runs, spansFrom, spans, flatRuns, runParts, runsK
 use Rattle.format.specs.Positions.{positionParts, positionsKind}
 use Rattle.format.specs.BaseOffset.{bases, offsets, offsetsFit, basedParts, basedKind}
 use Rattle.format.specs.Jumps.{differences, jumpsOf, jumps, jumpParts, jumpsKind}
+use Rattle.format.specs.PointedJumps.{jumpRanksFrom, pointers, pointedParts, pointedKind}
 use Rattle.format.specs.PagedRuns.{sumsFrom, level, levelsAbove, upperLevels, flatSpans, pagedParts, pagesKind}
 use Rattle.format.specs.File.{headerLength, layout, HasFile}
 use Rattle.format.specs.Calls.{makeNumber}
@@ -38,7 +39,7 @@ record None (c : Codec) : Type 0 where
   second : (n : ℕ) → c .parts n [] .second ≡ []
 
 nothing : (s : Setting) → settingAllowed s ≡ true → None (codec s)
-unfolding codec runsKind runParts runs flatRuns positionsKind positionParts basedKind basedParts offsetsFit bases offsets listed jumpsKind jumpParts jumps jumpsOf differences pagesKind pagedParts spans spansFrom level sumsFrom upperLevels levelsAbove flatSpans bytesOf
+unfolding codec runsKind runParts runs flatRuns positionsKind positionParts basedKind basedParts offsetsFit bases offsets listed jumpsKind jumpParts jumps jumpsOf differences pagesKind pagedParts spans spansFrom level sumsFrom upperLevels levelsAbove flatSpans pointedKind pointedParts pointers jumpRanksFrom bytesOf
 nothing =
     by-kind (λ s. None (codec s))
     (record {
@@ -47,6 +48,7 @@ nothing =
       based = λ w l _ _ c _. record { fit = refl; first = λ n. rw (upTo-zero l c); second = λ n. refl };
       jumps = λ w _ _. record { fit = refl; first = λ n. refl; second = λ n. refl };
       paged = λ b _ _. record { fit = refl; first = λ n. refl; second = λ n. refl };
+      pointed = λ w l _ _ c _. record { fit = refl; first = λ n. refl; second = λ n. rw (upTo-zero l c) };
     })
 
 stored-none : (E p n : ℕ) → storedFrom E p (replicate n E) ≡ []
