@@ -23,6 +23,7 @@ use Rattle.runs.proofs.Laws as runs-coder
 use Rattle.positions.proofs.Laws as positions
 use Rattle.base_offset.proofs.Laws as based
 use Rattle.jumps.proofs.Laws as jumps
+use Rattle.pointed_jumps.proofs.Laws as pointed
 use Rattle.page_walk.proofs.Walk as paged
 use Rattle.paged_runs.proofs.Codes as paged-coder
 use Rattle.kinds.specs.Steps.{nextBy, nextOf, startOf, walked}
@@ -31,6 +32,7 @@ use Rattle.positions.specs.Coding as positions-spec
 use Rattle.base_groups.specs.Coding as based-spec
 use Rattle.jumps.specs.Coding as jumps-spec
 use Rattle.jump_entries.specs.Coding.{jumpsCoder}
+use Rattle.pointed_jumps.specs.Coding as pointed-spec
 use Rattle.kinds.specs.Coding.{noCoder, coderOf, coder, derived}
 use Rattle.kinds.proofs.None.{never}
 
@@ -41,7 +43,8 @@ walks-by (suc (suc zero)) w l a = positions.walks
 walks-by (suc (suc (suc zero))) w l a = based.walks
 walks-by (suc (suc (suc (suc zero)))) w l a = jumps.walks
 walks-by (suc (suc (suc (suc (suc zero))))) w l a = paged.walks
-walks-by (suc (suc (suc (suc (suc (suc k)))))) w l a = absurd (never a)
+walks-by (suc (suc (suc (suc (suc (suc zero)))))) w l a = pointed.walks
+walks-by (suc (suc (suc (suc (suc (suc (suc k))))))) w l a = absurd (never a)
 
 -- the cursor walks the stored positions that the parts hold
 pub walks : (b : List ℕ) (v : View) (ls : List ℕ) → Holds (kindOf v) b v ls → walked b v (startOf b v) (length ls) ≡ ls
@@ -59,38 +62,41 @@ codes-by (suc (suc zero)) w l a = positions.codes w l a
 codes-by (suc (suc (suc zero))) w l a = based.codes w l a
 codes-by (suc (suc (suc (suc zero)))) w l a = jumps.codes w l a
 codes-by (suc (suc (suc (suc (suc zero))))) w l a = paged-coder.codes w l a
-codes-by (suc (suc (suc (suc (suc (suc k)))))) w l a = absurd (never a)
+codes-by (suc (suc (suc (suc (suc (suc zero)))))) w l a = pointed.codes w l a
+codes-by (suc (suc (suc (suc (suc (suc (suc k))))))) w l a = absurd (never a)
 
 -- the coder of an allowed setting puts out the parts
 pub codes : (s : Setting) → settingAllowed s ≡ true → Codes (coder s) (codec s)
 unfolding settingAllowed codec coder
 codes s a = codes-by (s .kind) (s .width) (s .step) a
 
-derived-by : (k w l : ℕ) → (k ≡ 5 → ⊥) → (z : Sizes) (start : ℕ) (d : List ℕ) → coderOf k w l .derived z start d ≡ d
+derived-by : (k w l : ℕ) → (k ≡ 5 → ⊥) → (k ≡ 6 → ⊥) → (z : Sizes) (start : ℕ) (d : List ℕ) → coderOf k w l .derived z start d ≡ d
 unfolding runsCoder positions-spec.coder based-spec.coder jumps-spec.coder jumpsCoder noCoder
-derived-by zero w l h z start d = refl
-derived-by (suc zero) w l h z start d = refl
-derived-by (suc (suc zero)) w l h z start d = refl
-derived-by (suc (suc (suc zero))) w l h z start d = refl
-derived-by (suc (suc (suc (suc zero)))) w l h z start d = refl
-derived-by (suc (suc (suc (suc (suc zero))))) w l h z start d = absurd (h refl)
-derived-by (suc (suc (suc (suc (suc (suc k)))))) w l h z start d = refl
+derived-by zero w l f g z start d = refl
+derived-by (suc zero) w l f g z start d = refl
+derived-by (suc (suc zero)) w l f g z start d = refl
+derived-by (suc (suc (suc zero))) w l f g z start d = refl
+derived-by (suc (suc (suc (suc zero)))) w l f g z start d = refl
+derived-by (suc (suc (suc (suc (suc zero))))) w l f g z start d = absurd (f refl)
+derived-by (suc (suc (suc (suc (suc (suc zero)))))) w l f g z start d = absurd (g refl)
+derived-by (suc (suc (suc (suc (suc (suc (suc k))))))) w l f g z start d = refl
 
--- only kind 5 makes something of the parts that were put out
-pub derived-none : (s : Setting) → (s .kind ≡ 5 → ⊥) → (z : Sizes) (start : ℕ) (d : List ℕ) → d ≡ derived s z start d
+-- only kinds 5 and 6 make something of the parts that were put out
+pub derived-none : (s : Setting) → (s .kind ≡ 5 → ⊥) → (s .kind ≡ 6 → ⊥) → (z : Sizes) (start : ℕ) (d : List ℕ) → d ≡ derived s z start d
 unfolding derived coder
-derived-none s h z start d = sym (derived-by (s .kind) (s .width) (s .step) h z start d)
+derived-none s f g z start d = sym (derived-by (s .kind) (s .width) (s .step) f g z start d)
 
 -- of the kinds that store no runs
 ends-by : (k w l : ℕ) → (k ≡ 1 → ⊥) → (k ≡ 5 → ⊥) → (e : Encoder) → (coderOf k w l .endFirst e ≡ []) × (coderOf k w l .endSecond e ≡ [])
-unfolding positions-spec.coder based-spec.coder jumps-spec.coder jumpsCoder noCoder
+unfolding positions-spec.coder based-spec.coder jumps-spec.coder jumpsCoder pointed-spec.coder noCoder
 ends-by zero w l f g e = (refl, refl)
 ends-by (suc zero) w l f g e = absurd (f refl)
 ends-by (suc (suc zero)) w l f g e = (refl, refl)
 ends-by (suc (suc (suc zero))) w l f g e = (refl, refl)
 ends-by (suc (suc (suc (suc zero)))) w l f g e = (refl, refl)
 ends-by (suc (suc (suc (suc (suc zero))))) w l f g e = absurd (g refl)
-ends-by (suc (suc (suc (suc (suc (suc k)))))) w l f g e = (refl, refl)
+ends-by (suc (suc (suc (suc (suc (suc zero)))))) w l f g e = (refl, refl)
+ends-by (suc (suc (suc (suc (suc (suc (suc k))))))) w l f g e = (refl, refl)
 
 -- their end adds nothing
 module _ (s : Setting) (f : s .kind ≡ 1 → ⊥) (g : s .kind ≡ 5 → ⊥) (e : Encoder) where

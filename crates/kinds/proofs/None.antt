@@ -16,11 +16,11 @@ never e = let y : _≡_ {A = ℕ} 0 1 = cc in omega arith
 
 -- what is known in the last arm of a match on the kind
 abbrev pub Other : Type 0 → ℕ → Type 0
-Other X k = ((((X × (k ≡ 1 → ⊥)) × (k ≡ 2 → ⊥)) × (k ≡ 3 → ⊥)) × (k ≡ 4 → ⊥)) × (k ≡ 5 → ⊥)
+Other X k = (((((X × (k ≡ 1 → ⊥)) × (k ≡ 2 → ⊥)) × (k ≡ 3 → ⊥)) × (k ≡ 4 → ⊥)) × (k ≡ 5 → ⊥)) × (k ≡ 6 → ⊥)
 
 module _ {X : Type 0} where
   pub no-codec : (k w l : ℕ) → Other X k → codecOf k w l .allowed ≡ false
-  no-codec k w l r = rw (no-kind k w l (r .0 .0 .0 .0 .1) (r .0 .0 .0 .1) (r .0 .0 .1) (r .0 .1) (r .1))
+  no-codec k w l r = rw (no-kind k w l (r .0 .0 .0 .0 .0 .1) (r .0 .0 .0 .0 .1) (r .0 .0 .0 .1) (r .0 .0 .1) (r .0 .1) (r .1))
 
   pub not-allowed : (k w l : ℕ) → codecOf k w l .allowed ≡ true → Other X k → ⊥
   not-allowed k w l a r = never (rw (no-codec k w l r) at a)

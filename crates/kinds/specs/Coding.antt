@@ -16,6 +16,7 @@ use Rattle.positions.specs.Coding as positions
 use Rattle.base_groups.specs.Coding as based
 use Rattle.jumps.specs.Coding as jumps
 use Rattle.page_entries.specs.Coding as paged
+use Rattle.pointed_jumps.specs.Coding as pointed
 
 unfoldable pub noCoder : Coder
 noCoder =
@@ -36,7 +37,8 @@ coderOf (suc (suc zero)) w l = positions.coder w l
 coderOf (suc (suc (suc zero))) w l = based.coder w l
 coderOf (suc (suc (suc (suc zero)))) w l = jumps.coder w l
 coderOf (suc (suc (suc (suc (suc zero))))) w l = paged.coder w l
-coderOf (suc (suc (suc (suc (suc (suc k)))))) w l = noCoder
+coderOf (suc (suc (suc (suc (suc (suc zero)))))) w l = pointed.coder w l
+coderOf (suc (suc (suc (suc (suc (suc (suc k))))))) w l = noCoder
 
 unfoldable pub coder : Setting → Coder
 coder s = coderOf (s .kind) (s .width) (s .step)

@@ -2,7 +2,7 @@
 use Prim.Native.Nat.{ℕ, zero, suc}
 use mathlib.Core.Path.{_≡_}
 use mathlib.Core.Logic.{_⊎_}
-use mathlib.Core.Bool.{Bool}
+use mathlib.Core.Bool.{Bool, true}
 use mathlib.Core.List.{List}
 use lib.Dec.{eqb}
 use Rattle.format.specs.declared.View.{View}
@@ -23,7 +23,8 @@ nextBy (suc (suc zero)) b v c = positions.next b v c
 nextBy (suc (suc (suc zero))) b v c = based.next b v c
 nextBy (suc (suc (suc (suc zero)))) b v c = jumps.next b v c
 nextBy (suc (suc (suc (suc (suc zero))))) b v c = paged.next b v c
-nextBy (suc (suc (suc (suc (suc (suc k)))))) b v c = c
+nextBy (suc (suc (suc (suc (suc (suc zero)))))) b v c = jumps.next b v c
+nextBy (suc (suc (suc (suc (suc (suc (suc k))))))) b v c = c
 
 -- the cursor at the next rank
 unfoldable pub nextOf : List ℕ → View → Cursor → Cursor
@@ -42,7 +43,7 @@ steppedBy b v c n = steppedAs (nextOf b v) c n
 
 -- a kind whose position of a rank is found by a walk
 abbrev pub byWalk : ℕ → Bool
-byWalk k = eqb k 4
+byWalk k = pick (eqb k 4) true (eqb k 6)
 
 -- from c to the first position from p on, or past the last rank, in at most k steps
 unfoldable pub soughtBy : List ℕ → View → ℕ → ℕ → Cursor → Cursor

@@ -29,6 +29,7 @@ pub fn take_all(s: Setting, e: Encoder, ps: &[u32]) -> Encoder
         3 => base_offset::coding::take_all(s.width, s.step, e, ps),
         4 => jumps::coding::take_all(s.width, s.step, e, ps),
         5 => paged_runs::coding::take_all(s.width, s.step, e, ps),
+        6 => pointed_jumps::coding::take_all(s.width, s.step, e, ps),
         _ => e,
     }
 }
@@ -45,6 +46,7 @@ pub fn put_all(dst: &mut [u8], s: Setting, e: Encoder, ps: &[u32]) -> Encoder
         3 => base_offset::coding::put_all(dst, s.width, s.step, e, ps),
         4 => jumps::coding::put_all(dst, s.width, s.step, e, ps),
         5 => paged_runs::coding::put_all(dst, s.width, s.step, e, ps),
+        6 => pointed_jumps::coding::put_all(dst, s.width, s.step, e, ps),
         _ => e,
     }
 }
@@ -87,6 +89,7 @@ pub fn sizes(s: Setting, e: Encoder) -> Sizes
         3 => base_offset::coding::sizes(s.width, s.step, e),
         4 => jumps::coding::sizes(s.width, s.step, e),
         5 => paged_runs::coding::sizes(s.width, s.step, e),
+        6 => pointed_jumps::coding::sizes(s.width, s.step, e),
         _ => Sizes {
             words: 0,
             firsts: 0,
@@ -108,7 +111,7 @@ pub fn put_run(dst: &mut [u8], s: Setting, e: Encoder, p: u32, n: u32) -> Encode
     paged_runs::coding::put_run(dst, s.width, s.step, e, p, n)
 }
 
-// What is made of the parts that stand in dst, the first from `start` on: kind 5's upper levels; nothing for the other kinds.
+// What is made of the parts that stand in dst, the first from `start` on: kind 5's upper levels, kind 6's pointers; nothing for the other kinds.
 pub fn put_derived(dst: &mut [u8], s: Setting, z: Sizes, start: usize)
     requires { ⌜ (settingAllowed s ≡ true) × (start ≤ 4294967296) × Standing (coder s) (codec s) z start (now dst) ⌝ }
     ensures { λ _. ⌜ now (dst .exit) ≡ derived s z start (now (dst .entry)) ⌝ }
@@ -116,6 +119,7 @@ pub fn put_derived(dst: &mut [u8], s: Setting, z: Sizes, start: usize)
     let kind = s.kind;
     match kind {
         5 => paged_runs::coding::put_derived(dst, s.width, s.step, z, start),
+        6 => pointed_jumps::coding::put_derived(dst, s.width, s.step, z, start),
         _ => (),
     }
 }

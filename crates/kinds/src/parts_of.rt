@@ -18,6 +18,7 @@ pub fn part_bytes(v: View) -> PartBytes
         3 => base_offset::setting::part_bytes(v),
         4 => jumps::setting::part_bytes(v),
         5 => paged_runs::setting::part_bytes(v),
+        6 => pointed_jumps::setting::part_bytes(v),
         _ => PartBytes {
             right: false,
             first: 0,
@@ -38,6 +39,7 @@ pub fn parts_right(file: &[u8], v: View) -> bool
         3 => base_offset::check::parts_right(file, v),
         4 => jumps::check::parts_right(file, v),
         5 => paged_runs::check::parts_right(file, v),
+        6 => pointed_jumps::check::parts_right(file, v),
         _ => false,
     }
 }

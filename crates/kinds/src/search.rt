@@ -24,6 +24,7 @@ pub fn find(file: &[u8], v: View, p: Position) -> Found
         3 => base_offset::search::find(file, v, p),
         4 => jumps::search::find(file, v, p),
         5 => paged_runs::search::find(file, v, p),
+        6 => pointed_jumps::search::find(file, v, p),
         _ => Found {
             below: 0,
             here: false,
@@ -43,6 +44,7 @@ pub fn position_of(file: &[u8], v: View, r: Rank) -> u64
         3 => base_offset::search::position_of(file, v, r),
         4 => jumps::search::position_of(file, v, r),
         5 => paged_runs::search::position_of(file, v, r),
+        6 => pointed_jumps::search::position_of(file, v, r),
         _ => 0,
     }
 }

@@ -23,6 +23,7 @@ pub fn next(file: &[u8], v: View, c: Cursor) -> Cursor
         3 => base_offset::steps::next(file, v, c),
         4 => jump_walk::steps::next(file, v, c),
         5 => paged_runs::steps::next(file, v, c),
+        6 => jump_walk::steps::next(file, v, c),
         _ => c,
     }
 }
@@ -47,6 +48,7 @@ pub fn positions(file: &[u8], v: View, c: Cursor, out: &mut [u32]) -> Cursor
         3 => base_offset::steps::positions(file, v, c, out),
         4 => jump_walk::steps::positions(file, v, c, out),
         5 => paged_runs::steps::positions(file, v, c, out),
+        6 => jump_walk::steps::positions(file, v, c, out),
         _ => c,
     }
 }
@@ -55,7 +57,10 @@ pub fn positions(file: &[u8], v: View, c: Cursor, out: &mut [u32]) -> Cursor
 pub fn by_walk(kind: u32) -> bool
     ensures { λ r. ⌜ r ≡ byWalk kind ⌝ }
 {
-    kind == 4
+    if kind == 4 {
+        return true;
+    }
+    kind == 6
 }
 
 // In such a kind, where the positions ahead never fall: on to the first position from p on, or past the last rank.

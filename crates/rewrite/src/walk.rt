@@ -6,7 +6,9 @@ use format::View;
 use kinds::coding::put_all;
 use kinds::coding::take_all;
 use kinds::copying::copies;
+use kinds::copying::copies_jumps;
 use kinds::copying::copy_ranks;
+use kinds::copying::count_ranks;
 use kinds::steps::next;
 use kinds::steps::positions;
 use kinds::steps::stores_runs;
@@ -38,15 +40,8 @@ pub fn skip(file: &[u8], v: View, mut c: Cursor, mut n: u32) -> Cursor
     c
 }
 
-// The next n ranks, with nothing put out: where the sizes are measured, source and target do not both store runs.
-pub fn measure_ranks(
-    file: &[u8],
-    v: View,
-    s: Setting,
-    mut c: Cursor,
-    mut e: Encoder,
-    n: u32,
-) -> Walk
+// The next n ranks in batches, with nothing put out.
+fn measure_batches(file: &[u8], v: View, s: Setting, mut c: Cursor, mut e: Encoder, n: u32) -> Walk
     requires { ⌜ (kindOf v .allowed ≡ true) × (settingAllowed s ≡ true) × Along e (walked (now file) v c n) ⌝ }
     ensures { λ r. ⌜ r ≡ along s (now (file .entry)) v c e n ⌝ }
 {
@@ -59,6 +54,17 @@ pub fn measure_ranks(
         left -= k as u32;
     }
     Walk { c, e }
+}
+
+// The next n ranks, with nothing put out: where the sizes are measured, source and target do not both store runs.
+pub fn measure_ranks(file: &[u8], v: View, s: Setting, c: Cursor, e: Encoder, n: u32) -> Walk
+    requires { ⌜ (kindOf v .allowed ≡ true) × (settingAllowed s ≡ true) × Along e (walked (now file) v c n) × ViewOf (now file) v × Reached (nextOf (now file) v) (v .words) c n ⌝ }
+    ensures { λ r. ⌜ r ≡ along s (now (file .entry)) v c e n ⌝ }
+{
+    if copies_jumps(v, s) {
+        return count_ranks(file, v, s, c, e, n);
+    }
+    measure_batches(file, v, s, c, e, n)
 }
 
 // The next n ranks in batches, put out.
@@ -98,7 +104,7 @@ pub fn put_ranks(
     requires { ⌜ (kindOf v .allowed ≡ true) × (settingAllowed s ≡ true) × Along e (walked (now file) v c n) × RoomAll (coder s) e (walked (now file) v c n) (length (now dst)) × ViewOf (now file) v × Reached (nextOf (now file) v) (v .words) c n ⌝ }
     ensures { λ r. ⌜ (r ≡ along s (now (file .entry)) v c e n) × (now (dst .exit) ≡ putAllBy (coder s) (now (dst .entry)) e (walked (now (file .entry)) v c n)) ⌝ }
 {
-    if copies(v.kind, s.kind) {
+    if copies(v, s) {
         return copy_ranks(dst, file, v, s, c, e, n);
     }
     if stores_runs(s.kind) {

@@ -64,7 +64,8 @@ rising-rest a B (suc r) x (l ∷ ls) xs o e = rising-rest (suc l) B r x ls xs (o
 -- ---- a kind's number
 
 pub runs-no-walk : (k : ℕ) → storesRuns k → byWalk k ≡ false
-runs-no-walk k s = ne-eqb k 4 (λ z. ⊎-elim (λ e. omega arith) (λ e. omega arith) s)
+runs-no-walk k s =
+    rw (ne-eqb k 4 (λ z. ⊎-elim (λ e. omega arith) (λ e. omega arith) s)) (ne-eqb k 6 (λ z. ⊎-elim (λ e. omega arith) (λ e. omega arith) s))
 
 walk-no-runs : (k : ℕ) → byWalk k ≡ true → storesRuns k → ⊥
 walk-no-runs k w s = never (sym (runs-no-walk k s) ∙ w)

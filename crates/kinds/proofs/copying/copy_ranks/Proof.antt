@@ -1,7 +1,6 @@
 use Prim.Native.Nat.{ℕ}
-use mathlib.Core.Path.{_≡_, _∙_}
+use mathlib.Core.Path.{_≡_}
 use mathlib.Core.Bool.{true}
-use mathlib.Core.Logic.{⊎-elim}
 use lib.ListN.{length}
 use Rattle.format.specs.Kinds.{codecOf}
 use Rattle.parts.specs.declared.Cursor.{Cursor}
@@ -12,7 +11,9 @@ use Rattle.parts.specs.Carried.{Reached}
 use Rattle.parts.proofs.Seen.{seen}
 use Rattle.kinds.specs.Steps.{nextBy}
 use Rattle.kinds.specs.Coding.{coderOf}
+use Rattle.kinds.specs.Copying.{copiesJumps}
 use Rattle.kinds.proofs.At.{setting-allowed, setting-room, view-holds, view-step, put-both-kinds}
+use Rattle.kinds.proofs.Jumping.{some-held, copies-runs, copies-others, one-no-jumps, five-no-jumps, asks-reached, asks-along, asks-room, gives-put}
 use borrow.Author.Needs.{needs}
 use Rattle.kinds.proofs.copying.copy_ranks.Statement.{statement}
 use Rattle.kinds.proofs.copying.copy_ranks.Tie as tie
@@ -36,29 +37,48 @@ asked p k e g =
       step (λ (f : Cursor → Cursor). RoomAll (coderOf k (a .s .width) (a .s .step)) (a .e) (walkedAs f (a .c) (a .n)) (length (a .dst .now))) (setting-room (a .s) k g _ _ _ (p .pre .5)),
     )
 
-one : (c : tie.Then1) → let a = c .before .before .before .before .args in (a .v .kind ≡ 1) × (a .s .kind ≡ 1)
-one c = let e = c .if1 .taken in (e, c .before .before .before .before .pre .1 .1 ∙ e)
+one : (c : tie.At-match-keys1) → let a = c .before .before .before .args in (a .v .kind ≡ 1) × (a .s .kind ≡ 1)
+one c = let a = c .before .before .before in let e = c .match .keys1 in (e, copies-runs (a .args .v) (a .args .s) (a .pre .1) 1 e one-no-jumps)
 
--- of the kinds that store runs, not 1
-five : (c : tie.Else1) → let a = c .before .before .before .before .args in (a .v .kind ≡ 5) × (a .s .kind ≡ 5)
-five c =
-    let t = c .before .before .before .before .pre .1 in
-    let e = ⊎-elim (λ e. absurd (c .if1 .left e)) (λ e. e) (t .0) in
-    (e, t .1 ∙ e)
+five : (c : tie.At-match-keys2) → let a = c .before .before .before .args in (a .v .kind ≡ 5) × (a .s .kind ≡ 5)
+five c = let a = c .before .before .before in let e = c .match .keys2 in (e, copies-runs (a .args .v) (a .args .s) (a .pre .1) 5 e five-no-jumps)
+
+others : (c : tie.At-match-rest) → let a = c .before .before .before .args in copiesJumps (a .v) (a .s)
+others c = let a = c .before .before .before in copies-others (a .args .v) (a .args .s) (a .pre .1) (c .match .rest .0 .1) (c .match .rest .1)
+
+put-ranks-requires : tie.Need-put-ranks-requires
+put-ranks-requires c κs =
+    let p = c .before .before .before .before in
+    let a = p .args in
+    let b = a .file .now in
+    let t = others (c .before) in (
+      some-held b (a .v) (p .pre .2) (t .0),
+      asks-reached b (a .v) (a .s) t (a .c) (a .e) (a .n) (p .pre .3),
+      asks-along b (a .v) (a .s) t (a .c) (a .e) (a .n) (p .pre .4),
+      asks-room b (a .v) (a .s) t (a .c) (a .e) (a .n) _ (p .pre .5),
+    )
+
+returns-3 : tie.Need-returns-3
+returns-3 c =
+    let a = c .before .before .before .before .before .before .before .args in
+    gives-put (a .file .now) (a .v) (a .s) (others (c .before .before .before .before)) (a .c) (a .e) (a .n) _ _ _ (c .before .before .put-ranks .ensures)
 
 pub copy-ranks-spec : {M : Type 1} → statement M
 copy-ranks-spec =
     tie.close
     (tie.spec
-    (λ c κs. let e = one (c .before) in asked (c .before .before .before .before .before) 1 (e .0) (e .1))
+    (λ c κs. let e = one (c .before) in asked (c .before .before .before .before) 1 (e .0) (e .1))
+    (λ c κs. let e = five (c .before) in asked (c .before .before .before .before) 5 (e .0) (e .1))
+    put-ranks-requires
     (λ c. search needs)
     (λ c.
-    let a = c .before .before .before .before .before .before .before .before .args in
+    let a = c .before .before .before .before .before .before .before .args in
     let e = one (c .before .before .before .before) in
     put-both-kinds (a .v) (a .s) 1 (e .0) (e .1) (a .file .now) _ _ _ _ _ _ (c .before .before .put-runs .ensures))
-    (λ c κs. let e = five (c .before) in asked (c .before .before .before .before .before) 5 (e .0) (e .1))
     (λ c. search needs)
     (λ c.
-    let a = c .before .before .before .before .before .before .before .before .args in
+    let a = c .before .before .before .before .before .before .before .args in
     let e = five (c .before .before .before .before) in
-    put-both-kinds (a .v) (a .s) 5 (e .0) (e .1) (a .file .now) _ _ _ _ _ _ (c .before .before .put-runs2 .ensures)))
+    put-both-kinds (a .v) (a .s) 5 (e .0) (e .1) (a .file .now) _ _ _ _ _ _ (c .before .before .put-runs2 .ensures))
+    (λ c. search needs)
+    returns-3)

@@ -8,7 +8,7 @@ use Rattle.kinds.specs.Coding.{takenAll}
 use Rattle.layout.proofs.Measuring.{measures, bounded}
 use Rattle.parts.specs.declared.walk.Walk.{Walk}
 use Rattle.edits.specs.Edit.{edited}
-use Rattle.rewrite.proofs.Three.{allowed, ranks-there, cells-most, edit-rising, along-cursor, along-encoder, edit-along, edit-all}
+use Rattle.rewrite.proofs.Three.{allowed, ranks-there, cells-most, edit-rising, along-cursor, along-encoder, edit-along, edit-all, reached-first, reached-rest}
 use borrow.Author.Needs.{needs}
 use Rattle.rewrite.proofs.edited.measure.Statement.{statement}
 use Rattle.rewrite.proofs.edited.measure.Tie as tie
@@ -31,7 +31,7 @@ measure-ranks-requires c κs =
     let a = c .before .before .before .args in
     let p = c .before .before .before .pre in
     let t = edit-along (a .file .now) (a .v) (p .0) (a .x) (p .1) (a .s) 0 0 (p .2) (omega arith) (omega arith) in
-    rw (c .begin .ensures, c .before .start .ensures) (allowed (a .file .now) (a .v) (p .0), p .2, t .front)
+    rw (c .begin .ensures, c .before .start .ensures) (allowed (a .file .now) (a .v) (p .0), p .2, t .front, p .0, reached-first (a .file .now) (a .v) (p .0) (a .x) (p .1))
 
 measure-added-requires : tie.Need-measure-added-requires
 measure-added-requires c κs =
@@ -57,7 +57,7 @@ measure-ranks-requires-2 c κs =
     let a = c .before .before .before .before .before .before .before .before .before .args in
     let p = c .before .before .before .before .before .before .before .before .before .pre in
     let t = edit-along (a .file .now) (a .v) (p .0) (a .x) (p .1) (a .s) 0 0 (p .2) (omega arith) (omega arith) in
-    rw (c .before .before .before .before .measure-added .ensures, c .before .before .skip .ensures, front-encoder (c .before .before .before .before .before), front-cursor (c .before .before .before .before .before)) (allowed (a .file .now) (a .v) (p .0), p .2, t .rest)
+    rw (c .before .before .before .before .measure-added .ensures, c .before .before .skip .ensures, front-encoder (c .before .before .before .before .before), front-cursor (c .before .before .before .before .before)) (allowed (a .file .now) (a .v) (p .0), p .2, t .rest, p .0, reached-rest (a .file .now) (a .v) (p .0) (a .x) (p .1))
 
 -- the encoder after all of them
 all-encoder : (c : tie.After-measure-ranks2)

@@ -1,0 +1,3 @@
+pub mod Pointed
+pub mod Search
+pub mod Coding
