@@ -2,7 +2,7 @@
  * Radar picture archive: the C interface.
  *
  * A picture is 1 to 4 dimensions, an empty word E and one 32-bit word for each cell, in row order (the last dimension runs fastest); at
- * most 16,777,216 cells. A file keeps the words that are not E, and a header of one of five kinds that says where they stood. A setting
+ * most 16,777,216 cells. A file keeps the words that are not E, and a header of one of six kinds that says where they stood. A setting
  * is kind, width and step:
  *
  *    kind 1  runs             width 0        step 0
@@ -10,6 +10,7 @@
  *    kind 3  base and offset  width 1 or 2   step 1 to 255
  *    kind 4  jumps            width 1 or 2   step 0
  *    kind 5  paged runs       width 0        step 2 to 64
+ *    kind 6  pointed jumps    width 1 or 2   step 1 to 255: kind 4 with the rank of every step-th jump behind the differences
  *
  * Every call is total: any bytes and any numbers may be handed in, and the caller owes no earlier check. A buffer is a pointer and then
  * a length in elements; a pointer may be anything where the length is 0. Buffers lent to one call must not overlap. No call allocates,
@@ -18,7 +19,7 @@
  * A plain answer is a number: 0 (accepted), or the first of these that applies, in the order that the call names:
  *
  *    1 short    file under 52 bytes
- *    2 kind     kind not 1 to 5
+ *    2 kind     kind not 1 to 6
  *    3 setting  width or step not allowed for the kind
  *    4 extent   dimension count, extent or product outside the picture's rule, or an extent past the count that isn't 1
  *    5 counts   a count, offset or length that the layout doesn't give, or bytes lent differ from the length
@@ -62,12 +63,12 @@ extern "C" {
 
 /* The version. The package, radar_archive.pc and the command have it from here. */
 #define RA_VERSION_MAJOR 1
-#define RA_VERSION_MINOR 0
+#define RA_VERSION_MINOR 1
 #define RA_VERSION_PATCH 0
-#define RA_VERSION "1.0.0"
+#define RA_VERSION "1.1.0"
 
-/* The last change request that this interface has: 0 is document 01 alone. A program can test it. */
-#define RA_REQUEST 0
+/* The last change request that this interface has: 0 is document 01 alone, 7 adds kind 6. A program can test it. */
+#define RA_REQUEST 7
 
 /* The bytes of the longest file. */
 #define RA_LONGEST_FILE 167772212u

@@ -17,7 +17,11 @@ pub(crate) fn words(header: &Header, cells: u32, bytes: &[u8]) -> Option<Vec<u32
         1 => of_lengths(&run_lengths(&pairs(first))?, cells)?,
         2 => numbers(first, 4),
         3 => of_bases(&numbers(first, 4), &numbers(second, width), step)?,
-        4 => of_jumps(&numbers(first, 4), &numbers(second, width))?,
+        4 | 6 => {
+            // The pointers of kind 6 stand behind the differences; the check compares them.
+            let differences = &second[..width * stored.len()];
+            of_jumps(&numbers(first, 4), &numbers(differences, width))?
+        }
         _ => of_lengths(&page_lengths(&pairs(second), step)?, cells)?,
     };
     if positions.len() != stored.len() {
@@ -104,7 +108,7 @@ fn of_bases(bases: &[u32], offsets: &[u32], step: usize) -> Option<Vec<u32>> {
     Some(positions)
 }
 
-/// Kind 4: a difference 0 takes the next jump, another one is added to the position before.
+/// Kinds 4 and 6: a difference 0 takes the next jump, another one is added to the position before.
 fn of_jumps(jumps: &[u32], differences: &[u32]) -> Option<Vec<u32>> {
     let mut jumps = jumps.iter();
     let mut positions: Vec<u32> = Vec::new();

@@ -55,7 +55,7 @@ impl Header {
         let (first, second) = self.counts_given();
         let (first_size, second_size) = self.entry_sizes();
         let second_at = HEADER_LENGTH as u64 + first_size * first;
-        let words_at = second_at + second_size * second;
+        let words_at = second_at + second_size * second + self.pointer_bytes();
         let length = words_at + 4 * stored;
         let agrees = u64::from(self.first) == first
             && u64::from(self.second) == second
@@ -71,10 +71,11 @@ impl Header {
         }
     }
 
-    /// The count that N only bounds: runs in kinds 1 and 5, jumps in kind 4; 0 in kinds 2 and 3.
+    /// The count that N only bounds: runs in kinds 1 and 5, jumps in kinds 4 and 6; 0 in kinds 2
+    /// and 3.
     fn free_count(&self) -> u32 {
         match self.setting.kind {
-            1 | 4 => self.first,
+            1 | 4 | 6 => self.first,
             5 => self.second,
             _ => 0,
         }
@@ -89,7 +90,7 @@ impl Header {
             1 => (free, 0),
             2 => (stored, 0),
             3 => (stored.div_ceil(step), stored),
-            4 => (free, stored),
+            4 | 6 => (free, stored),
             _ => (upper_count(free, step), free),
         }
     }
@@ -99,8 +100,18 @@ impl Header {
         match self.setting.kind {
             1 => (8, 0),
             2 => (4, 0),
-            3 | 4 => (4, u64::from(self.setting.width)),
+            3 | 4 | 6 => (4, u64::from(self.setting.width)),
             _ => (8, 8),
+        }
+    }
+
+    /// The bytes between differences and words: a pointer of 4 for every `step` of the jumps
+    /// claimed, the last ones perhaps fewer. Only kind 6 has pointers; no count includes them.
+    fn pointer_bytes(&self) -> u64 {
+        let step = u64::from(self.setting.step);
+        match self.setting.kind {
+            6 => 4 * u64::from(self.free_count()).div_ceil(step),
+            _ => 0,
         }
     }
 }

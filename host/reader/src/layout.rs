@@ -39,13 +39,19 @@ pub(crate) fn lay_out(
         1 => run_parts(&positions),
         2 => position_parts(&positions),
         3 => base_parts(&positions, setting)?,
-        4 => jump_parts(&positions, setting),
+        4 | 6 => jump_parts(&positions, setting),
         5 => page_parts(&positions, setting),
         _ => return Err(Refusal::Kind),
     };
-    let mut file = header(setting, dims, empty, positions.len(), &first, &second);
+    let pointers = match setting.kind {
+        6 => pointer_part(&positions, setting),
+        _ => Part::default(),
+    };
+    let stored = positions.len();
+    let mut file = header(setting, dims, empty, stored, &first, &second, &pointers);
     file.extend_from_slice(&first.bytes);
     file.extend_from_slice(&second.bytes);
+    file.extend_from_slice(&pointers.bytes);
     for &position in &positions {
         file.extend_from_slice(&words[position as usize].to_le_bytes());
     }
@@ -71,7 +77,7 @@ pub(crate) fn fitting<T>(result: Vec<T>, room: usize) -> Result<Vec<T>, Refusal>
     Ok(result)
 }
 
-/// The 52 bytes before the parts.
+/// The 52 bytes before the parts. Pointers move the words, but no count includes them.
 fn header(
     setting: Setting,
     dims: Dimensions,
@@ -79,10 +85,11 @@ fn header(
     stored: usize,
     first: &Part,
     second: &Part,
+    pointers: &Part,
 ) -> Vec<u8> {
     let first_at = HEADER_LENGTH;
     let second_at = first_at + first.bytes.len();
-    let words_at = second_at + second.bytes.len();
+    let words_at = second_at + second.bytes.len() + pointers.bytes.len();
     let length = words_at + 4 * stored;
     let mut bytes = vec![
         setting.kind as u8,
@@ -135,23 +142,49 @@ fn base_parts(positions: &[u32], setting: Setting) -> Result<(Part, Part), Refus
     Ok((first, second))
 }
 
-/// Kind 4: the differences, and a jump wherever the difference is 0.
+/// Kinds 4 and 6: the differences, and a jump wherever the difference is 0.
 fn jump_parts(positions: &[u32], setting: Setting) -> (Part, Part) {
     let mut first = Part::default();
     let mut second = Part::default();
-    let mut before = None;
-    for &position in positions {
-        let difference = match before {
-            Some(before) if position - before <= largest(setting.width) => position - before,
-            _ => 0,
-        };
+    let differences = differences(positions, setting.width);
+    for (&position, difference) in positions.iter().zip(differences) {
         if difference == 0 {
             first.push(position, 4);
         }
         second.push(difference, setting.width as usize);
-        before = Some(position);
     }
     (first, second)
+}
+
+/// Kind 6: the ranks of jump 0, n, 2n and so on, where n is the step. Rank 0 has jump 0.
+fn pointer_part(positions: &[u32], setting: Setting) -> Part {
+    let mut jump_ranks = Vec::new();
+    for (rank, difference) in (0u32..).zip(differences(positions, setting.width)) {
+        if difference == 0 {
+            jump_ranks.push(rank);
+        }
+    }
+    let mut pointers = Part::default();
+    for every_step in jump_ranks.chunks(setting.step as usize) {
+        pointers.push(every_step[0], 4);
+    }
+    pointers
+}
+
+/// Kinds 4 and 6: for each rank the cells from the one before, or 0 where they don't fit the
+/// width; 0 for rank 0.
+fn differences(positions: &[u32], width: u32) -> Vec<u32> {
+    let mut differences = Vec::new();
+    let mut before = None;
+    for &position in positions {
+        let difference = match before {
+            Some(before) if position - before <= largest(width) => position - before,
+            _ => 0,
+        };
+        differences.push(difference);
+        before = Some(position);
+    }
+    differences
 }
 
 /// Kind 5: the upper levels, top first, and level 0.

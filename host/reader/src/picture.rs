@@ -16,11 +16,12 @@ pub struct Rank(pub u32);
 /// Kind, width and step, as wide as a caller may hand them in.
 #[derive(Clone, Copy, Debug, PartialEq, Eq)]
 pub struct Setting {
-    /// The header kind, 1 to 5.
+    /// The header kind, 1 to 6.
     pub kind: u32,
-    /// Bytes of an offset or difference, in kinds 3 and 4.
+    /// Bytes of an offset or difference, in kinds 3, 4 and 6.
     pub width: u32,
-    /// Ranks for each base in kind 3, entries of a page in kind 5.
+    /// Ranks for each base in kind 3, entries of a page in kind 5, jumps for each pointer in kind
+    /// 6.
     pub step: u32,
 }
 
@@ -37,6 +38,7 @@ impl Setting {
             3 => (1..=2).contains(&self.width) && (1..=255).contains(&self.step),
             4 => (1..=2).contains(&self.width) && self.step == 0,
             5 => self.width == 0 && (2..=64).contains(&self.step),
+            6 => (1..=2).contains(&self.width) && (1..=255).contains(&self.step),
             _ => return Err(Refusal::Kind),
         };
         if allowed {

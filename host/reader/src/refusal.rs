@@ -5,7 +5,7 @@
 pub enum Refusal {
     /// The file is under 52 bytes.
     Short = 1,
-    /// The kind is not 1 to 5.
+    /// The kind is not 1 to 6.
     Kind = 2,
     /// Width or step is not allowed for the kind.
     Setting = 3,

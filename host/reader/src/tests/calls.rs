@@ -61,12 +61,14 @@ fn make_refuses_in_the_papers_order() {
         number(&make(setting, 1, &[extent, 1, 1, 1], 0, words, 0))
     };
     let unfit = stored_at(300, &[2, 258]);
-    assert_eq!(made(6, 9, 0, &[]), 2);
+    assert_eq!(made(7, 9, 0, &[]), 2);
+    assert_eq!(made(6, 9, 0, &[]), 3);
     assert_eq!(made(3, 9, 0, &[]), 3);
     assert_eq!(made(3, 1, 0, &[]), 4);
     assert_eq!(made(3, 1, 300, &[]), 7);
     assert_eq!(made(3, 1, 300, &unfit), 9);
     assert_eq!(made(3, 2, 300, &unfit), 10);
+    assert_eq!(made(6, 1, 300, &unfit), 10);
 }
 
 #[test]
@@ -84,12 +86,16 @@ fn the_second_file_is_judged_only_if_the_first_has_no_refusal() {
 
 #[test]
 fn shorter_names_the_first_on_equal_length() {
-    let [one, two, three, four, five] = sample_settings().map(sample);
+    let [one, two, three, four, five, six] = sample_settings().map(sample);
     assert_eq!(shorter(&one, &two), Ok(1));
     assert_eq!(shorter(&two, &one), Ok(0));
     assert_eq!(shorter(&four, &three), Ok(0));
     assert_eq!(shorter(&five, &four), Ok(1));
     assert_eq!(shorter(&one, &one), Ok(0));
+    // In the sample, kind 6 is 4 bytes longer than kind 4 and as long as kind 3.
+    assert_eq!(shorter(&six, &four), Ok(1));
+    assert_eq!(shorter(&six, &three), Ok(0));
+    assert_eq!(shorter(&three, &six), Ok(0));
     // One page of kind 5 is as long as kind 1.
     let page = sample(Setting::new(5, 0, 3));
     assert_eq!(page.len(), one.len());

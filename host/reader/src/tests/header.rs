@@ -30,7 +30,12 @@ fn the_product_never_wraps_in_a_file() {
 
 #[test]
 fn counts_are_compared_before_sizes() {
-    for (setting, at) in [((1, 0, 0), 28), ((4, 1, 0), 28), ((5, 0, 2), 32)] {
+    for (setting, at) in [
+        ((1, 0, 0), 28),
+        ((4, 1, 0), 28),
+        ((5, 0, 2), 32),
+        ((6, 1, 2), 28),
+    ] {
         let file = sample(Setting::new(setting.0, setting.1, setting.2));
         for claim in [u32::MAX, 1 << 29, 1 << 30, 1 << 31, 5, 13] {
             assert_eq!(checked(&with_field(&file, at, claim)), 5);
@@ -65,6 +70,14 @@ fn a_count_above_n_is_5_even_with_agreeing_offsets() {
     assert_eq!(checked(&file), 5);
     let file = raw(Setting::new(5, 0, 64), 12, none(), five, &[7, 9, 5, 300]);
     assert_eq!(checked(&file), 5);
+    let file = raw(
+        Setting::new(6, 1, 2),
+        12,
+        singles(&[2, 3, 5, 10, 11]),
+        pointed(&[0; 4], &[0, 2, 4]),
+        &[7, 9, 5, 300],
+    );
+    assert_eq!(checked(&file), 5);
 }
 
 #[test]
@@ -83,6 +96,11 @@ fn width_and_step_are_tested_before_they_are_used() {
     let file = sample(Setting::new(5, 0, 2));
     assert_eq!(checked(&with_byte(&file, 3, 0)), 3);
     assert_eq!(checked(&with_byte(&file, 3, 1)), 3);
+    let pointers = sample(Setting::new(6, 1, 2));
+    assert_eq!(checked(&with_byte(&pointers, 3, 0)), 3);
+    assert_eq!(checked(&with_byte(&pointers, 2, 0)), 3);
+    assert_eq!(checked(&with_byte(&pointers, 2, 3)), 3);
+    assert_eq!(line(Setting::new(6, 1, 0), &SAMPLE), Err(Refusal::Setting));
     assert_eq!(line(Setting::new(3, 1, 0), &SAMPLE), Err(Refusal::Setting));
     assert_eq!(line(Setting::new(5, 0, 1), &SAMPLE), Err(Refusal::Setting));
     assert_eq!(
@@ -101,6 +119,8 @@ fn the_settings_allowed() {
         (3, 2, 255),
         (4, 2, 0),
         (5, 0, 64),
+        (6, 1, 1),
+        (6, 2, 255),
     ] {
         assert_eq!(allowed(kind, width, step), 0);
     }
@@ -121,11 +141,16 @@ fn the_settings_allowed() {
         (4, 1, 1),
         (5, 1, 2),
         (5, 0, 1),
+        (6, 0, 1),
+        (6, 3, 1),
+        (6, 1, 0),
+        (6, 1, 256),
     ] {
         assert_eq!(allowed(kind, width, step), 3);
     }
     assert_eq!(allowed(0, 0, 0), 2);
-    assert_eq!(allowed(6, 1, 1), 2);
+    assert_eq!(allowed(7, 1, 1), 2);
+    assert_eq!(allowed(7, 0, 0), 2);
 }
 
 #[test]

@@ -22,6 +22,8 @@ fn every_kind_lists_the_same_ranks() {
 fn no_stored_cells_is_one_line() {
     let file = line(Setting::new(5, 0, 2), &[0; 12]).unwrap();
     assert_eq!(list(&file), "5 12 0\n");
+    let file = line(Setting::new(6, 1, 1), &[0; 12]).unwrap();
+    assert_eq!(list(&file), "6 12 0\n");
 }
 
 #[test]

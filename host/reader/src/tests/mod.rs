@@ -4,6 +4,8 @@ mod calls;
 mod header;
 mod lister;
 mod offsets;
+mod pointed_calls;
+mod pointers;
 mod readings;
 mod runs;
 mod sample;
@@ -18,14 +20,15 @@ const SAMPLE: [u32; 12] = [0, 0, 7, 9, 0, 5, 0, 0, 0, 0, 300, 0];
 /// A destination that is always long enough.
 const ROOM: usize = usize::MAX;
 
-/// The settings of M1 to M5.
-fn sample_settings() -> [Setting; 5] {
+/// The settings of M1 to M5, and one of kind 6.
+fn sample_settings() -> [Setting; 6] {
     [
         Setting::new(1, 0, 0),
         Setting::new(2, 0, 0),
         Setting::new(3, 1, 2),
         Setting::new(4, 1, 0),
         Setting::new(5, 0, 2),
+        Setting::new(6, 1, 2),
     ]
 }
 
@@ -95,6 +98,13 @@ fn pairs(pairs: &[(u32, u32)]) -> (u32, Vec<u8>) {
 /// A part of single bytes.
 fn bytes(bytes: &[u8]) -> (u32, Vec<u8>) {
     (bytes.len() as u32, bytes.to_vec())
+}
+
+/// Differences of one byte and the pointers behind them; the count is that of the differences.
+fn pointed(differences: &[u8], pointers: &[u32]) -> (u32, Vec<u8>) {
+    let mut part = bytes(differences);
+    part.1.extend(fours(pointers));
+    part
 }
 
 /// A copy of the file with another 4-byte number at an offset.

@@ -48,6 +48,9 @@ fn a3_a_free_count_with_agreeing_offsets_goes_on_to_6() {
     assert_eq!(checked(&file), 6);
     let file = raw(Setting::new(5, 0, 2), 12, none(), none(), &words);
     assert_eq!(checked(&file), 6);
+    let differences = pointed(&[0, 1, 2, 5], &[]);
+    let file = raw(Setting::new(6, 1, 2), 12, none(), differences, &words);
+    assert_eq!(checked(&file), 6);
 }
 
 #[test]
@@ -189,6 +192,8 @@ fn a16_settings_are_never_cut_to_a_byte() {
         (1, 256, 0),
         (4, 1, 256),
         (5, 0, 258),
+        (6, 257, 1),
+        (6, 1, 257),
     ] {
         let wanted = Setting::new(kind, width, step);
         assert_eq!(line(wanted, &SAMPLE), Err(Refusal::Setting));

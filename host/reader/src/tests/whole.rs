@@ -5,7 +5,7 @@ use crate::*;
 use std::collections::HashSet;
 
 /// Settings of every kind whose pages, groups and widths small pictures can fill.
-fn settings() -> [Setting; 11] {
+fn settings() -> [Setting; 16] {
     [
         (1, 0, 0),
         (2, 0, 0),
@@ -18,6 +18,11 @@ fn settings() -> [Setting; 11] {
         (5, 0, 2),
         (5, 0, 3),
         (5, 0, 64),
+        (6, 1, 1),
+        (6, 1, 2),
+        (6, 2, 1),
+        (6, 2, 3),
+        (6, 1, 255),
     ]
     .map(|(kind, width, step)| Setting::new(kind, width, step))
 }
