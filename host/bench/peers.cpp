@@ -12,7 +12,7 @@
 #include <sdsl/bit_vectors.hpp>
 
 static const u32 EXTENTS[4] = {16, 1024, 1024, 1};
-static const Setting TIMED[] = {{1, 0, 0}, {2, 0, 0}, {3, 2, 16}, {4, 1, 0}, {5, 0, 16}};
+static const Setting TIMED[] = {{1, 0, 0}, {2, 0, 0}, {3, 2, 16}, {4, 1, 0}, {5, 0, 16}, {6, 1, 16}};
 static const u32 NONE = 0xffffffff;
 
 // What is asked: positions, of which half are stored, and ranks.
@@ -76,7 +76,7 @@ static Store engine(Setting s, const vector<u32> &words, size_t stored, vector<u
   const size_t n = file.size();
   const auto rank = [f, n](u32 p) { const u64 a = ra_opened_rank(f, n, p); return RA_CODE(a) == 0 ? u32(RA_VALUE(a)) : NONE; };
   const auto position = [f, n](u32 r) { return u32(RA_VALUE(ra_opened_position(f, n, r))); };
-  return {"kind " + label(s), rank, position, n - 52 - 4 * stored, s.kind == 4 ? size_t(64) : size_t(1) << 16};
+  return {"kind " + label(s), rank, position, n - 52 - 4 * stored, s.kind == 4 || s.kind == 6 ? size_t(64) : size_t(1) << 16};
 }
 
 static Store roaring(const roaring_bitmap_t *b) {

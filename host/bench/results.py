@@ -14,7 +14,7 @@ Peer = namedtuple("Peer", "texture store rank position bytes")
 # sizes[texture][name] in bytes, cells or stored cells; `peers` is empty where they were not asked
 Run = namedtuple("Run", "bench sizes conditions peers")
 
-KIND = r"(\d(?: w\d+)?(?: [lb]\d+)?)"
+KIND = r"(\d(?: w\d+)?(?: [lbn]\d+)?)"
 TIME = r"(\d+\.\d{3})"
 RATIO = r"(\d+\.\d{2})"
 PICTURE = re.compile(r"(\w+): (\d+) cells, (\d+) stored$")
@@ -67,11 +67,11 @@ def read_means(text):
 
 
 def whole(rows, outer, inner):
-    """Refuses rows unless each value of the outer fields stands once with each value of the inner field."""
-    keys = [tuple(getattr(row, name) for name in outer) for row in rows]
-    wanted = {(key, getattr(row, inner)) for key in keys for row in rows}
-    if {(key, getattr(row, inner)) for key, row in zip(keys, rows)} != wanted or len(rows) != len(wanted):
-        raise Unfit(f"the lines do not give each {inner} once for each {' and '.join(outer)}")
+    """Refuses rows unless each value of the inner fields stands once with each value of the outer field."""
+    found = [(getattr(row, outer), tuple(getattr(row, name) for name in inner)) for row in rows]
+    wanted = {(one, other) for one, _ in found for _, other in found}
+    if set(found) != wanted or len(rows) != len(wanted):
+        raise Unfit(f"the lines do not give each {' and '.join(inner)} once for each {outer}")
 
 
 def read_bench(text):
@@ -85,8 +85,8 @@ def read_bench(text):
         raise Unfit(f"the two libraries differ: {mismatches} mismatches")
     if len(lines) != said or not growth:
         raise Unfit(f"read {len(lines)} lines of {said}, and {len(growth)} lines of growth")
-    whole(lines, ["texture", "kind"], "call")
-    whole(growth, ["kind", "call"], "who")
+    whole(lines, "texture", ["kind", "call"])
+    whole(growth, "who", ["kind", "call"])
     if {line.texture for line in lines} != set(pictures):
         raise Unfit("the lines are of other pictures than those announced")
     mean = float(only(MEAN, text)[0])
@@ -118,7 +118,7 @@ def read_sizes(text, pictures):
 def read_peers(text, pictures):
     """The stores of positions; each was asked on each picture that was timed."""
     peers = [Peer(texture, store, float(rank), float(position), int(size)) for texture, store, rank, position, size in read_fields(text, 5)]
-    whole(peers, ["texture"], "store")
+    whole(peers, "texture", ["store"])
     if {peer.texture for peer in peers} != set(pictures):
         raise Unfit("the peers were asked on other pictures than those timed")
     return peers

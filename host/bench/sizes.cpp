@@ -9,7 +9,7 @@
 #include <fstream>
 
 static const u32 EXTENTS[4] = {16, 1024, 1024, 1};
-static const Setting TIMED[] = {{1, 0, 0}, {2, 0, 0}, {3, 2, 16}, {4, 1, 0}, {4, 2, 0}, {5, 0, 16}};
+static const Setting TIMED[] = {{1, 0, 0}, {2, 0, 0}, {3, 2, 16}, {4, 1, 0}, {4, 2, 0}, {5, 0, 16}, {6, 1, 16}, {6, 2, 16}};
 
 struct Made { Setting setting; vector<u8> file; };
 

@@ -6,7 +6,7 @@ from results import Unfit, geometric_mean
 Group = namedtuple("Group", "name calls bounded")
 
 GROUPS = [
-    Group("reading", ["check", "expand", "opened rank", "opened position"], True),
+    Group("reading", ["check", "expand", "opened rank", "opened position", "opened cell"], True),
     Group("writing", ["make", "write", "change"], True),
     Group("box", ["box"], False),
 ]

@@ -19,12 +19,12 @@ def run(results):
 
 
 def ratios(results):
-    """The plot, and a row for each picture and kind with a column for each call."""
+    """The plot, and a row for each picture and kind with a column for each call; some calls are timed in some kinds alone."""
     lines = results.bench.lines
     calls = values(lines, "call")
-    by_key = {(line.texture, line.kind, line.call): line.ratio for line in lines}
+    by_key = {(line.texture, line.kind, line.call): f"{line.ratio:.2f}" for line in lines}
     keys = dict.fromkeys((line.texture, line.kind) for line in lines)
-    rows = [[texture, kind, *(f"{by_key[texture, kind, call]:.2f}" for call in calls)] for texture, kind in keys]
+    rows = [[texture, kind, *(by_key.get((texture, kind, call), "-") for call in calls)] for texture, kind in keys]
     alt = "The engine's time over the yardstick's for each call, picture and kind, on a logarithmic axis"
     return f"![{alt}](performance/ratios.svg)\n\n" + table(["Picture", "Kind", *calls], rows)
 

@@ -65,12 +65,12 @@ class Refusing(unittest.TestCase):
         self.refused("read 15 lines of 16", self.without("sea      1        check "))
 
     def test_growth_lost(self):
-        self.refused("each who once", self.without("1        make   copy"))
+        self.refused("each kind and call once for each who", self.without("1        make   copy"))
         self.refused("0 lines of growth", "\n".join(row for row in BENCH.splitlines() if not row.startswith(("1  ", "3 w2 "))))
 
     def test_line_twice(self):
         row = next(row for row in BENCH.splitlines() if row.startswith("sea      1        check "))
-        self.refused("each call once", BENCH.replace(row, row + "\n" + row).replace("16 lines", "17 lines"))
+        self.refused("each kind and call once for each texture", BENCH.replace(row, row + "\n" + row).replace("16 lines", "17 lines"))
 
     def test_other_picture(self):
         self.refused("other pictures", self.without("harbour: "))

@@ -1,4 +1,4 @@
-/* Every sample file cut anywhere, and with any byte or field changed, against a page without access. */
+/* Every sample file, and one of several pointers, cut anywhere, and with any byte or field changed, against a page without access. */
 #include "files.h"
 #include "harness.h"
 #include "tests.h"
@@ -65,14 +65,25 @@ static void changed_files(const uint8_t *file, size_t len, enum side side)
     release(count);
 }
 
+/* A file damaged in all ways, at either side. */
+static void damaged(const uint8_t *file, size_t len)
+{
+    for (int side = AT_END; side <= AT_START; side++) {
+        cut_files(file, len, (enum side)side);
+        changed_files(file, len, (enum side)side);
+    }
+}
+
 void damaged_files(void)
 {
-    for (int i = 0; i < 5; i++) {
-        uint8_t file[200];
+    uint8_t file[200];
+    for (int i = 0; i < KINDS; i++) {
         size_t len = sample(i, file);
-        for (int side = AT_END; side <= AT_START; side++) {
-            cut_files(file, len, (enum side)side);
-            changed_files(file, len, (enum side)side);
-        }
+        damaged(file, len);
+    }
+    for (uint32_t width = 1; width <= 2; width++) {
+        uint32_t words[1300] = {[1] = 7, [3] = 9, [300] = 5, [600] = 4, [601] = 3, [900] = 2, [1200] = 1, [1299] = 8};
+        EQUAL(make_line((struct setting){6, width, 2}, words, 1300, file, sizeof file), 0);
+        damaged(file, field(file, 48));
     }
 }

@@ -48,7 +48,7 @@ static void destinations_of(size_t room, struct setting s, const uint8_t *file, 
 
 void destinations(void)
 {
-    for (int i = 0; i < 5; i++) {
+    for (int i = 0; i < KINDS; i++) {
         uint8_t file[200];
         size_t len = sample(i, file);
         for (size_t room = 0; room <= len + 9; room++)

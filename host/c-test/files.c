@@ -7,10 +7,10 @@
 
 const uint32_t SAMPLE[12] = {0, 0, 7, 9, 0, 5, 0, 0, 0, 0, 300, 0};
 const uint32_t LINE_12[4] = {12, 1, 1, 1};
-const struct setting SETTINGS[5] = {{1, 0, 0}, {2, 0, 0}, {3, 1, 2}, {4, 1, 0}, {5, 0, 2}};
+const struct setting SETTINGS[KINDS] = {{1, 0, 0}, {2, 0, 0}, {3, 1, 2}, {4, 1, 0}, {5, 0, 2}, {6, 1, 2}};
 
 /* The lengths of the sample's files. */
-static const size_t LENGTHS[5] = {92, 84, 80, 76, 108};
+static const size_t LENGTHS[KINDS] = {92, 84, 80, 76, 108, 80};
 
 uint32_t field(const uint8_t *file, size_t at)
 {

@@ -15,8 +15,11 @@ extern const uint32_t SAMPLE[12];
 /* The extents of a line of 12 cells. */
 extern const uint32_t LINE_12[4];
 
-/* The settings of M1 to M5. */
-extern const struct setting SETTINGS[5];
+/* The kinds. */
+enum { KINDS = 6 };
+
+/* The settings of M1 to M5, and one of kind 6. */
+extern const struct setting SETTINGS[KINDS];
 
 /* The 4-byte number at an offset, lowest byte first. */
 uint32_t field(const uint8_t *file, size_t at);

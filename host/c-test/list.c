@@ -68,7 +68,7 @@ static void change_setting(struct setting wanted, size_t room)
 
 void writes_and_changes(void)
 {
-    static const struct setting more[4] = {{3, 2, 255}, {5, 0, 64}, {4, 2, 0}, {3, 1, 1}};
+    static const struct setting more[6] = {{3, 2, 255}, {5, 0, 64}, {4, 2, 0}, {3, 1, 1}, {6, 1, 1}, {6, 2, 255}};
     setting = SETTINGS[0];
     EQUAL(make_line(setting, words, CELLS, file, ROOM), 0);
     for (int step = 0; step < 3000; step++) {
@@ -80,8 +80,8 @@ void writes_and_changes(void)
         if (writes) {
             write_cell(p, word, room);
         } else {
-            uint32_t which = below(9);
-            change_setting(which < 5 ? SETTINGS[which] : more[which - 5], room);
+            uint32_t which = below(KINDS + 6);
+            change_setting(which < KINDS ? SETTINGS[which] : more[which - KINDS], room);
         }
     }
     reads_as(file, field(file, 48), words, CELLS);

@@ -25,7 +25,7 @@ void numbers_by_their_words(void)
     uint8_t file[200], other[200], dst[200];
     size_t len = sample(1, file);
     EQUAL(ra_check(file, 51), RA_SHORT);
-    EQUAL(ra_change(file, len, 6, 0, 0, dst, 200), RA_KIND);
+    EQUAL(ra_change(file, len, 7, 0, 0, dst, 200), RA_KIND);
     EQUAL(ra_change(file, len, 2, 1, 0, dst, 200), RA_SETTING);
     EQUAL(ra_make(2, 0, 0, 5, LINE_12, 4, 0, SAMPLE, 12, dst, 200), RA_EXTENT);
     EQUAL(ra_check(file, len - 1), RA_COUNTS);

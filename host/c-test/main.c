@@ -25,6 +25,10 @@ int main(void)
     boxes_and_ranks();
     two_files();
     writes_and_changes();
+    pointers_of_steps();
+    false_pointers();
+    other_counts_of_pointers();
+    pointers_in_a_list();
     damaged_files();
     return report();
 }

@@ -61,7 +61,7 @@ void boxes_and_ranks(void)
     uint8_t file[400];
     for (uint32_t p = 0; p < 12; p++)
         words[p] = 3 * (p % 5);
-    for (int i = 0; i < 5; i++) {
+    for (int i = 0; i < KINDS; i++) {
         struct setting s = SETTINGS[i];
         EQUAL(ra_make(s.kind, s.width, s.step, 2, EXTENTS, 4, 0, words, 12, file, sizeof file), 0);
         size_t len = field(file, 48);
@@ -76,8 +76,8 @@ void boxes_and_ranks(void)
 void two_files(void)
 {
     uint8_t a[200], b[200];
-    for (int i = 0; i < 5; i++) {
-        for (int j = 0; j < 5; j++) {
+    for (int i = 0; i < KINDS; i++) {
+        for (int j = 0; j < KINDS; j++) {
             size_t a_len = sample(i, a), b_len = sample(j, b);
             EQUAL(ra_shorter(a, a_len, b, b_len), given(b_len < a_len));
             b[b_len - 1] ^= 1;

@@ -12,9 +12,12 @@ void refusals_of_make(void)
     static const uint32_t wraps[4] = {65536, 65536, 65536, 65536};
     uint8_t file[100];
     EQUAL(ra_make(0, 9, 9, 9, wrong, 4, 0, SAMPLE, 3, file, 0), 2);
-    EQUAL(ra_make(6, 9, 9, 9, wrong, 4, 0, SAMPLE, 3, file, 0), 2);
+    EQUAL(ra_make(7, 9, 9, 9, wrong, 4, 0, SAMPLE, 3, file, 0), 2);
     EQUAL(ra_make(257, 0, 0, 1, LINE_12, 4, 0, SAMPLE, 12, file, 100), 2);
     EQUAL(ra_make(3, 257, 1, 9, wrong, 4, 0, SAMPLE, 3, file, 0), 3);
+    EQUAL(ra_make(6, 1, 0, 9, wrong, 4, 0, SAMPLE, 3, file, 0), 3);
+    EQUAL(ra_make(6, 1, 256, 9, wrong, 4, 0, SAMPLE, 3, file, 0), 3);
+    EQUAL(ra_make(6, 0, 1, 9, wrong, 4, 0, SAMPLE, 3, file, 0), 3);
     EQUAL(ra_make(1, 0, 0, 1, wrong, 4, 0, SAMPLE, 3, file, 0), 4);
     EQUAL(ra_make(1, 0, 0, 4, wraps, 4, 0, SAMPLE, 0, file, 0), 4);
     EQUAL(ra_make(1, 0, 0, 1, LINE_12, 3, 0, SAMPLE, 12, file, 100), 4);
@@ -38,6 +41,9 @@ void refusals_of_write_and_change(void)
     EQUAL(ra_change(file, len, 3, 0, 1, dst, 0), 3);
     EQUAL(ra_change(file, len, 3, 257, 1, dst, 200), 3);
     EQUAL(ra_change(file, len, 5, 0, 258, dst, 200), 3);
+    EQUAL(ra_change(file, len, 6, 3, 2, dst, 200), 3);
+    EQUAL(ra_change(file, len, 6, 1, 258, dst, 200), 3);
+    EQUAL(ra_change(file, len, 6, 1, 2, dst, 79), 10);
     EQUAL(ra_change(file, len, 1, 0, 0, dst, 91), 10);
     words[2] = 7;
     EQUAL(make_line(SETTINGS[2], words, 300, file, 200), 0);
@@ -57,7 +63,7 @@ static size_t damage_for(uint8_t *file, size_t len, uint32_t number)
 {
     switch (number) {
     case 1: return 51;
-    case 2: file[0] = 6; break;
+    case 2: file[0] = 7; break;
     case 3: file[3] = 1; break;
     case 4: set_field(file, 8, 0); break;
     case 5: set_field(file, 48, 91); break;

@@ -3,12 +3,12 @@
 #include "harness.h"
 #include "tests.h"
 
-/* M1 to M8. */
+/* M1 to M8, and the sample in kind 6. */
 void sample_files(void)
 {
-    static const uint32_t first[5][6] = {{3, 2, 5, 3, 10, 7}, {2, 3, 5, 10}, {2, 5}, {2}, {6, 3, 11, 7}};
-    static const size_t first_count[5] = {6, 4, 2, 1, 4};
-    for (int i = 0; i < 5; i++) {
+    static const uint32_t first[KINDS][6] = {{3, 2, 5, 3, 10, 7}, {2, 3, 5, 10}, {2, 5}, {2}, {6, 3, 11, 7}, {2}};
+    static const size_t first_count[KINDS] = {6, 4, 2, 1, 4, 1};
+    for (int i = 0; i < KINDS; i++) {
         uint8_t file[200];
         size_t len = sample(i, file);
         for (size_t k = 0; k < first_count[i]; k++)

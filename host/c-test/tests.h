@@ -31,6 +31,12 @@ void two_files(void);
 /* list.c */
 void writes_and_changes(void);
 
+/* pointed.c */
+void pointers_of_steps(void);
+void false_pointers(void);
+void other_counts_of_pointers(void);
+void pointers_in_a_list(void);
+
 /* damage.c */
 void damaged_files(void);
 

@@ -20,7 +20,8 @@ def settings_by_chance(chance):
     """Settings of all kinds and widths, with low steps and any steps."""
     return [(1, 0, 0), (2, 0, 0), (4, 1, 0), (4, 2, 0),
             (3, 1, chance.choice((1, 2, 3, 255))), (3, 2, chance.randrange(1, 256)),
-            (5, 0, chance.randrange(2, 5)), (5, 0, chance.choice((64, chance.randrange(2, 65))))]
+            (5, 0, chance.randrange(2, 5)), (5, 0, chance.choice((64, chance.randrange(2, 65)))),
+            (6, 1, chance.choice((1, 2, 3, 255))), (6, 2, chance.randrange(1, 256))]
 
 
 def picture_by_chance(chance):

@@ -4,7 +4,7 @@ import itertools
 from layout import file_of, put, raw
 from page import SETTINGS, STORED, TOP, listed
 
-ONE, TWO, THREE, FOUR, FIVE = SETTINGS
+ONE, TWO, THREE, FOUR, FIVE, SIX = SETTINGS
 
 
 def in_runs():
@@ -117,6 +117,44 @@ def in_paged_runs():
     return cases
 
 
+def in_pointed_jumps():
+    """Kind 6."""
+
+    def pointed(n, pointers, jumps=(1, 300, 600, 900, 1200), differences=(0, 2, 0, 0, 1, 0, 0), width=1):
+        words = [7] * len(differences)
+        return raw((6, width, n), len(jumps), len(differences), jumps, differences, words, 1, (1300, 1, 1, 1), pointers=pointers)
+
+    right = {1: [0, 2, 3, 5, 6], 2: [0, 3, 6], 3: [0, 5], 5: [0], 255: [0]}
+    cases = [("kind 6: as it should be, step %d" % n, pointed(n, pointers), 0) for n, pointers in right.items()]
+    cases += [
+        ("kind 6: the sample", raw(SIX, 1, 4, [2], [0, 1, 2, 5], STORED, pointers=[0]), 0),
+        ("kind 6: the sample's pointer is 1", raw(SIX, 1, 4, [2], [0, 1, 2, 5], STORED, pointers=[1]), 6),
+        ("kind 6: pointers are positions", pointed(1, [1, 300, 600, 900, 1200]), 6),
+        ("kind 6: pointers are numbers of jumps", pointed(2, [0, 2, 4]), 6),
+        ("kind 6: pointers of the jumps after", pointed(2, [2, 5, 6]), 6),
+        ("kind 6: pointers not rising", pointed(2, [0, 6, 3]), 6),
+        ("kind 6: a pointer at N", pointed(2, [0, 3, 7]), 6),
+        ("kind 6: the largest pointer", pointed(2, [0, 3, TOP]), 6),
+        ("kind 6: pointers of step 2 with step 3, as many", pointed(3, [0, 3]), 6),
+        ("kind 6: a jump where the difference fits", pointed(1, [0, 1], [1, 3], [0, 0, 1]), 6),
+        ("kind 6: a difference of 0 with no jump left", pointed(1, [0], [1], [0, 2, 0]), 6),
+        ("kind 6: a difference of 0 with a pointer and no jump", pointed(2, [0], [1], [0, 2, 0]), 6),
+        ("kind 6: a jump left over", pointed(1, [0, 2, 3], [1, 300, 600], [0, 2, 0]), 6),
+        ("kind 6: no jump", pointed(1, [], [], [1, 2, 1]), 6),
+        ("kind 6: a first difference other than 0", pointed(1, [1], [5], [2, 0, 1]), 6),
+        ("kind 6: a position at cells", pointed(1, [0, 2], [1, 1300], [0, 2, 0]), 6),
+        ("kind 6, width 2", pointed(1, [0], [1], [0, 2, 297], 2), 0),
+        ("kind 6, width 2: a jump where the difference fits", pointed(1, [0, 2], [1, 300], [0, 2, 0], 2), 6),
+        ("kind 6, width 2: a false pointer", pointed(3, [1], [1], [0, 2, 297], 2), 6),
+    ]
+    for n, pointers in right.items():
+        for i, change in itertools.product(range(len(pointers)), (-1, 1, 2 ** 8, 2 ** 24)):
+            other = [pointer + change * (k == i) for k, pointer in enumerate(pointers)]
+            if other[i] >= 0:
+                cases.append(("kind 6: step %d, pointer %d changed by %d" % (n, i, change), pointed(n, other), 6))
+    return cases
+
+
 def in_words(samples):
     """E among the stored words."""
     cases = []
@@ -130,4 +168,5 @@ def in_words(samples):
 
 def bodies(page):
     """number 6"""
-    listed(page, in_runs() + in_positions() + in_bases_and_offsets() + in_jumps() + in_paged_runs() + in_words(page.samples))
+    listed(page, in_runs() + in_positions() + in_bases_and_offsets() + in_jumps() + in_paged_runs() + in_pointed_jumps())
+    listed(page, in_words(page.samples))

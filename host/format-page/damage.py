@@ -12,19 +12,20 @@ def bytes_changed(chance, data, low, high):
 
 
 def entry_more_or_less(chance, data):
-    """A part or the words with one entry doubled or left out; count, offsets and length agree with the bytes."""
-    kind, width = data[0], data[2]
+    """A part, the words or the pointers with one entry doubled or left out; count, offsets and length agree with the bytes."""
+    kind, width, step = data[0], data[2], data[3]
     stored, count1, count2, first, second, words, length = struct.unpack_from("<7I", data, 24)
-    sizes = (8 if kind in (1, 5) else 4, 8 if kind == 5 else width, 4)
-    counts, places = [count1, count2, stored], [first, second, words, length]
+    pointers = -(-count1 // step) if kind == 6 else 0  # in the second part, and in no count
+    sizes = (8 if kind in (1, 5) else 4, 8 if kind == 5 else width, 4, 4)
+    counts, places = [count1, count2, pointers, stored], [first, second, words - 4 * pointers, words, length]
     if stored == 0:
         return data
-    part = chance.choice([part for part in range(3) if counts[part] > 0])
+    part = chance.choice([part for part in range(4) if counts[part] > 0])
     size, more = sizes[part], chance.choice((-1, 1))
     at = places[part] + size * chance.randrange(counts[part])
     counts[part] += more
     places[part + 1:] = [place + more * size for place in places[part + 1:]]
-    header = data[:24] + struct.pack("<7I", counts[2], counts[0], counts[1], *places)
+    header = data[:24] + struct.pack("<7I", counts[3], counts[0], counts[1], *places[:2], *places[3:])
     return header + data[52:at] + data[at:at + size] * (1 + more) + data[at + size:]
 
 

@@ -10,10 +10,10 @@ from page import SAMPLE, SETTINGS, STORED, TOP, listed
 def kinds_and_settings(page):
     """numbers 2 and 3"""
     for k, data in enumerate(page.samples, 1):
-        listed(page, [("m%d: kind %d" % (k, kind), put(data, 0, kind, 1), 2) for kind in (0, 6, 7, 8, 17, 129, 255)])
+        listed(page, [("m%d: kind %d" % (k, kind), put(data, 0, kind, 1), 2) for kind in (0, 7, 8, 9, 17, 129, 255)])
         for width, step in itertools.product((0, 1, 2, 3, 4, 255), (0, 1, 2, 3, 63, 64, 65, 254, 255)):
             allowed = {1: width == 0 and step == 0, 2: width == 0 and step == 0, 3: width in (1, 2) and step > 0,
-                       4: width in (1, 2) and step == 0, 5: width == 0 and 2 <= step <= 64}[k]
+                       4: width in (1, 2) and step == 0, 5: width == 0 and 2 <= step <= 64, 6: width in (1, 2) and step > 0}[k]
             got = page.number(put(put(data, 2, width, 1), 3, step, 1))
             expect(got != 3 if allowed else got == 3, "m%d: width %d, step %d gives" % (k, width, step), got)
     expect(page.number(file_of(SAMPLE, (5, 0, 64))) == 0, "step 64 in kind 5")
@@ -48,7 +48,7 @@ def counts(page):
             for new in {old - 1, old + 1, old + 4, old + 8, 0, 2 ** 29, 2 ** 30, 2 ** 31, TOP} - {old, -1}:
                 listed(page, [("m%d: field at %d set to %d" % (k, at, new), put(data, at, new), 5)])
     runs, above, level0 = [3, 2, 5, 3, 10, 7], [6, 3, 11, 7], [4, 2, 6, 3, 5, 4]
-    one, two, three, four, five = SETTINGS
+    one, two, three, four, five, six = SETTINGS
     many = list(range(13))
     shifted = put(put(put(put(page.samples[0], 36, 56), 40, 80), 44, 80), 48, 96)
     listed(page, [
@@ -57,6 +57,7 @@ def counts(page):
         ("N 13 of 12 cells, kind 3", raw(three, 7, 13, many[::2], [0, 1] * 6 + [0], [1] * 13), 5),
         ("N 13 of 12 cells, kind 4", raw(four, 1, 13, [0], [0] + [1] * 12, [1] * 13), 5),
         ("N 13 of 12 cells, kind 5", raw(five, 0, 1, [], [13, 0], [1] * 13), 5),
+        ("N 13 of 12 cells, kind 6", raw(six, 1, 13, [0], [0] + [1] * 12, [1] * 13, pointers=[0]), 5),
         ("5 runs, N 4", raw(one, 5, 0, runs + [11, 8, 11, 8], [], STORED), 5),
         ("1 run, N 0", raw(one, 1, 0, [11, 12], [], []), 5),
         ("a second part in kind 1", raw(one, 3, 1, runs, [0], STORED), 5),
@@ -73,6 +74,14 @@ def counts(page):
         ("a jump, N 0", raw(four, 1, 0, [0], [], []), 5),
         ("3 differences, N 4", raw(four, 1, 3, [2], [0, 1, 2], STORED), 5),
         ("5 differences, N 4", raw(four, 1, 5, [2], [0, 1, 2, 5, 1], STORED), 5),
+        ("5 jumps in kind 6, N 4", raw(six, 5, 4, [2, 3, 5, 10, 11], [0] * 4, STORED, pointers=[0, 2, 4]), 5),
+        ("a jump and its pointer, N 0", raw(six, 1, 0, [0], [], [], pointers=[0]), 5),
+        ("a pointer, N 0", raw(six, 0, 0, [], [], [], pointers=[0]), 5),
+        ("3 differences in kind 6, N 4", raw(six, 1, 3, [2], [0, 1, 2], STORED, pointers=[0]), 5),
+        ("no pointer for 1 jump", raw(six, 1, 4, [2], [0, 1, 2, 5], STORED), 5),
+        ("2 pointers for 1 jump", raw(six, 1, 4, [2], [0, 1, 2, 5], STORED, pointers=[0, 0]), 5),
+        ("1 pointer for 3 jumps at step 2", raw(six, 3, 4, [2, 3, 5], [0, 0, 0, 5], STORED, pointers=[0]), 5),
+        ("3 pointers for 3 jumps at step 2", raw(six, 3, 4, [2, 3, 5], [0, 0, 0, 5], STORED, pointers=[0, 1, 2]), 5),
         ("5 runs in kind 5, N 4", raw(five, 5, 5, [0] * 10, [0] * 10, STORED), 5),
         ("no upper level", raw(five, 0, 3, [], level0, STORED), 5),
         ("1 upper entry for 2", raw(five, 1, 3, above[:2], level0, STORED), 5),
@@ -87,11 +96,13 @@ def counts(page):
 
 def free_counts(page):
     """a count that is free up to N, and false, is 6"""
-    one, _, _, four, five = SETTINGS
+    one, _, _, four, five, six = SETTINGS
     cases = []
     for v in range(5):
         cases.append(("kind 1: %d runs of 0" % v, raw(one, v, 0, [0, 0] * v, [], STORED), 6))
         cases.append(("kind 4: %d jumps" % v, raw(four, v, 4, [2, 3, 5, 10][:v], [0, 1, 2, 5], STORED), 0 if v == 1 else 6))
+        pointers = [0, 2][:-(-v // 2)]
+        cases.append(("kind 6: %d jumps" % v, raw(six, v, 4, [2, 3, 5, 10][:v], [0, 1, 2, 5], STORED, pointers=pointers), 0 if v == 1 else 6))
         above = {3: 2, 4: 2}.get(v, 0)
         cases.append(("kind 5: %d runs of 0" % v, raw(five, above, v, [0, 0] * above, [0, 0] * v, STORED), 6))
     listed(page, cases)

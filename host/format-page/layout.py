@@ -2,11 +2,12 @@
 import struct
 
 
-def raw(setting, c1, c2, part1, part2, words, dims=1, extents=(12, 1, 1, 1), empty=0, n=None):
-    """A file with these counts, parts and words, whose offsets and length agree with the bytes."""
+def raw(setting, c1, c2, part1, part2, words, dims=1, extents=(12, 1, 1, 1), empty=0, n=None, pointers=()):
+    """A file with these counts, parts, pointers and words, whose offsets and length agree with the bytes."""
     kind, width, step = setting
     a = struct.pack("<%dI" % len(part1), *part1)
     b = struct.pack("<%d%s" % (len(part2), {0: "I", 1: "B", 2: "H"}[width]), *part2)
+    b += struct.pack("<%dI" % len(pointers), *pointers)
     w = struct.pack("<%dI" % len(words), *words)
     second, at = 52 + len(a), 52 + len(a) + len(b)
     n = len(words) if n is None else n
@@ -48,7 +49,7 @@ def file_of(words, setting, dims=1, extents=None, empty=0):
     extents = extents or (len(words), 1, 1, 1)
     at = [p for p, word in enumerate(words) if word != empty]
     kept = [words[p] for p in at]
-    part1, part2, per_entry = [], [], 1
+    part1, part2, pointers, per_entry = [], [], [], 1
     if kind == 1:
         per_entry = 2
         for run in runs_of(words, empty):
@@ -62,13 +63,15 @@ def file_of(words, setting, dims=1, extents=None, empty=0):
             if p - part1[-1] > 256 ** width - 1:
                 return None
             part2.append(p - part1[-1])
-    elif kind == 4:
+    elif kind in (4, 6):
         for r, p in enumerate(at):
             if r > 0 and p - at[r - 1] <= 256 ** width - 1:
                 part2.append(p - at[r - 1])
-            else:
-                part2.append(0)
-                part1.append(p)
+                continue
+            if kind == 6 and len(part1) % step == 0:
+                pointers.append(r)
+            part2.append(0)
+            part1.append(p)
     else:
         per_entry = 2
         levels = levels_of(runs_of(words, empty), step)
@@ -77,7 +80,7 @@ def file_of(words, setting, dims=1, extents=None, empty=0):
                 part1 += entry
         for entry in levels[0]:
             part2 += entry
-    return raw(setting, len(part1) // per_entry, len(part2) // per_entry, part1, part2, kept, dims, extents, empty)
+    return raw(setting, len(part1) // per_entry, len(part2) // per_entry, part1, part2, kept, dims, extents, empty, None, pointers)
 
 
 def put(data, at, value, size=4):

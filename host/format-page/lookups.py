@@ -1,8 +1,10 @@
 """The page's coordinates, searches and readings of runs, written out as its sentences say them."""
+import bisect
 import itertools
+import struct
 
 from counting import Together
-from layout import levels_of, runs_of
+from layout import file_of, levels_of, runs_of
 
 
 def coordinates(page):
@@ -61,3 +63,50 @@ def lookups(page):
                 levels = levels_of(runs, b)
                 in_levels([rank_by_levels(levels, b, p) for p in range(11)] == ranks, "b", b, words)
                 reading(read_level0(levels[0], b) == at, "b", b, words)
+
+
+def pointed_lookups(page):
+    """the page's searches in kind 6, taken by the word"""
+    def parts(data):
+        stored, jumps, _, first, second, words = struct.unpack_from("<6I", data, 24)
+        differences = list(data[second:second + stored])
+        return [list(struct.unpack("<%dI" % (len(part) // 4), part)) for part in (data[first:second], data[second + stored:words])] + [differences]
+
+    def rank_at(p, n, jumps, pointers, differences):
+        j = bisect.bisect_right(jumps, p) - 1
+        if j < 0:
+            return None
+        rank = pointers[j // n]
+        for _ in range(j % n):
+            rank = differences.index(0, rank + 1)
+        position = jumps[j]
+        while position < p and rank + 1 < len(differences) and differences[rank + 1] != 0:
+            rank += 1
+            position += differences[rank]
+        return rank if position == p else None
+
+    def position_of(rank, n, jumps, pointers, differences):
+        k = bisect.bisect_right(pointers, rank) - 1
+        at, jump, position = pointers[k], k * n, jumps[k * n]
+        while at < rank:
+            at += 1
+            if differences[at] == 0:
+                jump += 1
+                position = jumps[jump]
+            else:
+                position += differences[at]
+        return position
+
+    gaps = (1, 255, 256)
+    with Together("kind 6, rank") as ranked, Together("kind 6, position") as placed:
+        for count in range(1, 6):
+            for row in itertools.product(gaps, repeat=count):
+                stored = list(itertools.accumulate(row))
+                words = [int(p in stored) for p in range(stored[-1] + 3)]
+                for n in (1, 2, 3, 255):
+                    jumps, pointers, differences = parts(file_of(words, (6, 1, n)))
+                    for p in sorted({p + more for p in [0] + stored for more in (-1, 0, 1)} - {-1}):
+                        rank = stored.index(p) if p in stored else None
+                        ranked(rank_at(p, n, jumps, pointers, differences) == rank, stored, "step", n, "position", p)
+                    for rank, p in enumerate(stored):
+                        placed(position_of(rank, n, jumps, pointers, differences) == p, stored, "step", n, "rank", rank)

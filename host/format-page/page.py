@@ -8,7 +8,7 @@ from counting import expect
 ROOT = pathlib.Path(__file__).resolve().parent.parent.parent
 SAMPLE = [0, 0, 7, 9, 0, 5, 0, 0, 0, 0, 300, 0]
 STORED = [7, 9, 5, 300]
-SETTINGS = [(1, 0, 0), (2, 0, 0), (3, 1, 2), (4, 1, 0), (5, 0, 2)]  # kind, width, step of m1 to m5
+SETTINGS = [(1, 0, 0), (2, 0, 0), (3, 1, 2), (4, 1, 0), (5, 0, 2), (6, 1, 2)]  # kind, width, step of m1 to m6
 TOP = 2 ** 32 - 1
 
 
@@ -17,7 +17,7 @@ class Page:
 
     def __init__(self, folder):
         self.text = (ROOT / "docs" / "FORMAT.md").read_text(encoding="utf-8")
-        self.samples = [(ROOT / "samples" / ("m%d.radar" % k)).read_bytes() for k in range(1, 6)]
+        self.samples = [(ROOT / "samples" / ("m%d.radar" % k)).read_bytes() for k in range(1, 7)]
         blocks = re.findall(r"^```python\n(.*?)^```$", self.text, re.M | re.S)
         expect(len(blocks) == 1, "the page has", len(blocks), "blocks of Python")
         self.reader = blocks[-1]

@@ -21,7 +21,8 @@ def random_pictures(page):
             words.append(chance.choice((0, 1, 2, 300, 65536, TOP)) if stored else empty)
         with Together(sizes, "E", empty) as each:
             for setting in ((1, 0, 0), (2, 0, 0), (3, 2, chance.randrange(1, 256)), (3, 1, chance.randrange(1, 6)), (4, 1, 0),
-                            (4, 2, 0), (5, 0, chance.randrange(2, 65)), (5, 0, chance.randrange(2, 5))):
+                            (4, 2, 0), (5, 0, chance.randrange(2, 65)), (5, 0, chance.randrange(2, 5)),
+                            (6, 1, chance.randrange(1, 4)), (6, 2, chance.randrange(1, 256))):
                 data = file_of(words, setting, dims, sizes, empty)
                 if data is not None:
                     each(page.number(data) == 0 and page.words(data) == words, setting)

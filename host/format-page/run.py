@@ -18,7 +18,7 @@ from counting import Tally, failure
 from further_cases import large_pictures, named_cases
 from header_errors import counts, extents, free_counts, kinds_and_settings, order
 from lister_output import lister
-from lookups import coordinates, lookups
+from lookups import coordinates, lookups, pointed_lookups
 from page import Page
 from pictures_by_chance import random_pictures
 from samples import hexadecimal, reader_form, sample_files
@@ -26,8 +26,8 @@ from small_pictures import all_patterns, small_bodies
 
 SECONDS = 120
 GROUPS = [hexadecimal, reader_form, sample_files, byte_changes, body_bytes, lengths, kinds_and_settings, extents, counts, free_counts,
-          bodies, order, small_bodies, all_patterns, random_pictures, named_cases, coordinates, lookups, lister, large_pictures,
-          beside_engine.files]
+          bodies, order, small_bodies, all_patterns, random_pictures, named_cases, coordinates, lookups, pointed_lookups, lister,
+          large_pictures, beside_engine.files]
 
 
 class OutOfTime(BaseException):

@@ -11,7 +11,7 @@ from page import SAMPLE, SETTINGS, STORED
 def hexadecimal(page):
     """the page's hexadecimal is the samples"""
     blocks = dict(re.findall(r"^```text\n(m\d)\.radar\n(.*?)^```", page.text, re.M | re.S))
-    expect(sorted(blocks) == ["m1", "m2", "m3", "m4", "m5"], "blocks", sorted(blocks))
+    expect(sorted(blocks) == ["m1", "m2", "m3", "m4", "m5", "m6"], "blocks", sorted(blocks))
     for k, data in enumerate(page.samples, 1):
         made = b""
         for line in blocks.get("m%d" % k, "").splitlines():
@@ -22,9 +22,9 @@ def hexadecimal(page):
 
 
 def reader_form(page):
-    """the reader has about 150 lines of plain Python, standard library only"""
+    """the reader has about 160 lines of plain Python, standard library only"""
     lines = page.reader.splitlines()
-    expect(len(lines) <= 160, "lines:", len(lines))
+    expect(len(lines) <= 170, "lines:", len(lines))
     expect(max(map(len, lines)) <= 100, "longest line:", max(map(len, lines)))
     nodes = list(ast.walk(ast.parse(page.reader)))
     imported = {alias.name for node in nodes if isinstance(node, ast.Import) for alias in node.names}

@@ -18,7 +18,7 @@ struct file {
 };
 
 static uint32_t words[CELLS], none[CELLS];
-static struct file kind1, kind2, kind3, kind4w1, kind4w2;
+static struct file kind1, kind2, kind3, kind4w1, kind4w2, kind6w1, kind6w2;
 static uint8_t *ours, *theirs;
 
 static double now(void)
@@ -87,6 +87,8 @@ static int check_2(int engine) { return engine ? engine_check(kind2) : check_pos
 static int check_3(int engine) { return engine ? engine_check(kind3) : check_offsets(kind3.bytes); }
 static int check_4w1(int engine) { return engine ? engine_check(kind4w1) : check_jumps_1(kind4w1.bytes); }
 static int check_4w2(int engine) { return engine ? engine_check(kind4w2) : check_jumps_2(kind4w2.bytes); }
+static int check_6w1(int engine) { return engine ? engine_check(kind6w1) : check_jumps_1(kind6w1.bytes); }
+static int check_6w2(int engine) { return engine ? engine_check(kind6w2) : check_jumps_2(kind6w2.bytes); }
 
 static int position_4w1(int engine)
 {
@@ -129,6 +131,8 @@ static const struct line lines[] = {
     {"check, kind 3 w2 l16", check_3, 2.5},
     {"check, kind 4 w1", check_4w1, 2},
     {"check, kind 4 w2", check_4w2, 2},
+    {"check, kind 6 w1 n16", check_6w1, 2},
+    {"check, kind 6 w2 n16", check_6w2, 2},
     {"opened position, kind 4 w1", position_4w1, 2.5},
     {"opened position, kind 4 w2", position_4w2, 2.5},
     {"change, kind 2 to 3 w2 l16", change_2_3, 3.5},
@@ -165,6 +169,8 @@ int main(void)
     kind3 = made(3, 2, 16);
     kind4w1 = made(4, 1, 0);
     kind4w2 = made(4, 2, 0);
+    kind6w1 = made(6, 1, 16);
+    kind6w2 = made(6, 2, 16);
     for (size_t i = 0; i < sizeof lines / sizeof *lines; i++) {
         double r = ratio(&lines[i]);
         for (int again = 1; again < TRIES && r > lines[i].bound; again++)

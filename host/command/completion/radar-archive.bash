@@ -22,7 +22,7 @@ _radar_archive() {
 
     case $before in
         --kind)
-            COMPREPLY=($(compgen -W "runs positions base-offset jumps paged-runs" -- "$word"))
+            COMPREPLY=($(compgen -W "runs positions base-offset jumps paged-runs pointed-jumps" -- "$word"))
             return
             ;;
         --width)

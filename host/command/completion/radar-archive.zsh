@@ -55,9 +55,9 @@ _radar-archive_command() { # NAMES -- OPERANDS
         --list     '--list=[the text that list prints]:file:_files'
         --dims     '--dims=[the extents]:extents, as 16x1024x1024: '
         --empty    '--empty=[the empty word]:word: '
-        --kind     '--kind=[the kind]:kind:(runs positions base-offset jumps paged-runs)'
+        --kind     '--kind=[the kind]:kind:(runs positions base-offset jumps paged-runs pointed-jumps)'
         --width    '--width=[bytes of an offset or difference]:bytes:(1 2)'
-        --step     '--step=[the step of kinds 3 and 5]:step: '
+        --step     '--step=[the step of kinds 3, 5 and 6]:step: '
         --max-length '--max-length=[refuse a longer file]:bytes: '
     )
     local -a specifications

@@ -42,7 +42,7 @@ fn disallowed(setting: Setting) -> String {
     let Setting { kind, width, step } = setting;
     let wanted = match kind {
         Kind::Runs | Kind::Positions => "no --width and no --step",
-        Kind::BaseOffset => "--width 1 or 2 and --step 1 to 255",
+        Kind::BaseOffset | Kind::PointedJumps => "--width 1 or 2 and --step 1 to 255",
         Kind::Jumps => "--width 1 or 2 and no --step",
         Kind::PagedRuns => "--step 2 to 64 and no --width",
     };

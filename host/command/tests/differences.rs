@@ -42,7 +42,7 @@ fn one_picture_in_two_files() {
 fn cells_that_differ() {
     let folder = folder();
     let summary = "2 of 12 cells differ\n";
-    for sample in 1..=5 {
+    for sample in 1..=6 {
         let run = folder.run(&format!("diff m{sample}.radar p"));
         differ(&run, "3 9 0\n11 0 4294967295\n", summary);
     }

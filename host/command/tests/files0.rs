@@ -53,7 +53,7 @@ fn names_of_any_bytes_and_a_missing_last_zero() {
         folder.bash("find . -name 'm*' -print0 | sort -z | radar-archive check --files0-from -");
     assert_eq!(
         found.ended(0).text().lines().count(),
-        5,
+        6,
         "{}",
         found.story()
     );

@@ -28,7 +28,7 @@ fn a_thousand_files_some_damaged() {
                 expected.push(format!("{name}: refused, {refusal} {}: ", WORDS[*refusal]));
             }
             _ => {
-                folder.write(&name, &Picture::sample().file(SETTINGS[number % 5]));
+                folder.write(&name, &Picture::sample().file(SETTINGS[number % 6]));
                 expected.push(format!("{name}: accepted"));
             }
         }
@@ -123,8 +123,8 @@ fn the_folder_of_the_call_itself() {
     let folder = Folder::with_samples();
     let run = folder.run("check .");
     run.ended(0);
-    assert_eq!(run.text().lines().count(), 5, "{}", run.story());
-    assert_eq!(summary(&run), "5 files: 5 accepted, 0 refused, 0 not read");
+    assert_eq!(run.text().lines().count(), 6, "{}", run.story());
+    assert_eq!(summary(&run), "6 files: 6 accepted, 0 refused, 0 not read");
     for (number, line) in (1..).zip(run.text().lines()) {
         assert!(
             line.ends_with(&format!("m{number}.radar: accepted")),

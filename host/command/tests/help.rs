@@ -106,12 +106,13 @@ fn the_manual_names_every_command_and_option() {
 }
 
 /// What the manual also says: the kinds, and the words of the signal list.
-const WORDS_OF_THE_MANUAL: [&str; 18] = [
+const WORDS_OF_THE_MANUAL: [&str; 19] = [
     "runs",
     "positions",
     "base-offset",
     "jumps",
     "paged-runs",
+    "pointed-jumps",
     "short",
     "kind",
     "setting",
@@ -219,7 +220,14 @@ fn the_completion_names_every_command_and_option() {
         }
     }
     let kinds = completed(&folder, "radar-archive change --kind ''");
-    for kind in ["runs", "positions", "base-offset", "jumps", "paged-runs"] {
+    for kind in [
+        "runs",
+        "positions",
+        "base-offset",
+        "jumps",
+        "paged-runs",
+        "pointed-jumps",
+    ] {
         assert!(kinds.iter().any(|offer| offer == kind), "{kind}: {kinds:?}");
     }
 }

@@ -13,6 +13,7 @@ Kind            Length   Setting
 3 base-offset       76   --width 1 --step 4
 4 jumps             76   --width 1
 5 paged-runs        92   --step 3
+6 pointed-jumps     80   --width 1 --step 1
 ";
 
 #[test]
@@ -64,12 +65,13 @@ fn parts(text: &str) -> Vec<(String, u32, u32)> {
 #[test]
 fn the_parts_follow_each_other_to_the_length() {
     let folder = Folder::with_samples();
-    let expected: [&[u32]; 5] = [
+    let expected: [&[u32]; 6] = [
         &[52, 24, 16],
         &[52, 16, 16],
         &[52, 8, 4, 16],
         &[52, 4, 4, 16],
         &[52, 16, 24, 16],
+        &[52, 4, 4, 4, 16],
     ];
     for (number, expected) in (1..).zip(expected) {
         let run = folder.run(&format!("info m{number}.radar"));
@@ -94,6 +96,42 @@ fn the_parts_follow_each_other_to_the_length() {
 }
 
 #[test]
+fn the_pointers_are_told_as_a_part() {
+    let folder = Folder::with_samples();
+    let expected = "\
+Part          Offset   Bytes
+header             0      52
+jumps             52       4
+differences       56       4
+pointers          60       4
+words             64      16
+
+";
+    let text = folder.run("info m6.radar").quiet().text();
+    assert!(text.contains(expected), "{text}");
+    // Three jumps, so three pointers at step 1, and differences of two bytes.
+    let mut words = vec![0; 200_000];
+    for position in [0, 70_000, 150_000, 150_001] {
+        words[position] = 9;
+    }
+    let picture = Picture::of(&[200_000], 0, words);
+    folder.write("wide", &picture.file([6, 2, 1]));
+    let parts = parts(&folder.run("info wide").quiet().text());
+    let parts: Vec<_> = parts
+        .iter()
+        .map(|(name, at, bytes)| (&**name, *at, *bytes))
+        .collect();
+    let expected = [
+        ("header", 0, 52),
+        ("jumps", 52, 12),
+        ("differences", 64, 8),
+        ("pointers", 72, 12),
+        ("words", 84, 16),
+    ];
+    assert_eq!(parts, expected);
+}
+
+#[test]
 fn the_setting_and_the_counts() {
     let folder = Folder::new();
     let names = [
@@ -102,6 +140,7 @@ fn the_setting_and_the_counts() {
         "3 base-offset",
         "4 jumps",
         "5 paged-runs",
+        "6 pointed-jumps",
     ];
     let picture = Picture::of(
         &[2, 3, 4],
@@ -147,7 +186,8 @@ fn shortest(picture: &Picture, kind: u32) -> (usize, String) {
         1 | 2 => (0..=0, 0..=0),
         3 => (1..=2, 1..=255),
         4 => (1..=2, 0..=0),
-        _ => (0..=0, 2..=64),
+        5 => (0..=0, 2..=64),
+        _ => (1..=2, 1..=255),
     };
     let mut best: Option<(usize, String)> = None;
     for width in widths {
@@ -177,12 +217,13 @@ fn the_lengths_are_the_shortest_of_each_kind() {
         Picture::scattered(&[30, 40], 0, 2),
         Picture::scattered(&[7, 9, 11], 5, 30),
         Picture::scattered(&[3, 2, 50, 40], 0, 300),
+        Picture::scattered(&[300, 400], 0, 300),
     ];
     for picture in pictures {
         folder.write("p.radar", &picture.file([1, 0, 0]));
         let run = folder.run("info p.radar");
         run.quiet();
-        let expected: Vec<_> = (1..=5).map(|kind| shortest(&picture, kind)).collect();
+        let expected: Vec<_> = (1..=6).map(|kind| shortest(&picture, kind)).collect();
         assert_eq!(lengths(&run.text()), expected, "{}", run.story());
     }
 }

@@ -26,7 +26,7 @@ fn thousand() -> Folder {
                 fs::set_permissions(folder.path(&name), none).expect("permissions");
             }
             17 => symlink(".", folder.path(&name)).expect("a link"),
-            _ => folder.write(&name, &Picture::sample().file(SETTINGS[number % 5])),
+            _ => folder.write(&name, &Picture::sample().file(SETTINGS[number % 6])),
         }
     }
     folder

@@ -11,7 +11,7 @@ use support::{Folder, WORDS};
 #[test]
 fn check_of_accepted_files() {
     let folder = Folder::with_samples();
-    let run = folder.run("check --json m1.radar m2.radar m3.radar m4.radar m5.radar");
+    let run = folder.run("check --json m1.radar m2.radar m3.radar m4.radar m5.radar m6.radar");
     run.ended(0);
     let lines = run.json_lines();
     for ((number, line), [kind, width, step]) in (1..).zip(&lines).zip(SETTINGS) {
@@ -24,8 +24,8 @@ fn check_of_accepted_files() {
         assert_eq!(*line, Json::of(&expected), "{}", run.story());
     }
     let summary =
-        "{\"summary\":{\"files\":5,\"accepted\":5,\"refused\":0,\"unread\":0,\"hidden\":0,\"unmatched\":0}}";
-    assert_eq!(lines[5..], [Json::of(summary)], "{}", run.story());
+        "{\"summary\":{\"files\":6,\"accepted\":6,\"refused\":0,\"unread\":0,\"hidden\":0,\"unmatched\":0}}";
+    assert_eq!(lines[6..], [Json::of(summary)], "{}", run.story());
 }
 
 #[test]

@@ -31,7 +31,7 @@ const WRONG: [(&str, u32, &str); 34] = [
     ("2 4294967308 4\n", 1, "is no first line"),
     ("-2 12 4\n", 1, "is no first line"),
     ("0 12 4\n", 1, "is the first line of no list"),
-    ("6 12 4\n", 1, "is the first line of no list"),
+    ("7 12 4\n", 1, "is the first line of no list"),
     ("2 12 13\n", 1, "is the first line of no list"),
     ("2 12 4\n", 1, "ends here, after 0 of 4 stored"),
     ("2 12 4\n0 2 7\n1 3 9\n", 3, "ends here, after 2 of 4"),
@@ -125,7 +125,7 @@ fn ends_of_lines() {
 fn refusals_come_with_their_numbers() {
     let folder = Folder::with_samples();
     let cases = [
-        (2, "--dims 12 --kind 6"),
+        (2, "--dims 12 --kind 7"),
         (3, "--dims 12 --kind 1 --step 1"),
         (4, "--dims 3x2x2x1x1 --kind 1"),
         (4, "--dims 0 --kind 1"),

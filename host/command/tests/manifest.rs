@@ -68,13 +68,13 @@ fn round_trip_over_all_kinds() {
     }
     let run = folder.run("manifest write d");
     run.printed("");
-    let summary = "d/MANIFEST.sha256: 25 files: 25 with a picture, 0 refused\n";
+    let summary = "d/MANIFEST.sha256: 30 files: 30 with a picture, 0 refused\n";
     assert_eq!(run.notes(), summary);
     let identities = lines(&folder, "# picture ");
     for (number, picture) in pictures().iter().enumerate() {
         folder.write("positions", &picture.file([2, 0, 0]));
         let sum = folder.bash("sha256sum < positions").text();
-        for identity in &identities[5 * number..5 * number + 5] {
+        for identity in &identities[6 * number..6 * number + 6] {
             assert_eq!(sum, format!("{identity}  -\n"));
         }
         let by_hand = "radar-archive change d/N-5 --kind positions -o - | sha256sum";
@@ -82,11 +82,12 @@ fn round_trip_over_all_kinds() {
         assert_eq!(by_hand.text(), sum);
     }
     let settings = lines(&folder, "# setting ");
-    assert_eq!(settings[..5], ["1 0 0", "2 0 0", "3 1 2", "4 1 0", "5 0 2"]);
+    let wanted = ["1 0 0", "2 0 0", "3 1 2", "4 1 0", "5 0 2", "6 1 2"];
+    assert_eq!(settings[..6], wanted);
     let run = folder.run("manifest verify d");
-    assert_eq!(run.ended(0).text().lines().count(), 25, "{}", run.story());
-    assert_eq!(run.text().matches(": unchanged\n").count(), 25);
-    let summary = "25 files: 25 unchanged, 0 re-encoded, 0 changed, 0 missing, 0 new, 0 not read\n";
+    assert_eq!(run.ended(0).text().lines().count(), 30, "{}", run.story());
+    assert_eq!(run.text().matches(": unchanged\n").count(), 30);
+    let summary = "30 files: 30 unchanged, 0 re-encoded, 0 changed, 0 missing, 0 new, 0 not read\n";
     assert_eq!(run.notes(), summary);
     folder.run("manifest verify -q d").printed("").quiet();
 }
@@ -128,7 +129,7 @@ fn another_setting_is_re_encoded() {
     let both = "re-encoded, the same picture: --kind paged-runs --step 2 before, \
                 --kind base-offset --width 1 --step 4 now";
     let run = told(&folder, 0, "5", both);
-    let summary = "5 files: 4 unchanged, 1 re-encoded, 0 changed, 0 missing, 0 new, 0 not read\n";
+    let summary = "6 files: 5 unchanged, 1 re-encoded, 0 changed, 0 missing, 0 new, 0 not read\n";
     assert_eq!(run.notes(), summary);
 }
 
@@ -148,10 +149,10 @@ fn missing_and_new() {
     folder.write("d/sub/x", &file);
     let new = "new, in the folder, not in the manifest";
     told(&folder, 1, "sub/x", new);
-    std::fs::rename(folder.path("d/5"), folder.path("d/6")).expect("another name");
+    std::fs::rename(folder.path("d/5"), folder.path("d/7")).expect("another name");
     let run = folder.run("manifest verify -q d");
     assert_eq!(run.ended(1).text().lines().count(), 3, "{}", run.story());
-    let summary = "7 files: 4 unchanged, 0 re-encoded, 0 changed, 1 missing, 2 new, 0 not read\n";
+    let summary = "8 files: 5 unchanged, 0 re-encoded, 0 changed, 1 missing, 2 new, 0 not read\n";
     assert_eq!(run.notes(), summary);
 }
 
@@ -173,7 +174,7 @@ fn refused_files_are_listed_by_their_bytes() {
         let line = format!(": refused, {listed}: ");
         assert!(told.contains(&line), "{line}: {}", run.story());
     }
-    let summary = "17 files: 1 with a picture, 16 refused\n";
+    let summary = "19 files: 1 with a picture, 18 refused\n";
     assert!(told.ends_with(summary), "{}", run.story());
     folder.run("manifest verify -q d").printed("").quiet();
 }
@@ -205,7 +206,7 @@ fn from_and_to_a_refused_file() {
 fn a_manifest_is_replaced_with_force_alone() {
     let folder = written();
     let state = folder.state("d/MANIFEST.sha256");
-    folder.write("d/6", &folder.read("d/1"));
+    folder.write("d/7", &folder.read("d/1"));
     let run = folder.run("manifest write d");
     run.failed("d/MANIFEST.sha256: exists; use --force");
     assert_eq!(folder.state("d/MANIFEST.sha256"), state);
@@ -223,7 +224,7 @@ fn a_manifest_is_replaced_with_force_alone() {
 fn check_says_a_manifest_and_does_not_check_it() {
     let folder = written();
     let run = folder.run("check d");
-    assert_eq!(run.ended(0).text().lines().count(), 5, "{}", run.story());
+    assert_eq!(run.ended(0).text().lines().count(), 6, "{}", run.story());
     assert!(run
         .notes()
         .starts_with("d/MANIFEST.sha256: a manifest, left alone; "));

@@ -90,6 +90,7 @@ fn json_of_each_state() {
         ("2", "unchanged", "file manifest path state"),
         ("3", "changed", "file manifest message path state"),
         ("4", "changed", "file manifest message path state"),
+        ("6", "unchanged", "file manifest path state"),
         ("new", "new", "message path state"),
         ("refused", "unchanged", "file manifest path state"),
         ("unread", "unread", "error path state"),
@@ -101,9 +102,9 @@ fn json_of_each_state() {
         assert_eq!(line.at("state").text(), state);
         assert_eq!(line.keys().join(" "), keys);
     }
-    let summary = r#"{"summary":{"files":8,"unchanged":2,"re_encoded":1,"changed":2,"missing":1,
+    let summary = r#"{"summary":{"files":9,"unchanged":3,"re_encoded":1,"changed":2,"missing":1,
                       "new":1,"unread":1,"hidden":0}}"#;
-    assert_eq!(lines[8], Json::of(summary));
+    assert_eq!(lines[9], Json::of(summary));
     let quiet = folder.run("manifest verify --json --quiet d");
     assert_eq!(quiet.ended(3).json_lines().len(), 7);
 }
@@ -125,7 +126,7 @@ fn json_of_manifest_and_file() {
     let refused = lines[3].at("file").at("refused");
     assert_eq!(refused.at("number"), &Json::Number(1));
     assert_eq!(refused.keys(), ["byte", "message", "number", "word"]);
-    let listed = lines[5].at("manifest").at("refused");
+    let listed = lines[6].at("manifest").at("refused");
     assert_eq!(listed, &Json::of(r#"{"number":1,"word":"short"}"#));
 }
 
@@ -152,7 +153,7 @@ fn a_thousand_files_take_seconds() {
     let folder = Folder::new();
     folder.folder("d");
     for number in 0..1000 {
-        let file = Picture::sample().file(SETTINGS[number % 5]);
+        let file = Picture::sample().file(SETTINGS[number % 6]);
         folder.write(format!("d/{number:04}"), &file);
     }
     let begin = Instant::now();
@@ -198,7 +199,7 @@ fn at_a_terminal() {
     let told = call("radar-archive manifest verify --no-progress d")
         .ended(0)
         .text();
-    assert_eq!(told.matches(": unchanged\r\n").count(), 6, "{told}");
+    assert_eq!(told.matches(": unchanged\r\n").count(), 7, "{told}");
     assert!(!told.contains('\u{1b}'), "{told}");
 }
 

@@ -15,7 +15,14 @@ fn folder() -> Folder {
 #[test]
 fn kinds_by_name_and_by_number() {
     let folder = folder();
-    let names = ["runs", "positions", "base-offset", "jumps", "paged-runs"];
+    let names = [
+        "runs",
+        "positions",
+        "base-offset",
+        "jumps",
+        "paged-runs",
+        "pointed-jumps",
+    ];
     for (name, [kind, width, step]) in names.iter().zip(SETTINGS) {
         let file = Picture::sample().file([kind, width, step]);
         for kind in [
@@ -42,7 +49,7 @@ fn kinds_by_name_and_by_number() {
 #[test]
 fn any_number_of_32_bits_goes_to_the_engine_as_a_kind() {
     let folder = folder();
-    for kind in ["0", "6", "257", "0x101", "4294967295", "0xffffffff"] {
+    for kind in ["0", "7", "257", "0x101", "4294967295", "0xffffffff"] {
         folder
             .run(&format!("make --dims 12 --kind {kind} raw -o new"))
             .refused(2);
@@ -53,6 +60,8 @@ fn any_number_of_32_bits_goes_to_the_engine_as_a_kind() {
     for setting in [
         "3 --width 257 --step 1",
         "5 --step 258",
+        "6 --width 1 --step 256",
+        "6 --step 1",
         "1 --step 256",
         "2 --width 0xffffffff",
     ] {

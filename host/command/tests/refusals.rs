@@ -82,7 +82,7 @@ fn check_says_the_values_concerned() {
     let m2 = folder.read("m2.radar");
     let cases = [
         (m2[..13].to_vec(), &["13", "52"][..]),
-        (with_byte(&m2, 0, 7), &["7", "1 to 5"]),
+        (with_byte(&m2, 0, 7), &["7", "1 to 6"]),
         (
             with_byte(&folder.read("m5.radar"), 3, 65),
             &["65", "2 to 64"],
@@ -112,7 +112,7 @@ fn make_gives_its_numbers_in_order() {
     far[258] = 1;
     folder.write("far", &raw(&far));
     let cases = [
-        (2, "--kind 6 --width 9 --dims 0 --max-length 0 short"),
+        (2, "--kind 7 --width 9 --dims 0 --max-length 0 short"),
         (3, "--kind 5 --step 65 --dims 0 --max-length 0 short"),
         (3, "--kind 3 --dims 12 raw"),
         (3, "--kind 1 --width 1 --dims 12 raw"),
@@ -189,8 +189,8 @@ fn change_tests_the_file_then_the_setting_then_fit_then_room() {
     far[258] = 1;
     folder.write("far", &Picture::of(&[300], 0, far).file([1, 0, 0]));
     let cases = [
-        (1, "bad --kind 6 --max-length 0"),
-        (2, "far --kind 6 --width 9 --max-length 0"),
+        (1, "bad --kind 7 --max-length 0"),
+        (2, "far --kind 7 --width 9 --max-length 0"),
         (3, "far --kind 3 --width 3 --step 2 --max-length 0"),
         (9, "far --kind 3 --width 1 --step 2 --max-length 0"),
         (10, "far --kind 3 --width 2 --step 2 --max-length 67"),

@@ -1,4 +1,4 @@
-//! Every command on the files M1 to M5 of the sample picture, with its exact output.
+//! Every command on the files M1 to M5 of the sample picture, and on its file of kind 6, with its exact output.
 
 mod support;
 
@@ -13,7 +13,7 @@ fn samples() -> impl Iterator<Item = (String, [u32; 3])> {
 #[test]
 fn the_samples_are_the_files_of_the_sample_picture() {
     let folder = Folder::with_samples();
-    for ((name, setting), length) in samples().zip([92, 84, 80, 76, 108]) {
+    for ((name, setting), length) in samples().zip([92, 84, 80, 76, 108, 80]) {
         let file = folder.read(&name);
         assert_eq!(file, Picture::sample().file(setting), "{name}");
         assert_eq!(file.len(), length, "{name}");
@@ -23,12 +23,12 @@ fn the_samples_are_the_files_of_the_sample_picture() {
 #[test]
 fn check_accepts_each() {
     let folder = Folder::with_samples();
-    let run = folder.run("check m1.radar m2.radar m3.radar m4.radar m5.radar");
+    let run = folder.run("check m1.radar m2.radar m3.radar m4.radar m5.radar m6.radar");
     let lines: String = samples()
         .map(|(name, _)| format!("{name}: accepted\n"))
         .collect();
     run.printed(&lines);
-    assert_eq!(run.notes(), "5 files: 5 accepted, 0 refused, 0 not read\n");
+    assert_eq!(run.notes(), "6 files: 6 accepted, 0 refused, 0 not read\n");
 }
 
 #[test]
@@ -197,6 +197,14 @@ fn shorter_names_the_shorter_file() {
     folder
         .run("shorter m4.radar m5.radar")
         .printed("m4.radar\n")
+        .quiet();
+    folder
+        .run("shorter m6.radar m4.radar")
+        .printed("m4.radar\n")
+        .quiet();
+    folder
+        .run("shorter m6.radar m3.radar")
+        .printed("m6.radar\n")
         .quiet();
     let copy = folder.read("m3.radar");
     folder.write("copy", &copy);

@@ -25,7 +25,7 @@ fn a_hundred_files_some_refused() {
         let name = format!("d/{}/{number:02}", number % 3);
         let file = match number % 15 {
             14 => bad[number / 15].1.clone(),
-            _ => Picture::sample().file(SETTINGS[number % 5]),
+            _ => Picture::sample().file(SETTINGS[number % 6]),
         };
         folder.write(&name, &file);
         let new = if number % 15 == 14 { file } else { best() };
@@ -61,7 +61,7 @@ fn a_file_that_does_not_change_is_not_touched() {
         .map(|name| untouched(&folder, name))
         .into();
     let run = folder.run("best d -f");
-    assert!(summary(run.printed("")).starts_with("7 files: 0 changed, 7 left as they were"));
+    assert!(summary(run.printed("")).starts_with("8 files: 0 changed, 8 left as they were"));
     assert_eq!(
         all,
         ["d/m1.radar", "d/sub/deep/x"].map(|name| untouched(&folder, name))
@@ -194,7 +194,7 @@ fn a_manifest_is_left_alone() {
         let run = folder.run(call);
         run.printed("");
         assert!(run.notes().starts_with(note), "{}", run.story());
-        assert!(summary(&run).starts_with("7 files: "), "{}", run.story());
+        assert!(summary(&run).starts_with("8 files: "), "{}", run.story());
     }
     assert!(!folder.path("out/MANIFEST.sha256").exists());
     assert_eq!(folder.read("d/MANIFEST.sha256"), manifest);

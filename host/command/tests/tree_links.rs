@@ -48,7 +48,7 @@ fn in_place_a_file_is_taken_once_and_none_outside() {
     ] {
         assert!(notes.contains(told), "{told}\n{}", run.story());
     }
-    assert!(summary(&run).starts_with("8 files: 7 changed, 1 left as they were, 0 refused, 0 not"));
+    assert!(summary(&run).starts_with("9 files: 8 changed, 1 left as they were, 0 refused, 0 not"));
     assert_eq!(
         (folder.state("outside"), folder.state("d2/near")),
         (outside, near)
@@ -83,7 +83,7 @@ fn a_circle_is_told_and_the_others_go_on() {
             .notes()
             .contains("d/sub/up: a symbolic link to a folder, not followed\n"));
         assert!(summary(&run)
-            .contains("10 files: 6 changed, 1 left as they were, 0 refused, 3 not read"));
+            .contains("11 files: 7 changed, 1 left as they were, 0 refused, 3 not read"));
     }
     assert_eq!(folder.read("out/sub/deep/x"), best());
     assert_eq!(folder.read("d/sub/deep/x"), best());
@@ -97,7 +97,7 @@ fn into_another_folder_links_are_read_like_files() {
     link(&folder, "m5.radar", "d/in");
     let (outside, m5) = (folder.state("outside"), folder.state("d/m5.radar"));
     let run = folder.run("best d -o new");
-    assert!(summary(run.printed("")).starts_with("9 files: 8 changed"));
+    assert!(summary(run.printed("")).starts_with("10 files: 9 changed"));
     for name in ["new/out", "new/in"] {
         assert!(!is_link(&folder, name), "{name}");
         assert_eq!(folder.read(name), best(), "{name}");

@@ -97,7 +97,7 @@ fn where_no_file_can_be_written_no_folder_stays() {
     let names = folder.names();
     let run = folder.bash("trap '' XFSZ; ulimit -f 0; exec radar-archive best d -o out");
     run.failed("out/sub/deep/x: cannot be written: File too large");
-    assert!(summary(&run).contains(" 7 not read or written; 0 bytes before, 0 after"));
+    assert!(summary(&run).contains(" 8 not read or written; 0 bytes before, 0 after"));
     assert_eq!(folder.names(), names, "{}", run.story());
 }
 
@@ -122,20 +122,20 @@ fn a_folder_that_may_not_be_written() {
             .notes()
             .matches("radar-archive: closed/")
             .count(),
-        6
+        7
     );
     let run = folder.run_as_nobody("best d -o open");
     run.failed("d/m3.radar: cannot be read: Permission denied");
     run.failed("open/sub/short: cannot be written: ");
     run.failed("open/sub/deep/x: cannot be written: its folder 'open/sub/deep' cannot be made: ");
-    assert!(summary(&run).starts_with("7 files: 4 changed, 0 left as they were, 0 refused, 3 not"));
+    assert!(summary(&run).starts_with("8 files: 5 changed, 0 left as they were, 0 refused, 3 not"));
     let owner = fs::metadata(folder.path("open/m1.radar"))
         .expect("a file")
         .uid();
     assert_eq!(owner, if process::is_root() { 65534 } else { owner });
     assert_eq!(
         paths(&folder, "open"),
-        ".\n./m1.radar\n./m2.radar\n./m4.radar\n./m5.radar\n./sub\n"
+        ".\n./m1.radar\n./m2.radar\n./m4.radar\n./m5.radar\n./m6.radar\n./sub\n"
     );
 }
 
@@ -151,7 +151,7 @@ fn in_place_a_folder_that_may_not_be_written() {
     let (before, x) = (paths(&folder, "d"), folder.state("d/sub/deep/x"));
     let run = folder.run_as_nobody("best d --force --quiet");
     run.failed("d/sub/deep/x: cannot be written: no file can be made in its folder 'd/sub/deep'");
-    let told = "7 files: 5 changed, 1 left as they were, 0 refused, 1 not read or written; ";
+    let told = "8 files: 6 changed, 1 left as they were, 0 refused, 1 not read or written; ";
     assert!(summary(&run).starts_with(told), "{}", run.story());
     assert_eq!(run.notes().lines().count(), 2, "{}", run.story());
     assert_eq!(folder.state("d/sub/deep/x"), x);

@@ -16,13 +16,13 @@ fn the_same_paths_below_another_folder() {
         let run = folder.run(&format!("best d -o {output}"));
         run.printed("");
         assert_eq!(paths(&folder, output), paths(&folder, "d"));
-        for name in ["m1.radar", "m5.radar", "sub/deep/x", "sub/short"] {
+        for name in ["m1.radar", "m6.radar", "sub/deep/x", "sub/short"] {
             assert_eq!(folder.read(format!("{output}/{name}")), best(), "{name}");
         }
-        assert_eq!(run.notes().lines().count(), 8, "{}", run.story());
+        assert_eq!(run.notes().lines().count(), 9, "{}", run.story());
         let told = "d/m2.radar: 84 bytes with --kind positions; 76 bytes with --kind base-offset --width 1 --step 4, the shortest\n";
         assert!(run.notes().contains(told), "{}", run.story());
-        let counted = "7 files: 6 changed, 1 left as they were, 0 refused, 0 not read or written; 624 bytes before, 532 after";
+        let counted = "8 files: 7 changed, 1 left as they were, 0 refused, 0 not read or written; 704 bytes before, 608 after";
         assert_eq!(summary(&run), counted);
     }
     let after = folder
@@ -38,7 +38,7 @@ fn change_says_only_the_summary() {
     run.printed("");
     assert_eq!(
         run.notes(),
-        "7 files: 6 changed, 1 left as they were, 0 refused, 0 not read or written; 624 bytes before, 644 after\n"
+        "8 files: 7 changed, 1 left as they were, 0 refused, 0 not read or written; 704 bytes before, 736 after\n"
     );
     assert_eq!(
         folder.read("out/sub/deep/x"),
@@ -66,14 +66,14 @@ fn refused_files_are_told_and_the_others_go_on() {
         .collect();
     assert!(run.notes().starts_with(&told), "{}", run.story());
     assert!(summary(&run).starts_with(&format!(
-        "{} files: 6 changed, 1 left as they were, {bad} refused, 0 not",
-        bad + 7
+        "{} files: 7 changed, 1 left as they were, {bad} refused, 0 not",
+        bad + 8
     )));
     assert_eq!(folder.bash("ls out out/sub | grep bad").text(), "");
     let run = folder.run("best d --name m?.radar --max-length 75 -o small");
     assert_eq!(
         run.ended(1).notes().matches("refused, 10 small: ").count(),
-        5
+        6
     );
     assert!(!folder.path("small").exists(), "no file, no folder");
     folder.write(
@@ -87,7 +87,7 @@ fn refused_files_are_told_and_the_others_go_on() {
         "{}",
         run.story()
     );
-    assert!(summary(&run).starts_with("6 files: 4 changed, 1 left as they were, 1 refused"));
+    assert!(summary(&run).starts_with("7 files: 5 changed, 1 left as they were, 1 refused"));
 }
 
 #[test]
@@ -105,7 +105,7 @@ fn what_exists_there_is_replaced_only_with_force() {
     run.failed("out/sub/deep/x: cannot be written: its folder 'out/sub/deep' cannot be made: ");
     assert_eq!(folder.state("out/m2.radar"), old);
     assert!(summary(&run).starts_with(
-        "7 files: 3 changed, 1 left as they were, 0 refused, 3 not read or written; "
+        "8 files: 4 changed, 1 left as they were, 0 refused, 3 not read or written; "
     ));
     let run = folder.run("best d --force -o out");
     run.failed("out/m4.radar: is a folder, not a file");
@@ -124,7 +124,7 @@ fn hidden_names_and_what_else_is_met() {
     let run = folder.run("change d --kind 1 --name [!m]* -o out");
     let notes = run.failed("d/pipe: cannot be read: it is a pipe");
     assert!(notes.contains("d/link: a symbolic link to a folder, not followed\n"));
-    assert!(notes.ends_with("; 1 hidden name passed over (--all takes it); 5 files passed over whose names do not match --name\n"));
+    assert!(notes.ends_with("; 1 hidden name passed over (--all takes it); 6 files passed over whose names do not match --name\n"));
     assert_eq!(
         paths(&folder, "out"),
         ".\n./sub\n./sub/deep\n./sub/deep/x\n./sub/short\n"

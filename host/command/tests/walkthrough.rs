@@ -47,7 +47,7 @@ fn steps() -> Vec<Step> {
 fn it_prints_what_it_says() {
     let folder = Folder::new();
     folder.folder("samples");
-    for sample in 1..=5 {
+    for sample in 1..=6 {
         let name = format!("m{sample}.radar");
         let from = Path::new(support::SAMPLES).join(&name);
         std::fs::copy(from, folder.path(format!("samples/{name}"))).expect("a sample");

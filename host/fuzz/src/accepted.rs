@@ -56,7 +56,7 @@ pub fn calls_on(sides: &mut Sides, accepted: &Accepted, fence: &mut Fence) {
 }
 
 /// Allowed settings: each kind, and each width, with a step that a number gives.
-fn allowed_settings([_, _, step]: [u32; 3]) -> [[u32; 3]; 7] {
+fn allowed_settings([_, _, step]: [u32; 3]) -> [[u32; 3]; 9] {
     let (ranks, entries) = (1 + step % 255, 2 + step % 63);
     [
         [1, 0, 0],
@@ -66,6 +66,8 @@ fn allowed_settings([_, _, step]: [u32; 3]) -> [[u32; 3]; 7] {
         [4, 1, 0],
         [4, 2, 0],
         [5, 0, entries],
+        [6, 1, ranks],
+        [6, 2, ranks],
     ]
 }
 

@@ -10,12 +10,12 @@ pub const MOST_CELLS: u32 = 150_000;
 
 /// Makes kind, width and step allowed.
 pub fn allow_setting(file: &mut [u8]) {
-    if !(1..=5).contains(&file[0]) {
-        file[0] = 1 + file[0] % 5;
+    if !(1..=6).contains(&file[0]) {
+        file[0] = 1 + file[0] % 6;
     }
     let (width, step) = (file[2], file[3]);
     let (width, step) = match file[0] {
-        3 => (within(width, 1, 2), within(step, 1, 255)),
+        3 | 6 => (within(width, 1, 2), within(step, 1, 255)),
         4 => (within(width, 1, 2), 0),
         5 => (0, within(step, 2, 64)),
         _ => (0, 0),
@@ -68,9 +68,9 @@ pub fn agree(file: &mut Vec<u8>, cells: u32) {
 /// Puts in the counts, the offsets and the length, and cuts the file.
 fn put_counts(file: &mut Vec<u8>, setting: [usize; 3], stored: usize, free: usize) {
     let (first, second) = counts(setting, stored, free);
-    let (first_size, second_size) = entry_sizes(setting);
-    let second_at = LENGTH + first_size * first;
-    let words_at = second_at + second_size * second;
+    let (first_length, second_length) = part_lengths(setting, first, second);
+    let second_at = LENGTH + first_length;
+    let words_at = second_at + second_length;
     let length = words_at + 4 * stored;
     let fields = [stored, first, second, LENGTH, second_at, words_at, length];
     for (index, value) in fields.into_iter().enumerate() {
@@ -82,8 +82,18 @@ fn put_counts(file: &mut Vec<u8>, setting: [usize; 3], stored: usize, free: usiz
 /// The bytes after the header of a file of so many stored words and runs or jumps.
 fn size(setting: [usize; 3], stored: usize, free: usize) -> usize {
     let (first, second) = counts(setting, stored, free);
+    let (first_length, second_length) = part_lengths(setting, first, second);
+    first_length + second_length + 4 * stored
+}
+
+/// The bytes of both parts; the pointers of kind 6, which no count has, are in the second.
+fn part_lengths(setting: [usize; 3], first: usize, second: usize) -> (usize, usize) {
     let (first_size, second_size) = entry_sizes(setting);
-    first_size * first + second_size * second + 4 * stored
+    let pointers = match setting {
+        [6, _, step] => first.div_ceil(step),
+        _ => 0,
+    };
+    (first_size * first, second_size * second + 4 * pointers)
 }
 
 /// The entries of both parts; `free` is the number of runs or jumps.
@@ -92,7 +102,7 @@ fn counts([kind, _, step]: [usize; 3], stored: usize, free: usize) -> (usize, us
         1 => (free, 0),
         2 => (stored, 0),
         3 => (stored.div_ceil(step), stored),
-        4 => (free, stored),
+        4 | 6 => (free, stored),
         _ => (upper_entries(free, step), free),
     }
 }
@@ -102,7 +112,7 @@ fn entry_sizes([kind, width, _]: [usize; 3]) -> (usize, usize) {
     match kind {
         1 => (8, 0),
         2 => (4, 0),
-        3 | 4 => (4, width),
+        3 | 4 | 6 => (4, width),
         _ => (8, 8),
     }
 }

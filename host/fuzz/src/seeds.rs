@@ -14,8 +14,8 @@ type Arguments = &'static [(usize, u8)];
 /// The sample's cells as tokens; its last cell is empty.
 const SAMPLE: &[u8] = &[0x12, 6, 0x01, 4, 0x04, 43];
 
-/// The sample in the settings of M1 to M5 with a byte changed: setting, and the arguments that patch.
-const PATCHED: [([u8; 3], Arguments); 5] = [
+/// The sample in the settings of M1 to M5, and in kind 6, with a byte changed: setting, and the arguments that patch.
+const PATCHED: [([u8; 3], Arguments); 6] = [
     // The first run ends one cell later.
     ([1, 0, 0], &[(30, 52), (33, 1)]),
     // The last stored word is E.
@@ -26,6 +26,8 @@ const PATCHED: [([u8; 3], Arguments); 5] = [
     ([4, 1, 0], &[(30, 56), (32, 1)]),
     // An upper entry is one lower.
     ([5, 0, 2], &[(30, 60), (33, 255)]),
+    // The pointer is one higher.
+    ([6, 1, 2], &[(30, 60), (33, 1)]),
 ];
 
 /// A picture in tokens, with its arguments.
@@ -62,7 +64,7 @@ const GAP_254: &[u8] = &[0x02, 1, 0x0f, 1, 254, 0];
 const GAP_255: &[u8] = &[0x02, 1, 0x0f, 1, 255, 0];
 
 /// The pictures.
-const SKETCHES: [Sketch; 14] = [
+const SKETCHES: [Sketch; 18] = [
     Sketch {
         empty: 7,
         repeats: 8,
@@ -135,6 +137,32 @@ const SKETCHES: [Sketch; 14] = [
         arguments: &[(2, 1), (3, 0), (4, 0)],
         ..sketch("no_cell_stored", [5, 0, 2], &[12], &[])
     },
+    // Seven jumps, two stored cells at each.
+    Sketch {
+        repeats: 7,
+        ..sketch("pointers", [6, 1, 2], &[2000], &[0x1f, 3, 255, 0])
+    },
+    // Writing at 5 moves all pointers but the first.
+    Sketch {
+        repeats: 4,
+        ..sketch(
+            "pointer_for_each_jump",
+            [6, 1, 1],
+            &[30, 40],
+            &[0x02, 1, 0x0f, 1, 255, 0],
+        )
+    },
+    sketch("one_pointer", [6, 2, 255], &[300], GAP_255),
+    Sketch {
+        arguments: &[(1, 0x80)],
+        repeats: 2,
+        ..sketch(
+            "pointers_of_2_bytes",
+            [6, 2, 1],
+            &[140_000],
+            &[0x1f, 1, 255, 255],
+        )
+    },
 ];
 
 /// A control block of a form, with arguments that reach something in a small picture.
@@ -176,7 +204,7 @@ fn product_past_32_bits(sample: &[u8]) -> Seed {
     )
 }
 
-/// All seeds; `samples` are the files M1 to M5.
+/// All seeds; `samples` are the files M1 to M5, and that of kind 6.
 pub fn all(samples: &[Vec<u8>]) -> Vec<Seed> {
     let mut seeds: Vec<Seed> = samples
         .first()

@@ -22,7 +22,7 @@ fn file_of(input: &[u8]) -> Option<Vec<u8>> {
 #[test]
 fn an_agreeing_file_is_never_refused_for_its_header() {
     let mut random = Random::new(5);
-    let mut kinds = [0; 6];
+    let mut kinds = [0; 7];
     for _ in 0..4000 {
         let input = any_input(1, &mut random);
         let file = file_of(&input).unwrap();

@@ -23,7 +23,7 @@ fn files(folder: &str) -> BTreeMap<String, Vec<u8>> {
 #[test]
 fn the_corpus_is_the_seeds() {
     let samples =
-        (1..=5).map(|kind| std::fs::read(beside(&format!("../../samples/m{kind}.radar"))));
+        (1..=6).map(|kind| std::fs::read(beside(&format!("../../samples/m{kind}.radar"))));
     let samples: Result<Vec<Vec<u8>>, _> = samples.collect();
     let seeds: BTreeMap<_, _> = fuzz::seeds::all(&samples.unwrap()).into_iter().collect();
     assert_eq!(files("corpus"), seeds);
@@ -36,7 +36,7 @@ fn the_corpus_shows_no_difference() {
     }
 }
 
-/// The corpus has 22 inputs of about 100 bytes, so this tries some 6,000.
+/// The corpus has 31 inputs of about 100 bytes, so this tries some 9,000.
 #[test]
 fn the_corpus_with_one_byte_changed_shows_no_difference() {
     for input in files("corpus").values() {

@@ -20,6 +20,7 @@ SETTINGS = [
     {"kind": "base-offset", "width": 2, "step": 8},
     {"kind": "jumps", "width": 1},
     {"kind": "paged-runs", "step": 16},
+    {"kind": "pointed-jumps", "width": 1, "step": 2},
 ]
 
 

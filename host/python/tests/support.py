@@ -22,7 +22,7 @@ SAMPLES = ROOT / "samples"
 SAMPLE = np.array([0, 0, 7, 9, 0, 5, 0, 0, 0, 0, 300, 0], np.uint32)
 
 #: Some settings of each kind, those at the bounds among them, that fit every picture of at most 256 cells.
-SETTINGS = [(1, 0, 0), (2, 0, 0), (3, 1, 1), (3, 1, 3), (3, 2, 255), (4, 1, 0), (4, 2, 0), (5, 0, 2), (5, 0, 64)]
+SETTINGS = [(1, 0, 0), (2, 0, 0), (3, 1, 1), (3, 1, 3), (3, 2, 255), (4, 1, 0), (4, 2, 0), (5, 0, 2), (5, 0, 64), (6, 1, 1), (6, 1, 255), (6, 2, 3)]
 
 SHAPES = [(1,), (12,), (256,), (3, 4), (1, 7), (2, 3, 5), (4, 1, 6), (2, 3, 4, 5), (1, 1, 1, 1)]
 

@@ -77,7 +77,7 @@ class Alone(unittest.TestCase):
             codec.encode(np.broadcast_to(np.uint32(0), (4097, 4096)))
 
     def test_refused_settings(self):
-        for arguments, number in [(("none",), 2), ((6,), 2), (("runs", 1), 3), (("paged-runs", 0, 65), 3)]:
+        for arguments, number in [(("none",), 2), ((7,), 2), (("runs", 1), 3), (("paged-runs", 0, 65), 3), (("pointed-jumps", 1), 3)]:
             with self.assertRaises(Refused) as caught:
                 RadarArchive(*arguments)
             self.assertEqual(caught.exception.number, number)

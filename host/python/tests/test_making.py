@@ -20,7 +20,7 @@ class Refusing(unittest.TestCase):
 
 class Settings(Refusing):
     def test_samples(self):
-        for path, setting in zip(sorted(SAMPLES.glob("*.radar")), [(1, 0, 0), (2, 0, 0), (3, 1, 2), (4, 1, 0), (5, 0, 2)]):
+        for path, setting in zip(sorted(SAMPLES.glob("*.radar")), [(1, 0, 0), (2, 0, 0), (3, 1, 2), (4, 1, 0), (5, 0, 2), (6, 1, 2)], strict=True):
             self.assertEqual(bytes(make(SAMPLE, **keywords(setting))), path.read_bytes())
 
     def test_round_trips(self):
@@ -34,27 +34,32 @@ class Settings(Refusing):
                 np.testing.assert_array_equal(radar_archive.open(bytes(archive)).words, words)
 
     def test_every_setting_has_room(self):
-        """Full pictures and every other cell, which have the longest files, in every setting."""
+        """Full pictures and every other cell, which have the longest files, in every setting; distant cells have those of kinds 4 and 6."""
         for words in (np.ones(200, np.uint32), np.arange(200) % 2, np.zeros(200, int), np.ones(1, int)):
             for setting in all_settings():
                 archive = make(words, **keywords(setting))
                 self.assertLessEqual(len(bytes(archive)), longest_file(setting, archive.stored))
                 np.testing.assert_array_equal(archive.words, words)
+        for width in (1, 2):
+            words = np.arange(9 * 256**width) % 256**width == 0
+            for setting in [(4, width, 0), *((6, width, step) for step in (1, 2, 3, 4, 16, 255))]:
+                archive = make(words.astype(np.uint32), **keywords(setting))
+                self.assertEqual(len(bytes(archive)), longest_file(setting, archive.stored))
         self.assertEqual(max(longest_file(setting, radar_archive.MOST_CELLS) for setting in all_settings() if setting.kind == 3), LONGEST_FILE)
 
     def test_kinds_by_name(self):
         for kind in Kind:
-            rest = {3: {"width": 1, "step": 4}, 4: {"width": 1}, 5: {"step": 4}}.get(kind, {})
+            rest = {3: {"width": 1, "step": 4}, 4: {"width": 1}, 5: {"step": 4}, 6: {"width": 2, "step": 4}}.get(kind, {})
             files = {bytes(make(SAMPLE, kind=given, **rest)) for given in (kind, int(kind), str(kind), np.int16(kind))}
             self.assertEqual(len(files), 1)
 
     def test_refused(self):
-        for kind in (0, 6, -1, 257, 1 << 32, (1 << 32) + 1, "run", "RUNS", ""):
-            sentence = f"no kind {kind!r}; the kinds are 1 runs, 2 positions, 3 base-offset, 4 jumps, 5 paged-runs"
+        for kind in (0, 7, -1, 257, 1 << 32, (1 << 32) + 1, "run", "RUNS", ""):
+            sentence = f"no kind {kind!r}; the kinds are 1 runs, 2 positions, 3 base-offset, 4 jumps, 5 paged-runs, 6 pointed-jumps"
             self.refused(2, lambda: make(SAMPLE, kind=kind), sentence)
             self.refused(2, lambda: make(SAMPLE, kind=1).change(kind=kind), sentence)
         for setting in [(1, 1, 0), (2, 0, 1), (3, 0, 1), (3, 3, 1), (3, 1, 0), (3, 1, 256), (4, 0, 0), (4, 1, 1), (5, 0, 1), (5, 0, 65), (5, 1, 2),
-                        (3, (1 << 32) + 1, 1), (3, 1, -1), (4, 257, 0)]:
+                        (3, (1 << 32) + 1, 1), (3, 1, -1), (4, 257, 0), (6, 0, 1), (6, 3, 1), (6, 1, 0), (6, 2, 256)]:
             sentence = f"width {setting[1]} and step {setting[2]}; it takes"
             self.refused(3, lambda: make(SAMPLE, **keywords(setting)), sentence)
             self.refused(3, lambda: make(SAMPLE, kind=1).change(**keywords(setting)), sentence)

@@ -117,7 +117,7 @@ class Opening(unittest.TestCase):
                 radar_archive.open(data)
 
     def test_refused(self):
-        for data, number, word in [(b"", 1, "short"), (M2[:51], 1, "short"), (b"\6" + M2[1:], 2, "kind"), (M2[:2] + b"\1" + M2[3:], 3, "setting"),
+        for data, number, word in [(b"", 1, "short"), (M2[:51], 1, "short"), (b"\7" + M2[1:], 2, "kind"), (M2[:2] + b"\1" + M2[3:], 3, "setting"),
                                    (M2[:1] + b"\5" + M2[2:], 4, "extent"), (M2 + b"\0", 5, "counts"), (M2[:52] + b"\3" + M2[53:], 6, "body")]:
             self.path.write_bytes(data)
             for source in (data, self.path):

@@ -56,7 +56,7 @@ class Changing(unittest.TestCase):
 
     def test_refused(self):
         archive = make([1] + [0] * 300 + [1], kind=2)
-        for setting, number in [((6, 0, 0), 2), (("none", 0, 0), 2), ((5, 0, 65), 3), ((1, 1 << 32, 0), 3), ((3, 1, 2), 9)]:
+        for setting, number in [((7, 0, 0), 2), (("none", 0, 0), 2), ((5, 0, 65), 3), ((1, 1 << 32, 0), 3), ((3, 1, 2), 9)]:
             with self.assertRaises(Refused) as caught:
                 archive.change(**keywords(setting))
             self.assertEqual(caught.exception.number, number)

@@ -53,8 +53,8 @@ impl<B: AsRef<[u8]>> Archive<B> {
     /// assert_eq!(fault.refusal, Refusal::Counts);
     /// assert_eq!(fault.byte, Some(48));
     /// assert_eq!(fault.to_string(), "5 counts: the length in the header is 52, the file has 53 bytes (byte 48)");
-    /// file[0] = 6;
-    /// assert_eq!(Archive::open(file).unwrap_err().to_string(), "2 kind: kind 6; the kinds are 1 to 5 (byte 0)");
+    /// file[0] = 7;
+    /// assert_eq!(Archive::open(file).unwrap_err().to_string(), "2 kind: kind 7; the kinds are 1 to 6 (byte 0)");
     /// # Ok::<(), Refusal>(())
     /// ```
     pub fn open(file: B) -> Result<Archive<B>, Fault> {
@@ -142,7 +142,8 @@ impl<B: AsRef<[u8]>> Archive<B> {
 
     /// The stored cells in rising order: rank, position and word.
     ///
-    /// A kind 4 file is changed to kind 2 in memory first, since a lookup by rank in kind 4 is a pass along the file.
+    /// A file of kind 4 or 6 is changed to kind 2 in memory first, since a lookup by rank there is a pass along the file, in kind 6 from a
+    /// jump on.
     ///
     /// ```
     /// # use radar_archive::{Archive, Dimensions, Picture, Position, Rank, Setting};

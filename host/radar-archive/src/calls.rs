@@ -19,7 +19,7 @@
 //! assert_eq!(calls::rank(file, Position(6)), Ok(None));
 //! assert_eq!(calls::position(file, Rank(3)), Ok(Position(10)));
 //! assert_eq!(calls::position(file, Rank(4)), Err(Refusal::Beyond));
-//! assert_eq!(calls::change(file, [6, 0, 0], &mut [0; 100]), Err(Refusal::Kind));
+//! assert_eq!(calls::change(file, [7, 0, 0], &mut [0; 100]), Err(Refusal::Kind));
 //! # Ok::<(), Refusal>(())
 //! ```
 

@@ -29,19 +29,22 @@ pub enum Kind {
     Jumps = 4,
     /// Kind 5, paged runs.
     PagedRuns = 5,
+    /// Kind 6, pointed jumps: kind 4 with the ranks of jumps, so that a lookup begins at one of them.
+    PointedJumps = 6,
 }
 
 impl Kind {
     /// All kinds in rising order of their numbers.
-    pub const ALL: [Kind; 5] = [
+    pub const ALL: [Kind; 6] = [
         Kind::Runs,
         Kind::Positions,
         Kind::BaseOffset,
         Kind::Jumps,
         Kind::PagedRuns,
+        Kind::PointedJumps,
     ];
 
-    /// The kind's number, 1 to 5, as the header has it.
+    /// The kind's number, 1 to 6, as the header has it.
     pub fn number(self) -> u32 {
         self as u32
     }
@@ -52,7 +55,7 @@ impl Kind {
     /// # use radar_archive::Kind;
     /// assert_eq!(Kind::of_number(5), Some(Kind::PagedRuns));
     /// assert_eq!(Kind::of_number(0), None);
-    /// assert_eq!(Kind::of_number(6), None);
+    /// assert_eq!(Kind::of_number(7), None);
     /// ```
     pub fn of_number(number: u32) -> Option<Kind> {
         Kind::ALL.into_iter().find(|kind| kind.number() == number)
@@ -66,6 +69,7 @@ impl Kind {
             Kind::BaseOffset => "base-offset",
             Kind::Jumps => "jumps",
             Kind::PagedRuns => "paged-runs",
+            Kind::PointedJumps => "pointed-jumps",
         }
     }
 
@@ -73,7 +77,7 @@ impl Kind {
     ///
     /// ```
     /// # use radar_archive::Kind;
-    /// assert_eq!(Kind::listed(), "1 runs, 2 positions, 3 base-offset, 4 jumps, 5 paged-runs");
+    /// assert_eq!(Kind::listed(), "1 runs, 2 positions, 3 base-offset, 4 jumps, 5 paged-runs, 6 pointed-jumps");
     /// ```
     pub fn listed() -> String {
         let texts = Kind::ALL.map(|kind| alloc::format!("{} {kind}", kind.number()));
@@ -83,7 +87,7 @@ impl Kind {
     /// The widths that the kind allows.
     pub fn widths(self) -> RangeInclusive<u32> {
         match self {
-            Kind::BaseOffset | Kind::Jumps => 1..=2,
+            Kind::BaseOffset | Kind::Jumps | Kind::PointedJumps => 1..=2,
             Kind::Runs | Kind::Positions | Kind::PagedRuns => 0..=0,
         }
     }
@@ -91,7 +95,7 @@ impl Kind {
     /// The steps that the kind allows.
     pub fn steps(self) -> RangeInclusive<u32> {
         match self {
-            Kind::BaseOffset => 1..=255,
+            Kind::BaseOffset | Kind::PointedJumps => 1..=255,
             Kind::PagedRuns => 2..=64,
             Kind::Runs | Kind::Positions | Kind::Jumps => 0..=0,
         }
@@ -121,7 +125,7 @@ impl FromStr for Kind {
 /// let unknown = "run".parse::<Kind>().unwrap_err();
 /// assert_eq!(
 ///     unknown.to_string(),
-///     "no kind has this name; the kinds are 1 runs, 2 positions, 3 base-offset, 4 jumps, 5 paged-runs"
+///     "no kind has this name; the kinds are 1 runs, 2 positions, 3 base-offset, 4 jumps, 5 paged-runs, 6 pointed-jumps"
 /// );
 /// ```
 #[derive(Clone, Copy, Debug, PartialEq, Eq)]

@@ -10,15 +10,15 @@ pub(crate) struct Counts {
     pub(crate) stored: usize,
     /// The runs, of kinds 1 and 5.
     pub(crate) runs: usize,
-    /// The jumps, of kind 4.
+    /// The jumps, of kinds 4 and 6.
     pub(crate) jumps: usize,
 }
 
 /// The length of a file in an allowed setting.
 pub(crate) fn length(setting: Setting, counts: Counts) -> usize {
-    let [first, second] = entries(setting, counts);
-    let [first_size, second_size] = entry_sizes(setting);
-    HEADER_LENGTH + first_size * first + second_size * second + 4 * counts.stored
+    let entries = entries(setting, counts).map(|count| count as u64);
+    let [first, second] = part_lengths(setting, entries).map(|length| length as usize);
+    HEADER_LENGTH + first + second + 4 * counts.stored
 }
 
 /// The entries of the first and the second part in an allowed setting.
@@ -33,8 +33,23 @@ fn entries(setting: Setting, counts: Counts) -> [usize; 2] {
         Kind::Runs => [runs, 0],
         Kind::Positions => [stored, 0],
         Kind::BaseOffset => [stored.div_ceil(step), stored],
-        Kind::Jumps => [jumps, stored],
+        Kind::Jumps | Kind::PointedJumps => [jumps, stored],
         Kind::PagedRuns => [upper_entries(runs as u64, step as u64) as usize, runs],
+    }
+}
+
+/// The bytes of the first and the second part with so many entries in an allowed setting.
+pub(crate) fn part_lengths(setting: Setting, [first, second]: [u64; 2]) -> [u64; 2] {
+    let [first_size, second_size] = entry_sizes(setting).map(|size| size as u64);
+    let pointers = pointers(setting, first);
+    [first_size * first, second_size * second + 4 * pointers]
+}
+
+/// The pointers of kind 6, which stand behind the differences and are in no count; 0 in another kind. The setting is allowed.
+pub(crate) fn pointers(setting: Setting, jumps: u64) -> u64 {
+    match setting.kind {
+        Kind::PointedJumps => jumps.div_ceil(setting.step.into()),
+        _ => 0,
     }
 }
 
@@ -44,7 +59,7 @@ pub(crate) fn entry_sizes(setting: Setting) -> [usize; 2] {
     match setting.kind {
         Kind::Runs => [8, 0],
         Kind::Positions => [4, 0],
-        Kind::BaseOffset | Kind::Jumps => [4, width],
+        Kind::BaseOffset | Kind::Jumps | Kind::PointedJumps => [4, width],
         Kind::PagedRuns => [8, 8],
     }
 }

@@ -44,7 +44,7 @@ pub struct Lengths {
     stored: usize,
     /// The runs.
     runs: u32,
-    /// The jumps of kind 4 at width 1 and at width 2.
+    /// The jumps of kinds 4 and 6 at width 1 and at width 2.
     jumps: [usize; 2],
     /// The largest offset of kind 3 at each step; at step 0 nothing.
     offsets: [u32; LARGEST_STEP + 1],

@@ -1,7 +1,7 @@
 //! Radar picture archive: safe calls over the proved engine.
 //!
 //! A [`Picture`] is dimensions, an empty word E and one 32-bit word for each cell, in row order. Its file keeps the words that are not
-//! E, and a header of one of five kinds that says where they stood; a [`Setting`] names [`Kind`], width and step. An [`Archive`] is an
+//! E, and a header of one of six kinds that says where they stood; a [`Setting`] names [`Kind`], width and step. An [`Archive`] is an
 //! accepted file, opened, over bytes that it owns or borrows. A file that is not accepted is told by a [`Fault`]: the number of the
 //! signal list, a sentence, and the byte.
 //!

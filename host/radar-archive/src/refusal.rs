@@ -18,7 +18,7 @@ use core::fmt;
 pub enum Refusal {
     /// The file is under 52 bytes.
     Short = 1,
-    /// The kind is not 1 to 5.
+    /// The kind is not 1 to 6.
     Kind = 2,
     /// Width or step is not allowed for the kind.
     Setting = 3,
@@ -95,7 +95,7 @@ impl Refusal {
     pub fn sentence(self) -> &'static str {
         match self {
             Refusal::Short => "the file is under 52 bytes",
-            Refusal::Kind => "the kind is not 1 to 5",
+            Refusal::Kind => "the kind is not 1 to 6",
             Refusal::Setting => "width or step is not allowed for the kind",
             Refusal::Extent => "dimension count, extents or their product are not a picture's",
             Refusal::Counts => "a count, offset or length is not what the layout gives",

@@ -14,15 +14,15 @@ use crate::{Kind, Refusal, MOST_CELLS};
 /// let setting = Setting::base_offset(1, 2);
 /// assert_eq!(setting, Setting { kind: Kind::BaseOffset, width: 1, step: 2 });
 /// assert_eq!(Setting::try_from([3, 1, 2]), Ok(setting));
-/// assert_eq!(Setting::try_from([6, 0, 0]), Err(Refusal::Kind));
+/// assert_eq!(Setting::try_from([7, 0, 0]), Err(Refusal::Kind));
 /// ```
 #[derive(Clone, Copy, Debug, PartialEq, Eq, Hash, PartialOrd, Ord)]
 pub struct Setting {
     /// The header kind.
     pub kind: Kind,
-    /// Bytes of an offset (kind 3) or a difference (kind 4): 1 or 2; else 0.
+    /// Bytes of an offset (kind 3) or a difference (kinds 4 and 6): 1 or 2; else 0.
     pub width: u32,
-    /// Ranks for each base in kind 3, 1 to 255; entries of a page in kind 5, 2 to 64; else 0.
+    /// Ranks for each base in kind 3, 1 to 255; entries of a page in kind 5, 2 to 64; jumps for each pointer in kind 6, 1 to 255; else 0.
     pub step: u32,
 }
 
@@ -52,6 +52,11 @@ impl Setting {
         Setting::of(Kind::PagedRuns, 0, step)
     }
 
+    /// Kind 6, pointed jumps: width 1 or 2, step 1 to 255. A lookup begins at a jump whose rank the file has.
+    pub fn pointed_jumps(width: u32, step: u32) -> Setting {
+        Setting::of(Kind::PointedJumps, width, step)
+    }
+
     /// A setting of kind, width and step.
     pub fn of(kind: Kind, width: u32, step: u32) -> Setting {
         Setting { kind, width, step }
@@ -75,6 +80,7 @@ impl Setting {
     /// # use radar_archive::Setting;
     /// assert_eq!(Setting::positions().longest_file(4), 84);
     /// assert_eq!(Setting::runs().longest_file(4), 52 + 4 * 8 + 4 * 4);
+    /// assert_eq!(Setting::pointed_jumps(1, 3).longest_file(4), 52 + 4 * 4 + 4 + 2 * 4 + 4 * 4);
     /// assert_eq!(Setting::paged_runs(65).longest_file(4), 0);
     /// ```
     pub fn longest_file(self, stored: usize) -> usize {

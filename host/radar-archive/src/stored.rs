@@ -23,10 +23,11 @@ impl<'a> StoredCells<'a> {
     pub(crate) fn of<B: AsRef<[u8]>>(archive: &'a Archive<B>) -> StoredCells<'a> {
         let stored = archive.stored_count();
         let words = accepted(archive.ranks(Rank(0), Rank(stored)));
-        let searched = if archive.setting().kind == Kind::Jumps {
-            Cow::Owned(accepted(archive.change(Setting::positions())))
-        } else {
-            Cow::Borrowed(archive.bytes())
+        let searched = match archive.setting().kind {
+            Kind::Jumps | Kind::PointedJumps => {
+                Cow::Owned(accepted(archive.change(Setting::positions())))
+            }
+            _ => Cow::Borrowed(archive.bytes()),
         };
         StoredCells {
             searched,

@@ -23,7 +23,7 @@ struct Met {
 fn all_settings() -> Vec<Setting> {
     let mut all: Vec<Setting> = settings::all().into_iter().map(settings::engine).collect();
     all.sort();
-    assert_eq!(all.len(), 577);
+    assert_eq!(all.len(), 1087);
     all
 }
 
@@ -207,14 +207,22 @@ fn the_sample() {
         Setting::base_offset(1, 2),
         Setting::jumps(1),
         Setting::paged_runs(2),
+        Setting::pointed_jumps(1, 2),
     ]
     .map(|setting| lengths.of_setting(setting));
-    assert_eq!(found, [92, 84, 80, 76, 108].map(Some));
+    assert_eq!(found, [92, 84, 80, 76, 108, 80].map(Some));
     let shortest = Kind::ALL.map(|kind| {
         let Offer { setting, length } = lengths.shortest_of_kind(kind);
         (setting.width, setting.step, length)
     });
-    let wanted = [(0, 0, 92), (0, 0, 84), (1, 4, 76), (1, 0, 76), (0, 3, 92)];
+    let wanted = [
+        (0, 0, 92),
+        (0, 0, 84),
+        (1, 4, 76),
+        (1, 0, 76),
+        (0, 3, 92),
+        (1, 1, 80),
+    ];
     assert_eq!(shortest, wanted);
     let offer = lengths.shortest();
     assert_eq!(offer.setting, Setting::base_offset(1, 4));
@@ -234,6 +242,7 @@ fn the_largest_pictures() {
             Setting::base_offset(2, 255),
             Setting::jumps(1),
             Setting::paged_runs(2),
+            Setting::pointed_jumps(1, 2),
         ] {
             let file = picture.make(from).unwrap();
             let archive = Archive::open(&file).unwrap();

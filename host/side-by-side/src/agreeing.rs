@@ -3,6 +3,7 @@
 use reader::Parsed;
 
 use crate::forge::{field, set_field, Forged};
+use crate::pointers;
 use crate::random::Random;
 use crate::settings::{self, Setting};
 
@@ -27,6 +28,8 @@ struct Parts {
     first: Vec<Vec<u8>>,
     /// The entries of the second part.
     second: Vec<Vec<u8>>,
+    /// The pointers of kind 6, which no count has.
+    pointers: Vec<Vec<u8>>,
     /// The stored words.
     words: Vec<Vec<u8>>,
 }
@@ -35,6 +38,7 @@ impl Parts {
     /// Takes an accepted file apart.
     fn of(file: &[u8], says: &Parsed) -> Parts {
         let second_at = field(file, 40) as usize;
+        let pointers_at = says.words_at - pointers::length(file, says);
         let (first_size, second_size) = sizes(says.setting.kind, says.setting.width);
         let entries = |from: usize, to: usize, size: usize| -> Vec<Vec<u8>> {
             file[from..to].chunks(size).map(<[u8]>::to_vec).collect()
@@ -42,7 +46,8 @@ impl Parts {
         Parts {
             header: file[..52].to_vec(),
             first: entries(52, second_at, first_size),
-            second: entries(second_at, says.words_at, second_size),
+            second: entries(second_at, pointers_at, second_size),
+            pointers: entries(pointers_at, says.words_at, 4),
             words: entries(says.words_at, file.len(), 4),
         }
     }
@@ -51,7 +56,7 @@ impl Parts {
     fn file(&self) -> Vec<u8> {
         let mut file = self.header.clone();
         let second_at = 52 + self.first.concat().len();
-        let words_at = second_at + self.second.concat().len();
+        let words_at = second_at + self.second.concat().len() + self.pointers.concat().len();
         let length = words_at + self.words.concat().len();
         let fields = [
             self.words.len(),
@@ -69,6 +74,7 @@ impl Parts {
             [
                 self.first.concat(),
                 self.second.concat(),
+                self.pointers.concat(),
                 self.words.concat(),
             ]
             .concat(),
@@ -88,6 +94,10 @@ impl Parts {
             }
             4 => self.second.resize(stored, vec![1; second_size]),
             5 => self.match_levels(step),
+            6 => {
+                self.second.resize(stored, vec![1; second_size]);
+                self.match_pointers(step);
+            }
             _ => {}
         }
     }
@@ -102,6 +112,13 @@ impl Parts {
         }
         self.first.resize(upper, vec![0; 8]);
     }
+
+    /// Makes the number of pointers the one that the jumps give.
+    fn match_pointers(&mut self, step: usize) {
+        let last = self.words.len().saturating_sub(1) as u32;
+        let count = self.first.len().div_ceil(step);
+        self.pointers.resize(count, last.to_le_bytes().to_vec());
+    }
 }
 
 /// The bytes of an entry of each part.
@@ -109,7 +126,7 @@ fn sizes(kind: u32, width: u32) -> (usize, usize) {
     match kind {
         1 => (8, 1),
         2 => (4, 1),
-        3 | 4 => (4, width as usize),
+        3 | 4 | 6 => (4, width as usize),
         _ => (8, 8),
     }
 }
@@ -187,7 +204,7 @@ fn other_setting(mut parts: Parts, setting: Setting, random: &mut Random) -> For
         1 => (free, 0),
         2 => (stored, 0),
         3 => (stored.div_ceil(step as usize), stored),
-        4 => (free, stored),
+        4 | 6 => (free, stored),
         _ => (0, free),
     };
     let rising = random.once_in(2);
@@ -202,8 +219,11 @@ fn other_setting(mut parts: Parts, setting: Setting, random: &mut Random) -> For
     };
     parts.first = entries(first, first_size);
     parts.second = entries(second, second_size);
-    if kind == 5 {
-        parts.match_levels(step as usize);
+    parts.pointers.clear();
+    match kind {
+        5 => parts.match_levels(step as usize),
+        6 => parts.match_pointers(step as usize),
+        _ => {}
     }
     ("agreeing counts: another setting".to_string(), parts.file())
 }

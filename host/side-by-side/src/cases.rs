@@ -13,7 +13,7 @@ pub fn picture(sides: &mut Sides, index: usize, all: &[Setting]) {
     let large = "gaps of 65,534 to 65,537";
     let name = NAMES[index % NAMES.len()];
     // A picture of that texture takes as long as hundreds of others.
-    let name = if name == large && index % 8 != 0 {
+    let name = if name == large && index % 7 != 0 {
         "gaps of 254 to 257"
     } else {
         name
@@ -21,7 +21,7 @@ pub fn picture(sides: &mut Sides, index: usize, all: &[Setting]) {
     sides.tally.texture(name);
     let random = &mut sides.random;
     let sketch = Sketch::of(name, random);
-    let mut chosen: Vec<Setting> = (1..=5)
+    let mut chosen: Vec<Setting> = (1..=6)
         .map(|kind| settings::any_of_kind(kind, random))
         .collect();
     chosen.push(all[index % all.len()]);

@@ -3,6 +3,7 @@
 use reader::Parsed;
 
 use crate::agreeing::{self, AGREEING};
+use crate::pointers::{self, POINTERS};
 use crate::random::Random;
 
 /// A damaged file with the place that was damaged.
@@ -28,22 +29,24 @@ const FIELDS: [(usize, &str); 12] = [
 pub fn places() -> Vec<String> {
     let mut places: Vec<String> = (0..52).map(|at| format!("header byte {at}")).collect();
     places.extend(FIELDS.iter().map(|(_, name)| format!("field {name}")));
-    for kind in 1..=5 {
+    for kind in 1..=6 {
         places.push(format!("a number of the first part, kind {kind}"));
         places.push(format!("a byte of the first part, kind {kind}"));
         places.push(format!("a word, kind {kind}"));
         places.push(format!("E among the words, kind {kind}"));
     }
-    for kind in 3..=5 {
+    for kind in 3..=6 {
         places.push(format!("a number of the second part, kind {kind}"));
         places.push(format!("a byte of the second part, kind {kind}"));
     }
+    places.extend(["a number", "a byte"].map(|what| format!("{what} of the pointers, kind 6")));
     places.extend(["cut", "longer"].map(String::from));
     places.extend(
         AGREEING
             .iter()
             .map(|name| format!("agreeing counts: {name}")),
     );
+    places.extend(POINTERS.iter().map(|name| format!("pointers: {name}")));
     places
 }
 
@@ -81,7 +84,7 @@ fn costly(file: &[u8]) -> bool {
 
 /// One damaged or forged file, of whatever number of cells.
 fn any_of_all(file: &[u8], says: &Parsed, random: &mut Random) -> Forged {
-    match random.below(12) {
+    match random.below(13) {
         0 => header_byte(file, random),
         1 | 2 => header_field(file, says, random),
         3 => cut_or_longer(file, random),
@@ -89,6 +92,7 @@ fn any_of_all(file: &[u8], says: &Parsed, random: &mut Random) -> Forged {
         5 | 6 => part_number(file, says, random),
         7 => word(file, says, random),
         8 => empty_word(file, says, random),
+        9 if pointers::has(says) => pointers::any(file, says, random),
         _ => agreeing::any(file, says, random),
     }
 }
@@ -163,7 +167,7 @@ fn cut_or_longer(file: &[u8], random: &mut Random) -> Forged {
     (place.to_string(), copy)
 }
 
-/// The start, the end and the entry size (of single numbers) of a part that has bytes, with its name.
+/// The start, the end and the entry size (of single numbers) of a part that has bytes, or of the pointers, with its name.
 fn any_part(
     file: &[u8],
     says: &Parsed,
@@ -172,9 +176,11 @@ fn any_part(
     let (second_at, words_at) = (field(file, 40) as usize, says.words_at);
     let small = says.setting.width.max(1) as usize;
     let second_size = if says.setting.kind == 5 { 4 } else { small };
-    let first = (52, second_at, 4, "first");
-    let second = (second_at, words_at, second_size, "second");
-    let parts: Vec<_> = [first, second]
+    let second_end = words_at - pointers::length(file, says);
+    let first = (52, second_at, 4, "first part");
+    let second = (second_at, second_end, second_size, "second part");
+    let pointers = (second_end, words_at, 4, "pointers");
+    let parts: Vec<_> = [first, second, pointers]
         .into_iter()
         .filter(|part| part.0 < part.1)
         .collect();
@@ -190,7 +196,7 @@ fn part_byte(file: &[u8], says: &Parsed, random: &mut Random) -> Forged {
     let at = random.within(start, end - 1);
     copy[at] = copy[at].wrapping_add(random.within(1, 255) as u8);
     (
-        format!("a byte of the {name} part, kind {}", says.setting.kind),
+        format!("a byte of the {name}, kind {}", says.setting.kind),
         copy,
     )
 }
@@ -240,7 +246,7 @@ fn part_number(file: &[u8], says: &Parsed, random: &mut Random) -> Forged {
         put(other, before);
     }
     (
-        format!("a number of the {name} part, kind {}", says.setting.kind),
+        format!("a number of the {name}, kind {}", says.setting.kind),
         copy,
     )
 }

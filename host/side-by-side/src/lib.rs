@@ -11,6 +11,7 @@ pub mod cases;
 pub mod forge;
 pub mod lists;
 pub mod lookups;
+pub mod pointers;
 pub mod random;
 pub mod settings;
 pub mod sides;

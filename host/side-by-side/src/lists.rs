@@ -8,11 +8,12 @@ use crate::sides::Sides;
 use crate::table::{Request, Table};
 use crate::textures::{any_empty, any_extents, any_word};
 
-/// The cells of a list's picture: mostly few, some with gaps past one byte, some past two.
+/// The cells of a list's picture: mostly few, some with gaps past one byte or with many of them, some past two.
 fn any_cells(random: &mut Random) -> u32 {
     let cells = match random.below(40) {
         0 => random.within(65_540, 66_000),
-        1..=12 => random.within(250, 800),
+        1..=9 => random.within(250, 800),
+        10..=12 => random.within(3_000, 9_000),
         _ => random.within(1, 60),
     };
     cells as u32

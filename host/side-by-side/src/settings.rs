@@ -5,11 +5,12 @@ use crate::random::Random;
 /// Kind, width and step.
 pub type Setting = [u32; 3];
 
-/// All 577 settings that are allowed.
+/// All 1,087 settings that are allowed.
 pub fn all() -> Vec<Setting> {
     let mut all = vec![[1, 0, 0], [2, 0, 0], [4, 1, 0], [4, 2, 0]];
     for width in 1..=2 {
         all.extend((1..=255).map(|step| [3, width, step]));
+        all.extend((1..=255).map(|step| [6, width, step]));
     }
     all.extend((2..=64).map(|step| [5, 0, step]));
     all
@@ -18,14 +19,16 @@ pub fn all() -> Vec<Setting> {
 /// An allowed setting, each kind as often as another.
 pub fn any(random: &mut Random) -> Setting {
     let width = random.within(1, 2) as u32;
-    match random.below(5) {
+    match random.below(6) {
         0 => [1, 0, 0],
         1 => [2, 0, 0],
         2 if random.once_in(2) => [3, width, random.within(1, 4) as u32],
         2 => [3, width, random.within(1, 255) as u32],
         3 => [4, width, 0],
-        _ if random.once_in(2) => [5, 0, random.within(2, 4) as u32],
-        _ => [5, 0, random.within(2, 64) as u32],
+        4 if random.once_in(2) => [5, 0, random.within(2, 4) as u32],
+        4 => [5, 0, random.within(2, 64) as u32],
+        _ if random.once_in(2) => [6, width, random.within(1, 4) as u32],
+        _ => [6, width, random.within(1, 255) as u32],
     }
 }
 
@@ -51,6 +54,7 @@ pub fn wrong(random: &mut Random) -> Setting {
         3,
         6,
         7,
+        8,
         64,
         65,
         255,
@@ -60,6 +64,7 @@ pub fn wrong(random: &mut Random) -> Setting {
         259,
         260,
         261,
+        262,
         1 << 31,
         u32::MAX,
         word,
@@ -67,7 +72,7 @@ pub fn wrong(random: &mut Random) -> Setting {
     setting
 }
 
-/// The setting as the types of the engine's crate take it; its calls take the three numbers. The kind is 1 to 5.
+/// The setting as the types of the engine's crate take it; its calls take the three numbers. The kind is 1 to 6.
 pub fn engine(setting: Setting) -> radar_archive::Setting {
     match radar_archive::Setting::try_from(setting) {
         Ok(setting) => setting,

@@ -12,6 +12,7 @@ pub const NAMES: &[&str] = &[
     "scattered",
     "runs",
     "gaps of 254 to 257",
+    "many jumps",
     "gaps of 65,534 to 65,537",
 ];
 
@@ -112,6 +113,10 @@ fn stored(name: &str, random: &mut Random) -> Vec<bool> {
         "gaps of 254 to 257" => {
             let count = random.within(1, 12);
             return gaps(&[254, 255, 256, 257, 1, 2], count, random);
+        }
+        "many jumps" => {
+            let count = random.within(13, 60);
+            return gaps(&[255, 256, 257, 1], count, random);
         }
         _ => {
             let count = random.within(1, 4);

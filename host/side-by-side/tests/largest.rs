@@ -52,6 +52,10 @@ fn sparse_line() {
         [4, 1, 0],
         [4, 2, 0],
         [5, 0, 2],
+        [6, 1, 1],
+        [6, 1, 3],
+        [6, 2, 2],
+        [6, 2, 255],
     ] {
         let file = made(setting, 1, [CELLS, 1, 1, 1], &words);
         reads(&mut sides, &file, &stored, &words);
@@ -61,7 +65,7 @@ fn sparse_line() {
 /// A square of stored cells only.
 fn full_square() {
     let words: Vec<u32> = (1..=CELLS).collect();
-    for setting in [[1, 0, 0], [3, 1, 255], [4, 1, 0], [5, 0, 64]] {
+    for setting in [[1, 0, 0], [3, 1, 255], [4, 1, 0], [5, 0, 64], [6, 1, 1]] {
         let file = made(setting, 2, [4_096, 4_096, 1, 1], &words);
         assert_eq!(calls::check(&file), Ok(()));
     }

@@ -139,7 +139,7 @@ fn every_setting_through_the_safe_types() {
     let mut random = Random::new(7);
     for (index, setting) in settings::all().into_iter().enumerate() {
         for turn in 0..4 {
-            let sketch = Sketch::of(NAMES[(index + turn) % 8], &mut random);
+            let sketch = Sketch::of(NAMES[(index + turn) % 9], &mut random);
             let made = told(picture(&sketch).make(settings::engine(setting)));
             assert_eq!(made, wanted(&sketch, setting));
             let Ok(file) = made else { continue };
@@ -159,15 +159,16 @@ fn every_setting_through_the_safe_types() {
 
 #[test]
 fn the_longest_files_are_as_long_as_said() {
-    // Every other cell stored: as many runs as stored cells, so kinds 1 and 5 reach the length; distant cells reach that of kind 4.
+    // Every other cell stored: as many runs as stored cells, so kinds 1 and 5 reach the length; distant cells reach that of kinds 4 and 6.
     for stored in [0, 1, 2, 3, 9, 64, 65, 200] {
         for setting in settings::all() {
-            let gap = if setting[0] == 4 {
+            let of_jumps = matches!(setting[0], 4 | 6);
+            let gap = if of_jumps {
                 256usize.pow(setting[1])
             } else {
                 2
             };
-            if setting[0] == 4 && setting[1] == 2 && stored > 9 {
+            if of_jumps && setting[1] == 2 && stored > 9 {
                 continue;
             }
             let words: Vec<u32> = (0..stored.max(1) * gap)
@@ -213,7 +214,7 @@ fn wrong_settings_and_pictures_have_their_numbers() {
 fn the_shorter_is_one_of_the_two() {
     let mut random = Random::new(9);
     for turn in 0..500 {
-        let sketch = Sketch::of(NAMES[turn % 8], &mut random);
+        let sketch = Sketch::of(NAMES[turn % 9], &mut random);
         let settings = [settings::any(&mut random), settings::any(&mut random)];
         let [Ok(one), Ok(two)] = settings.map(|setting| wanted(&sketch, setting)) else {
             continue;
@@ -250,14 +251,21 @@ fn refusals_have_the_papers_numbers_and_words() {
 
 #[test]
 fn kinds_have_their_numbers_and_names() {
-    let names = ["runs", "positions", "base-offset", "jumps", "paged-runs"];
+    let names = [
+        "runs",
+        "positions",
+        "base-offset",
+        "jumps",
+        "paged-runs",
+        "pointed-jumps",
+    ];
     for ((number, name), kind) in (1..).zip(names).zip(Kind::ALL) {
         assert_eq!((kind.number(), kind.name()), (number, name));
         assert_eq!(Kind::of_number(number), Some(kind));
         assert_eq!(kind.to_string().parse(), Ok(kind));
         assert_eq!(format!("[{kind:<12}]"), format!("[{name:<12}]"));
     }
-    for number in [0, 6, 257, u32::MAX] {
+    for number in [0, 7, 257, u32::MAX] {
         assert_eq!(Kind::of_number(number), None);
     }
     for name in ["", "run", "Runs", "runs ", "1", "base offset"] {
@@ -265,7 +273,7 @@ fn kinds_have_their_numbers_and_names() {
     }
 }
 
-/// The settings that the crate allows are those of the paper.
+/// The settings that the crate allows are those of the papers.
 #[test]
 fn allowed_settings() {
     let mut allowed = Vec::new();

@@ -35,7 +35,7 @@ fn shapes(cells: u32) -> Vec<(u32, [u32; 4])> {
 }
 
 /// Settings of every kind whose pages, groups and widths small pictures can fill, and the last ones.
-const SPREAD: [[u32; 3]; 16] = [
+const SPREAD: [[u32; 3]; 22] = [
     [1, 0, 0],
     [2, 0, 0],
     [3, 1, 1],
@@ -52,6 +52,12 @@ const SPREAD: [[u32; 3]; 16] = [
     [5, 0, 3],
     [5, 0, 4],
     [5, 0, 64],
+    [6, 1, 1],
+    [6, 1, 2],
+    [6, 1, 16],
+    [6, 2, 1],
+    [6, 2, 3],
+    [6, 2, 255],
 ];
 
 #[test]
@@ -197,13 +203,16 @@ fn every_sample_file_with_one_byte_changed_agrees() {
     }
     let words: Vec<u32> = (0..22).map(|at| 7 * (at % 2)).collect();
     all_one_byte_faults(&mut sides, &line([5, 0, 2], &words).unwrap());
-    let words = stored_at(600, &[0, 255, 511, 512, 599]);
+    let words = stored_at(900, &[0, 255, 511, 512, 800]);
     all_one_byte_faults(&mut sides, &line([4, 1, 0], &words).unwrap());
+    for step in [1, 2, 3] {
+        all_one_byte_faults(&mut sides, &line([6, 1, step], &words).unwrap());
+    }
 }
 
 #[test]
 fn the_sample_files_are_the_papers() {
-    let lengths = [92, 84, 80, 76, 108];
+    let lengths = [92, 84, 80, 76, 108, 80];
     for (setting, length) in SAMPLE_SETTINGS.into_iter().zip(lengths) {
         let file = sample(setting);
         assert_eq!(file.len(), length);
@@ -222,6 +231,10 @@ fn the_sample_files_are_the_papers() {
     assert_eq!(
         sample([5, 0, 2])[52..92],
         fours(&[6, 3, 11, 7, 4, 2, 6, 3, 5, 4])
+    );
+    assert_eq!(
+        sample([6, 1, 2])[52..64],
+        [fours(&[2]), vec![0, 1, 2, 5], fours(&[0])].concat()
     );
     assert_eq!(line([1, 0, 0], &[7; 12]).unwrap()[52..60], fours(&[11, 0]));
 }

@@ -5,11 +5,18 @@ use reader::{Refusal, Setting};
 /// The words of the sample picture; its empty word is 0.
 pub const SAMPLE: [u32; 12] = [0, 0, 7, 9, 0, 5, 0, 0, 0, 0, 300, 0];
 
-/// The settings of M1 to M5.
-pub const SETTINGS: [[u32; 3]; 5] = [[1, 0, 0], [2, 0, 0], [3, 1, 2], [4, 1, 0], [5, 0, 2]];
+/// The settings of M1 to M5, and that of the sample in kind 6.
+pub const SETTINGS: [[u32; 3]; 6] = [
+    [1, 0, 0],
+    [2, 0, 0],
+    [3, 1, 2],
+    [4, 1, 0],
+    [5, 0, 2],
+    [6, 1, 2],
+];
 
 /// Settings of every kind, among them the ends of the ranges.
-pub const ALL_KINDS: [[u32; 3]; 12] = [
+pub const ALL_KINDS: [[u32; 3]; 16] = [
     [1, 0, 0],
     [2, 0, 0],
     [3, 1, 1],
@@ -22,6 +29,10 @@ pub const ALL_KINDS: [[u32; 3]; 12] = [
     [5, 0, 3],
     [5, 0, 17],
     [5, 0, 64],
+    [6, 1, 1],
+    [6, 1, 16],
+    [6, 2, 3],
+    [6, 2, 255],
 ];
 
 /// A picture: extents, empty word, words.
@@ -144,12 +155,13 @@ pub fn with_byte(file: &[u8], at: usize, value: u8) -> Vec<u8> {
 pub fn damaged() -> Vec<(usize, Option<u32>, Vec<u8>)> {
     let m2 = Picture::sample().file(SETTINGS[1]);
     let m5 = Picture::sample().file(SETTINGS[4]);
+    let m6 = Picture::sample().file(SETTINGS[5]);
     let longer = [&m2[..], &[0]].concat();
     let damaged = vec![
         (1, None, Vec::new()),
         (1, None, m2[..51].to_vec()),
         (2, Some(0), with_byte(&m2, 0, 0)),
-        (2, Some(0), with_byte(&m2, 0, 6)),
+        (2, Some(0), with_byte(&m2, 0, 7)),
         (3, Some(2), with_byte(&m2, 2, 1)),
         (3, Some(3), with_byte(&m5, 3, 65)),
         (4, Some(1), with_byte(&m2, 1, 5)),
@@ -158,8 +170,10 @@ pub fn damaged() -> Vec<(usize, Option<u32>, Vec<u8>)> {
         (4, Some(12), with_field(&m2, 12, 0)),
         (5, Some(24), with_field(&m2, 24, 13)),
         (5, Some(28), with_field(&m2, 28, 3)),
+        (5, Some(44), with_field(&m6, 44, 60)),
         (5, Some(48), longer),
         (6, Some(60), with_field(&m2, 60, 3)),
+        (6, Some(60), with_field(&m6, 60, 1)),
         (6, Some(64), with_field(&m2, 64, 12)),
         (6, Some(80), with_field(&m2, 80, 0)),
     ];

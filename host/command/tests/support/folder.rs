@@ -31,10 +31,10 @@ impl Folder {
         Folder { path }
     }
 
-    /// A folder with m1.radar to m5.radar.
+    /// A folder with m1.radar to m6.radar.
     pub fn with_samples() -> Folder {
         let folder = Folder::new();
-        for sample in 1..=5 {
+        for sample in 1..=6 {
             let name = format!("m{sample}.radar");
             fs::copy(Path::new(SAMPLES).join(&name), folder.path(&name)).expect("a sample");
         }

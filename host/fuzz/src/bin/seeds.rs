@@ -7,7 +7,7 @@ fn main() -> std::io::Result<()> {
     let [samples, out] = folders.as_slice() else {
         panic!("usage: fuzz-seeds FOLDER-OF-SAMPLES FOLDER");
     };
-    let samples: Result<Vec<Vec<u8>>, _> = (1..=5)
+    let samples: Result<Vec<Vec<u8>>, _> = (1..=6)
         .map(|kind| std::fs::read(samples.join(format!("m{kind}.radar"))))
         .collect();
     std::fs::create_dir_all(out)?;

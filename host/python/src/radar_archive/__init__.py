@@ -1,7 +1,7 @@
 """Radar picture archive: numpy arrays over the proved engine.
 
 A picture is an array of 32-bit words of 1 to 4 dimensions, nearly all of them the same empty word. Its file keeps the other words, and a header
-of one of five kinds that says where they stood.
+of one of six kinds that says where they stood.
 
 >>> import radar_archive
 >>> a = radar_archive.make([0, 0, 7, 9, 0, 5, 0, 0, 0, 0, 300, 0], kind="positions")
@@ -26,7 +26,7 @@ from radar_archive.opening import Bytes, mapped
 from radar_archive.refusal import Beyond, Refused
 from radar_archive.setting import LONGEST_FILE, MOST_CELLS, Kind, KindLike, Setting
 
-__version__ = "1.0.0"
+__version__ = "1.1.0"
 __all__ = [
     "LONGEST_FILE",
     "MOST_CELLS",

@@ -224,7 +224,7 @@ class Archive:
     @property
     def stored_words(self) -> NDArray[np.uint32]:
         """The words of the stored cells by rank. On machines with the lowest byte first this is the file itself, not copied; it cannot be
-        written, and in kinds 3 and 4 its items may stand at odd addresses (`flags.aligned`)."""
+        written, and in kinds 3, 4 and 6 its items may stand at odd addresses (`flags.aligned`)."""
         return self._numbers(self._bytes(), self._header.words_at)
 
     @property

@@ -2,7 +2,7 @@
 import numpy as np
 from numpy.typing import NDArray
 
-from radar_archive.setting import Kind, Setting, all_settings, upper_entries
+from radar_archive.setting import Kind, Setting, all_settings, pointers, upper_entries
 
 
 def shortest_setting(positions: NDArray[np.uint32]) -> Setting:
@@ -29,6 +29,8 @@ def _part_lengths(positions: NDArray[np.uint32]) -> dict[Setting, int]:
             return 4 * -(-stored // step) + width * stored
         if kind == Kind.JUMPS:
             return 4 * jumps[width] + width * stored
+        if kind == Kind.POINTED_JUMPS:
+            return 4 * (jumps[width] + pointers(jumps[width], step)) + width * stored
         return 8 * (runs + upper_entries(runs, step))
 
     return {setting: length(setting) for setting in all_settings()}

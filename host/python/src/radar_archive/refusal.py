@@ -8,7 +8,7 @@ Explain = Callable[[int], str | None]
 
 _SIGNALS = {
     1: ("short", "the file is under 52 bytes"),
-    2: ("kind", "the kind is not 1 to 5"),
+    2: ("kind", "the kind is not 1 to 6"),
     3: ("setting", "width or step is not allowed for the kind"),
     4: ("extent", "dimension count, extents or their product are not a picture's"),
     5: ("counts", "a count, offset or length is not what the layout gives"),

@@ -15,7 +15,7 @@ LONGEST_FILE = 167_772_212
 
 
 class Kind(IntEnum):
-    """The five header kinds. A call takes a kind as this, as its number or as its name.
+    """The six header kinds. A call takes a kind as this, as its number or as its name.
 
     >>> Kind.BASE_OFFSET
     <Kind.BASE_OFFSET: 3>
@@ -28,6 +28,7 @@ class Kind(IntEnum):
     BASE_OFFSET = 3
     JUMPS = 4
     PAGED_RUNS = 5
+    POINTED_JUMPS = 6
 
     def __str__(self) -> str:
         return self.name.lower().replace("_", "-")
@@ -43,6 +44,7 @@ _ALLOWED = {
     Kind.BASE_OFFSET: (range(1, 3), range(1, 256)),
     Kind.JUMPS: (range(1, 3), range(1)),
     Kind.PAGED_RUNS: (range(1), range(2, 65)),
+    Kind.POINTED_JUMPS: (range(1, 3), range(1, 256)),
 }
 
 
@@ -80,6 +82,11 @@ def upper_entries(runs: int, step: int) -> int:
     return upper
 
 
+def pointers(jumps: int, step: int) -> int:
+    """The pointers of a kind 6 file with so many jumps."""
+    return -(-jumps // step)
+
+
 def longest_file(numbers: tuple[int, int, int], stored: int) -> int:
     """A length in bytes that no file of a setting with so many stored cells exceeds; 0 for a setting that is not allowed."""
     kind, width, step = numbers
@@ -91,6 +98,8 @@ def longest_file(numbers: tuple[int, int, int], stored: int) -> int:
         parts = 4 * -(-stored // step) + width * stored
     elif kind == Kind.PAGED_RUNS:
         parts = 8 * (stored + upper_entries(stored, step))
+    elif kind == Kind.POINTED_JUMPS:
+        parts = (4 + width) * stored + 4 * pointers(stored, step)
     else:
         parts = (4 + width) * stored
     return HEADER_LENGTH + parts + 4 * stored
@@ -108,7 +117,8 @@ def explain_setting(number: int, numbers: tuple[int, int, int]) -> str | None:
     if number == 2:
         return unknown_kind(str(kind))
     if number == 3:
-        wanted = {3: "width 1 or 2 and step 1 to 255", 4: "width 1 or 2 and no step", 5: "step 2 to 64 and no width"}
+        both = "width 1 or 2 and step 1 to 255"
+        wanted = {3: both, 4: "width 1 or 2 and no step", 5: "step 2 to 64 and no width", 6: both}
         needs = wanted.get(kind, "no width and no step")
         return f"kind {kind} {Kind(kind)} does not go with width {width} and step {step}; it takes {needs}"
     if number == 9:

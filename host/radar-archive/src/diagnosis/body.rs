@@ -3,7 +3,7 @@
 use alloc::format;
 
 use super::header::Header;
-use super::{base_offset, fault, jumps, number, paged_runs, positions, runs, Test};
+use super::{base_offset, fault, jumps, number, paged_runs, pointed_jumps, positions, runs, Test};
 use crate::Kind;
 
 /// Tests 6: the parts first, then the words. Numbers 1 to 5 are past.
@@ -14,6 +14,7 @@ pub(super) fn body(file: &[u8], header: &Header) -> Test {
         Kind::BaseOffset => base_offset::parts(file, header)?,
         Kind::Jumps => jumps::parts(file, header)?,
         Kind::PagedRuns => paged_runs::parts(file, header)?,
+        Kind::PointedJumps => pointed_jumps::parts(file, header)?,
     }
     words(file, header)
 }

@@ -1,12 +1,12 @@
 //! Number 5: counts, offsets and length, in the order of the signal list.
 
 use alloc::format;
-use alloc::string::ToString;
+use alloc::string::{String, ToString};
 
 use super::header::Header;
 use super::{fault, first_finding, many, Test};
 use crate::header::HEADER_LENGTH;
-use crate::layout::{entry_sizes, upper_entries};
+use crate::layout::{part_lengths, pointers, upper_entries};
 use crate::{Kind, MOST_CELLS};
 
 /// Tests 5. Numbers 1 to 4 are past.
@@ -34,11 +34,11 @@ pub(super) fn counts(file: &[u8], header: &Header) -> Test {
     Ok(())
 }
 
-/// The count that N only bounds: runs in kinds 1 and 5, jumps in kind 4.
+/// The count that N only bounds: runs in kinds 1 and 5, jumps in kinds 4 and 6.
 fn bounded_count(header: &Header) -> Test {
     let (byte, count, thing) = match header.setting.kind {
         Kind::Runs => (28, header.first, "run"),
-        Kind::Jumps => (28, header.first, "jump"),
+        Kind::Jumps | Kind::PointedJumps => (28, header.first, "jump"),
         Kind::PagedRuns => (32, header.second, "run"),
         Kind::Positions | Kind::BaseOffset => return Ok(()),
     };
@@ -67,7 +67,7 @@ fn first_count(header: &Header) -> Test {
             let what = format!("the entries above level 0 of {runs} at step {step}");
             (upper_entries(header.second, step), what)
         }
-        Kind::Runs | Kind::Jumps => return Ok(()),
+        Kind::Runs | Kind::Jumps | Kind::PointedJumps => return Ok(()),
     };
     if header.first != given {
         let first = header.first;
@@ -85,7 +85,9 @@ fn second_count(header: &Header) -> Test {
             let number = kind.number();
             (0, format!("since kind {number} has no second part"))
         }
-        Kind::BaseOffset | Kind::Jumps => (header.stored, "the number of stored cells".to_string()),
+        Kind::BaseOffset | Kind::Jumps | Kind::PointedJumps => {
+            (header.stored, "the number of stored cells".to_string())
+        }
         Kind::PagedRuns => return Ok(()),
     };
     if header.second != given {
@@ -97,22 +99,36 @@ fn second_count(header: &Header) -> Test {
     Ok(())
 }
 
+/// What stands before the words in kind 6 and is in no count.
+fn behind_pointers(header: &Header) -> String {
+    match header.setting.kind {
+        Kind::PointedJumps => {
+            let pointers = many(pointers(header.setting, header.first), "pointer");
+            format!(", behind the differences and {pointers}")
+        }
+        _ => String::new(),
+    }
+}
+
 /// The offsets, and the length that header, parts and words have.
 fn offsets(header: &Header) -> Test {
-    let [first_size, second_size] = entry_sizes(header.setting).map(|size| size as u64);
+    let [first, second] = part_lengths(header.setting, [header.first, header.second]);
     let first_at = HEADER_LENGTH as u64;
-    let second_at = first_at + first_size * header.first;
-    let words_at = second_at + second_size * header.second;
+    let second_at = first_at + first;
+    let words_at = second_at + second;
     for (byte, what, says, given) in [
         (36, "first part", header.first_at, first_at),
         (40, "second part", header.second_at, second_at),
         (44, "stored words", header.words_at, words_at),
     ] {
         if says != given {
-            return fault(
-                byte,
-                format!("the offset of the {what} is {says}, not {given}"),
-            );
+            let behind = if byte == 44 {
+                behind_pointers(header)
+            } else {
+                String::new()
+            };
+            let message = format!("the offset of the {what} is {says}, not {given}{behind}");
+            return fault(byte, message);
         }
     }
     let given = words_at + 4 * header.stored;

@@ -97,7 +97,7 @@ impl Header {
 fn known(kind: u32) -> Result<Kind, Fault> {
     Kind::of_number(kind).ok_or_else(|| Fault {
         refusal: Refusal::Kind,
-        message: format!("kind {kind}; the kinds are 1 to 5"),
+        message: format!("kind {kind}; the kinds are 1 to 6"),
         byte: Some(0),
     })
 }

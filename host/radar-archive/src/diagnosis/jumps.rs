@@ -1,4 +1,4 @@
-//! Kind 4: differences and jumps.
+//! Kind 4, and the rules of differences and jumps that kinds 4 and 6 share.
 
 use alloc::format;
 
@@ -7,29 +7,36 @@ use super::positions::{rising, Rising};
 use super::{fault, many, number, Test};
 use crate::header::HEADER_LENGTH;
 
-/// Tests both parts, in the order of the ranks.
+/// Tests both parts of kind 4.
 pub(super) fn parts(file: &[u8], header: &Header) -> Test {
-    let width = header.width();
-    rising(header, |rising| {
-        let mut jumps = 0;
-        for rank in 0..header.stored as usize {
-            let at = header.second_at as usize + width * rank;
-            let difference = number(file, at, width);
-            if difference != 0 {
-                step(rising, rank, difference, at)?;
-                continue;
-            }
-            if jumps == header.first {
-                let message = format!(
-                    "the difference of rank {rank} is 0, and there is no jump {jumps} for it"
-                );
-                return fault(at, message);
-            }
-            jump(file, header, rising, rank, jumps as usize)?;
-            jumps += 1;
+    rising(header, |rising| differences(file, header, rising))
+}
+
+/// Tests jumps and differences, in the order of the ranks.
+pub(super) fn differences(file: &[u8], header: &Header, rising: &mut Rising) -> Test {
+    let mut jumps = 0;
+    for rank in 0..header.stored as usize {
+        let (at, difference) = difference(file, header, rank);
+        if difference != 0 {
+            step(rising, rank, difference, at)?;
+            continue;
         }
-        left_over(header, jumps)
-    })
+        if jumps == header.first {
+            let message =
+                format!("the difference of rank {rank} is 0, and there is no jump {jumps} for it");
+            return fault(at, message);
+        }
+        jump(file, header, rising, rank, jumps as usize)?;
+        jumps += 1;
+    }
+    left_over(header, jumps)
+}
+
+/// The offset of a rank's difference, and the difference.
+pub(super) fn difference(file: &[u8], header: &Header, rank: usize) -> (usize, u64) {
+    let width = header.width();
+    let at = header.second_at as usize + width * rank;
+    (at, number(file, at, width))
 }
 
 /// Tests a difference that is not 0.

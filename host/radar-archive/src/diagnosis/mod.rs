@@ -13,6 +13,7 @@ mod fault;
 mod header;
 mod jumps;
 mod paged_runs;
+mod pointed_jumps;
 mod positions;
 mod runs;
 mod suspect;

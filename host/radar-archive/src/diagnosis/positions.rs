@@ -1,4 +1,4 @@
-//! Kind 2, and the rule that kinds 2, 3 and 4 share: positions rise and lie below the cells.
+//! Kind 2, and the rule that kinds 2, 3, 4 and 6 share: positions rise and lie below the cells.
 
 use alloc::format;
 use alloc::string::String;

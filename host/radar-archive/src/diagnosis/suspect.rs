@@ -4,7 +4,7 @@ use alloc::format;
 use alloc::vec::Vec;
 
 use super::header::{extent_at, Header};
-use super::{first_finding, range, Finding};
+use super::{first_finding, pointed_jumps, range, Finding};
 use crate::header::HEADER_LENGTH;
 use crate::layout::entry_sizes;
 use crate::{Kind, Setting};
@@ -19,13 +19,15 @@ struct Suspect {
 
 /// The finding of the one field with which, another value in it, the file would be accepted. Nothing where no field or several are such.
 pub(super) fn alone(file: &[u8], header: &Header) -> Option<Finding> {
-    let mut found = suspects(header).into_iter().filter_map(|mut suspect| {
-        let accepted = |(value, mended): &(u64, Header)| {
-            *value != suspect.says && first_finding(file, mended).is_none()
-        };
-        suspect.mended.retain(accepted);
-        (!suspect.mended.is_empty()).then_some(suspect)
-    });
+    let mut found = suspects(file, header)
+        .into_iter()
+        .filter_map(|mut suspect| {
+            let accepted = |(value, mended): &(u64, Header)| {
+                *value != suspect.says && first_finding(file, mended).is_none()
+            };
+            suspect.mended.retain(accepted);
+            (!suspect.mended.is_empty()).then_some(suspect)
+        });
     match (found.next(), found.next()) {
         (Some(suspect), None) => Some(suspect.finding()),
         _ => None,
@@ -47,13 +49,13 @@ impl Suspect {
 }
 
 /// The fields whose value the rest of the file can tell, but the offsets and the length, which the tests of number 5 tell.
-fn suspects(header: &Header) -> [Suspect; 7] {
+fn suspects(file: &[u8], header: &Header) -> [Suspect; 7] {
     [
         kind(header),
         dimension_count(header),
         extent_past_the_count(header),
         width(header),
-        step(header),
+        step(file, header),
         stored(header),
         runs_or_jumps(header),
     ]
@@ -121,8 +123,13 @@ fn width(header: &Header) -> Suspect {
     }
 }
 
-/// The step, which could be any other that the kind allows.
-fn step(header: &Header) -> Suspect {
+/// The step, which could be any other that the kind allows; in kind 6 the pointers tell which.
+fn step(file: &[u8], header: &Header) -> Suspect {
+    let kind = header.setting.kind;
+    let steps: Vec<u32> = match kind {
+        Kind::PointedJumps => pointed_jumps::steps(file, header),
+        _ => kind.steps().collect(),
+    };
     let of = |step: u32| {
         (
             step.into(),
@@ -133,7 +140,7 @@ fn step(header: &Header) -> Suspect {
         byte: 3,
         name: "step",
         says: header.setting.step.into(),
-        mended: header.setting.kind.steps().map(of).collect(),
+        mended: steps.into_iter().map(of).collect(),
     }
 }
 
@@ -142,7 +149,7 @@ fn stored(header: &Header) -> Suspect {
     let words = header.length.saturating_sub(header.words_at) / 4;
     let count = match header.setting.kind {
         Kind::Positions => header.first,
-        Kind::BaseOffset | Kind::Jumps => header.second,
+        Kind::BaseOffset | Kind::Jumps | Kind::PointedJumps => header.second,
         Kind::Runs | Kind::PagedRuns => words,
     };
     let mended = with(header, |mended| mended.stored = count);
@@ -154,7 +161,7 @@ fn stored(header: &Header) -> Suspect {
     }
 }
 
-/// The runs of kinds 1 and 5 or the jumps of kind 4, for each of which there is an entry before the next offset.
+/// The runs of kinds 1 and 5 or the jumps of kinds 4 and 6, for each of which there is an entry before the next offset.
 fn runs_or_jumps(header: &Header) -> Suspect {
     let [first_size, second_size] = entry_sizes(header.setting).map(|size| size as u64);
     let before_second = header.second_at.saturating_sub(HEADER_LENGTH as u64);

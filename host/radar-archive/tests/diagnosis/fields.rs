@@ -3,7 +3,7 @@
 use radar_archive::diagnosis::first_fault;
 use radar_archive::{calls, Dimensions, Picture, Setting};
 
-use crate::files::{line, sample, with_byte, with_field};
+use crate::files::{line, sample, stored_at, with_byte, with_field};
 use crate::rows::{five, of_bytes, of_fields, six, Change, Row};
 
 /// The rows of fields that another test of the same number told before.
@@ -12,6 +12,7 @@ pub fn rows() -> Vec<Row> {
     rows.extend(of_bytes(5, SETTINGS));
     rows.extend(of_fields(5, COUNTS));
     rows.push(another_step());
+    rows.extend(steps_of_pointers());
     rows.extend(dimension_counts());
     rows.extend(too_few_cells());
     rows.push(too_many_cells());
@@ -25,6 +26,9 @@ const KINDS: &[Change] = &[
     (3, 0, 1, "the kind is 1; the rest of the file agrees with 3", 0),
     (4, 0, 2, "the kind is 2; the rest of the file agrees with 4", 0),
     (5, 0, 4, "the kind is 4; the rest of the file agrees with 5", 0),
+    (4, 0, 6, "the kind is 6; the rest of the file agrees with 4", 0),
+    (6, 0, 4, "the kind is 4; the rest of the file agrees with 6", 0),
+    (6, 0, 5, "the kind is 5; the rest of the file agrees with 6", 0),
 ];
 
 /// Kinds, widths and steps that are allowed, but not the sample's.
@@ -32,8 +36,11 @@ const KINDS: &[Change] = &[
 const SETTINGS: &[Change] = &[
     (1, 0, 2, "the kind is 2; the rest of the file agrees with 1", 0),
     (2, 0, 1, "the kind is 1; the rest of the file agrees with 2", 0),
+    (3, 0, 6, "the kind is 6; the rest of the file agrees with 3", 0),
+    (6, 0, 3, "the kind is 3; the rest of the file agrees with 6", 0),
     (3, 2, 2, "the width is 2; the rest of the file agrees with 1", 2),
     (4, 2, 2, "the width is 2; the rest of the file agrees with 1", 2),
+    (6, 2, 2, "the width is 2; the rest of the file agrees with 1", 2),
     (3, 3, 1, "the step is 1; the rest of the file agrees with 2", 3),
     (3, 3, 255, "the step is 255; the rest of the file agrees with 2", 3),
     (5, 3, 64, "the step is 64; the rest of the file agrees with 2", 3),
@@ -47,15 +54,52 @@ const COUNTS: &[Change] = &[
     (3, 24, 12, "the number of stored cells is 12; the rest of the file agrees with 4", 24),
     (4, 24, 0, "the number of stored cells is 0; the rest of the file agrees with 4", 24),
     (5, 24, 1, "the number of stored cells is 1; the rest of the file agrees with 4", 24),
+    (6, 24, 3, "the number of stored cells is 3; the rest of the file agrees with 4", 24),
     (1, 28, 2, "the number of runs is 2; the rest of the file agrees with 3", 28),
     (4, 28, 2, "the number of jumps is 2; the rest of the file agrees with 1", 28),
     (5, 32, 2, "the number of runs is 2; the rest of the file agrees with 3", 32),
+    (6, 28, 0, "the number of jumps is 0; the rest of the file agrees with 1", 28),
+    (6, 28, 2, "the number of jumps is 2; the rest of the file agrees with 1", 28),
 ];
 
 /// Four stored cells at step 3 have as many bases as at step 2.
 fn another_step() -> Row {
     let message = "the step is 3; the rest of the file agrees with 2";
     six(with_byte(sample(3), 3, 3), message, 3)
+}
+
+/// Kind 6 with another step: one that has other pointers, one that has as many, and one in place of all that have a single pointer.
+fn steps_of_pointers() -> Vec<Row> {
+    let of = |jumps: u32, step, wrong| {
+        // Two stored cells for each jump.
+        let stored: Vec<u32> = (0..jumps)
+            .flat_map(|jump| [300 * jump, 300 * jump + 2])
+            .collect();
+        let file = line(Setting::pointed_jumps(1, step), &stored_at(2_000, &stored));
+        with_byte(file, 3, wrong)
+    };
+    vec![
+        five(
+            of(5, 2, 1),
+            "the step is 1; the rest of the file agrees with 2",
+            3,
+        ),
+        five(
+            of(5, 2, 200),
+            "the step is 200; the rest of the file agrees with 2",
+            3,
+        ),
+        six(
+            of(4, 3, 2),
+            "the step is 2; the rest of the file agrees with 3",
+            3,
+        ),
+        five(
+            of(4, 7, 3),
+            "the step is 3; the rest of the file agrees with 4 to 255",
+            3,
+        ),
+    ]
 }
 
 /// The file of a picture of 12 cells, all but the first four stored.
@@ -100,6 +144,7 @@ fn too_few_cells() -> Vec<Row> {
         six(all_in_a_row(Setting::positions()), "the last stored cell is at position 11; by the extents the last cell is at position 10", 4),
         six(all_in_a_row(Setting::base_offset(1, 4)), "the last stored cell is at position 11; by the extents the last cell is at position 10", 4),
         six(line(4, 6), "the last stored cell is at position 10; by the extents the last cell is at position 5", 4),
+        six(line(6, 6), "the last stored cell is at position 10; by the extents the last cell is at position 5", 4),
         six(of_jumps, "difference 1 from position 7 puts rank 4 at position 8; the last cell is at position 7", 60),
     ]
 }
@@ -128,7 +173,7 @@ const FIELDS: [usize; 12] = [4, 8, 12, 16, 20, 24, 28, 32, 36, 40, 44, 48];
 #[test]
 fn each_field_by_itself() {
     let mut told = 0;
-    for kind in 1..=5 {
+    for kind in 1..=6 {
         let file = sample(kind);
         for at in FIELDS {
             let own = u32::from_le_bytes(file[at..at + 4].try_into().unwrap());
@@ -157,7 +202,7 @@ fn one_field(file: &[u8], at: usize, kind: u32) -> bool {
     assert_eq!(fault.refusal, refusal);
     let right = match (kind, at, fault.byte) {
         // Rank 2 is at position 5, so rank 3 by itself could be at 6.
-        (2..=4, 4, Some(byte)) if byte >= 52 => file[4] > 6,
+        (2..=4 | 6, 4, Some(byte)) if byte >= 52 => file[4] > 6,
         (_, 20, Some(byte)) if byte >= 52 => fault.message.ends_with("the empty word"),
         (4, 0, Some(3)) => file[0] == 3,
         (_, _, byte) => byte == Some(at),

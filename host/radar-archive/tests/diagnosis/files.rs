@@ -16,14 +16,24 @@ pub fn line(setting: Setting, words: &[u32]) -> Vec<u8> {
     picture.make(setting).unwrap()
 }
 
-/// The files M1 to M5 of document 01.
+/// Words that are 0, but 7 at the positions given.
+pub fn stored_at(cells: usize, positions: &[u32]) -> Vec<u32> {
+    let mut words = vec![0; cells];
+    for &position in positions {
+        words[position as usize] = 7;
+    }
+    words
+}
+
+/// The files M1 to M5 of document 01, and the same picture in kind 6.
 pub fn sample(kind: u32) -> Vec<u8> {
     let setting = match kind {
         1 => Setting::runs(),
         2 => Setting::positions(),
         3 => Setting::base_offset(1, 2),
         4 => Setting::jumps(1),
-        _ => Setting::paged_runs(2),
+        5 => Setting::paged_runs(2),
+        _ => Setting::pointed_jumps(1, 2),
     };
     line(setting, &[0, 0, 7, 9, 0, 5, 0, 0, 0, 0, 300, 0])
 }
@@ -64,6 +74,12 @@ pub fn pairs(pairs: &[[u32; 2]]) -> Part {
 /// A part of single bytes.
 pub fn bytes(bytes: &[u8]) -> Part {
     (bytes.len() as u32, bytes.to_vec())
+}
+
+/// The second part of kind 6 with differences of one byte, and pointers, which it does not count.
+pub fn pointed(differences: &[u8], pointers: &[u32]) -> Part {
+    let bytes = [differences.to_vec(), fours(pointers)].concat();
+    (differences.len() as u32, bytes)
 }
 
 /// A file of one dimension with the empty word 0, put together from its parts.

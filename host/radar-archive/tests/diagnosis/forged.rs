@@ -88,6 +88,7 @@ fn shape(message: &str) -> String {
         ("jumps", "jump"),
         ("bytes", "byte"),
         ("differences", "difference"),
+        ("pointers", "pointer"),
         ("# or #", "#"),
         ("# to #", "#"),
     ] {
@@ -115,7 +116,7 @@ fn forged_files() {
     let mut met = Met::default();
     for index in 0..PICTURES {
         let sketch = Sketch::of(NAMES[index % NAMES.len()], &mut random);
-        for kind in 1..=5 {
+        for kind in 1..=6 {
             let setting = settings::reader(settings::any_of_kind(kind, &mut random));
             let Sketch {
                 dimensions,
@@ -157,7 +158,7 @@ fn same_sentences(met: &Met) {
 #[test]
 fn every_byte_of_the_samples() {
     let mut met = Met::default();
-    for kind in 1..=5 {
+    for kind in 1..=6 {
         let file = files::sample(kind);
         for at in 0..file.len() {
             met.compare(&file[..at]);
@@ -195,6 +196,7 @@ fn the_largest_files() {
         Setting::base_offset(1, 2),
         Setting::jumps(1),
         Setting::paged_runs(2),
+        Setting::pointed_jumps(1, 2),
     ] {
         let mut file = files::line(setting, &words);
         assert_eq!(first_fault(&file), None);

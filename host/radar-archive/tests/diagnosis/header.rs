@@ -28,8 +28,8 @@ fn short() -> Vec<Row> {
 }
 
 const KINDS: &[Change] = &[
-    (2, 0, 0, "kind 0; the kinds are 1 to 5", 0),
-    (2, 0, 7, "kind 7; the kinds are 1 to 5", 0),
+    (2, 0, 0, "kind 0; the kinds are 1 to 6", 0),
+    (2, 0, 7, "kind 7; the kinds are 1 to 6", 0),
 ];
 
 const SETTINGS: &[Change] = &[
@@ -44,6 +44,8 @@ const SETTINGS: &[Change] = &[
     (5, 2, 1, "kind 5 has width 0, not 1", 2),
     (5, 3, 1, "kind 5 has step 2 to 64, not 1", 3),
     (5, 3, 65, "kind 5 has step 2 to 64, not 65", 3),
+    (6, 2, 0, "kind 6 has width 1 or 2, not 0", 2),
+    (6, 3, 0, "kind 6 has step 1 to 255, not 0", 3),
 ];
 
 /// Width and step wrong.
@@ -86,6 +88,7 @@ const COUNTS: &[Change] = &[
     (2, 24, 13, "the header says 13 stored cells of 12 cells", 24),
     (1, 28, 5, "the header says 5 runs, more than its 4 stored cells", 28),
     (4, 28, u32::MAX, "the header says 4294967295 jumps, more than its 4 stored cells", 28),
+    (6, 28, 5, "the header says 5 jumps, more than its 4 stored cells", 28),
     (5, 32, 5, "the header says 5 runs, more than its 4 stored cells", 32),
     (2, 28, 3, "the entry count of the first part is 3, not 4, the number of stored cells", 28),
     (3, 28, 4, "the entry count of the first part is 4, not 2, the bases of 4 stored cells at step 2", 28),
@@ -94,6 +97,7 @@ const COUNTS: &[Change] = &[
     (2, 32, 4, "the entry count of the second part is 4, not 0, since kind 2 has no second part", 32),
     (3, 32, 5, "the entry count of the second part is 5, not 4, the number of stored cells", 32),
     (4, 32, 0, "the entry count of the second part is 0, not 4, the number of stored cells", 32),
+    (6, 32, 5, "the entry count of the second part is 5, not 4, the number of stored cells", 32),
 ];
 
 #[rustfmt::skip]
@@ -103,6 +107,9 @@ const OFFSETS: &[Change] = &[
     (3, 40, u32::MAX, "the offset of the second part is 4294967295, not 60", 40),
     (4, 44, 56, "the offset of the stored words is 56, not 60", 44),
     (5, 44, 0, "the offset of the stored words is 0, not 92", 44),
+    (6, 40, 60, "the offset of the second part is 60, not 56", 40),
+    (6, 44, 60, "the offset of the stored words is 60, not 64, behind the differences and 1 pointer", 44),
+    (6, 48, 76, "the length in the header is 76; header, parts and words have 80 bytes", 48),
     (5, 48, 107, "the length in the header is 107; header, parts and words have 108 bytes", 48),
 ];
 

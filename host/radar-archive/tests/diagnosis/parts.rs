@@ -22,6 +22,10 @@ pub fn any(random: &mut Random) -> Vec<u8> {
             small(stored, width, random),
         ),
         Kind::Jumps => (singles(free, cells, random), small(stored, width, random)),
+        Kind::PointedJumps => (
+            singles(free, cells, random),
+            pointed(stored, width, free.div_ceil(step), random),
+        ),
         Kind::PagedRuns => (
             pairs(upper_entries(free, step), cells, random),
             pairs(free, cells, random),
@@ -57,6 +61,13 @@ fn pairs(count: usize, cells: usize, random: &mut Random) -> Part {
 fn small(count: usize, width: usize, random: &mut Random) -> Part {
     let bytes = (0..count * width).map(|_| random.below(3) as u8);
     (count as u32, bytes.collect())
+}
+
+/// A part of numbers of `width` bytes, and pointers behind them.
+fn pointed(count: usize, width: usize, pointers: usize, random: &mut Random) -> Part {
+    let (count, differences) = small(count, width, random);
+    let pointers = numbers(pointers, count as usize, random);
+    (count, [differences, files::fours(&pointers)].concat())
 }
 
 /// The entries above level 0 of kind 5.

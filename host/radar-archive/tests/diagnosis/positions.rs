@@ -1,8 +1,8 @@
-//! The sentences of number 6 in kinds 2, 3 and 4, and those on stored words in all kinds.
+//! The sentences of number 6 in kinds 2, 3, 4 and 6, and those on stored words in all kinds.
 
 use radar_archive::Setting;
 
-use crate::files::{bytes, raw, singles};
+use crate::files::{bytes, pointed, raw, singles};
 use crate::rows::{of_bytes, of_fields, six, Change, Row};
 
 /// The rows of number 6 that are not about runs.
@@ -14,6 +14,8 @@ pub fn rows() -> Vec<Row> {
     rows.extend(of_bytes(6, DIFFERENCES));
     rows.extend(jumps());
     rows.push(wide_jump());
+    rows.extend(of_fields(6, POINTERS));
+    rows.extend(pointers());
     rows.extend(of_fields(6, WORDS));
     rows
 }
@@ -51,6 +53,15 @@ const DIFFERENCES: &[Change] = &[
     (4, 59, 7, "difference 7 from position 5 puts rank 3 at position 12; the last cell is at position 11", 59),
     (4, 58, 0, "the difference of rank 2 is 0, and there is no jump 1 for it", 58),
     (4, 52, 12, "jump 0 puts rank 0 at position 12; the last cell is at position 11", 52),
+    (6, 56, 1, "the difference of rank 0 is 1, not 0", 56),
+    (6, 59, 0, "the difference of rank 3 is 0, and there is no jump 1 for it", 59),
+];
+
+/// The same picture in kind 6 has also the pointer 0 at 60.
+#[rustfmt::skip]
+const POINTERS: &[Change] = &[
+    (6, 60, 1, "pointer 0 points to rank 1; jump 0 is at rank 0", 60),
+    (6, 60, u32::MAX, "pointer 0 points to rank 4294967295; jump 0 is at rank 0", 60),
 ];
 
 /// The empty word among the stored ones.
@@ -61,6 +72,7 @@ const WORDS: &[Change] = &[
     (3, 20, 5, "the word of rank 2 is 5, the empty word", 72),
     (4, 20, 300, "the word of rank 3 is 300, the empty word", 72),
     (5, 96, 0, "the word of rank 1 is 0, the empty word", 96),
+    (6, 68, 0, "the word of rank 1 is 0, the empty word", 68),
 ];
 
 /// Kind 3 with offsets of 2 bytes.
@@ -111,4 +123,32 @@ fn wide_jump() -> Row {
     let file = raw(setting, 70_000, singles(&[1, 65_536]), differences, &[7, 9]);
     let fits = "jump 1 goes from position 1 to 65536, but a difference of 65535 fits width 2";
     six(file, fits, 56)
+}
+
+/// Kind 6 with jumps at ranks 0, 1, 3, 4 and 6, and other pointers.
+fn pointers() -> Vec<Row> {
+    let of = |step, pointers: &[u32]| {
+        let jumps = singles(&[2, 300, 600, 900, 1_200]);
+        let second = pointed(&[0, 0, 9, 0, 0, 9, 0], pointers);
+        raw(
+            Setting::pointed_jumps(1, step),
+            1_300,
+            jumps,
+            second,
+            &[7; 7],
+        )
+    };
+    let positions = "pointer 1 points to rank 300; jump 1 is at rank 1";
+    let numbers = "pointer 1 points to rank 2; jump 2 is at rank 3";
+    let next = "pointer 2 points to rank 5; jump 4 is at rank 6";
+    vec![
+        six(
+            of(1, &[2, 300, 600, 900, 1_200]),
+            "pointer 0 points to rank 2; jump 0 is at rank 0",
+            79,
+        ),
+        six(of(1, &[0, 300, 600, 900, 1_200]), positions, 83),
+        six(of(2, &[0, 2, 4]), numbers, 83),
+        six(of(2, &[0, 3, 5]), next, 87),
+    ]
 }

@@ -7,8 +7,15 @@ use side_by_side::sides::Sides;
 /// The sample picture; its empty word is 0.
 pub const SAMPLE: [u32; 12] = [0, 0, 7, 9, 0, 5, 0, 0, 0, 0, 300, 0];
 
-/// The settings of M1 to M5.
-pub const SAMPLE_SETTINGS: [[u32; 3]; 5] = [[1, 0, 0], [2, 0, 0], [3, 1, 2], [4, 1, 0], [5, 0, 2]];
+/// The settings of M1 to M5, and one of kind 6.
+pub const SAMPLE_SETTINGS: [[u32; 3]; 6] = [
+    [1, 0, 0],
+    [2, 0, 0],
+    [3, 1, 2],
+    [4, 1, 0],
+    [5, 0, 2],
+    [6, 1, 2],
+];
 
 /// A part: its entry count and its bytes.
 pub type Part = (u32, Vec<u8>);
@@ -39,6 +46,12 @@ pub fn pairs(pairs: &[[u32; 2]]) -> Part {
 /// A part of single bytes.
 pub fn bytes(bytes: &[u8]) -> Part {
     (bytes.len() as u32, bytes.to_vec())
+}
+
+/// The second part of kind 6 with differences of one byte, and pointers, which it does not count.
+pub fn pointed(differences: &[u8], pointers: &[u32]) -> Part {
+    let bytes = [differences.to_vec(), fours(pointers)].concat();
+    (differences.len() as u32, bytes)
 }
 
 /// A file of one dimension with the empty word 0, put together from its parts.

@@ -29,7 +29,7 @@ fn e_among_the_stored_words_is_6_and_a_stored_0_is_not() {
 fn make_says_7_for_too_few_and_too_many_words() {
     let extents = [300, 1, 1, 1];
     let unfit = stored_at(300, &[2, 258]);
-    for numbers in [RUNS, POSITIONS, [3, 1, 2], [4, 1, 0], [5, 0, 2]] {
+    for numbers in [RUNS, POSITIONS, [3, 1, 2], [4, 1, 0], [5, 0, 2], [6, 1, 2]] {
         for words in [&unfit[..299], &[&unfit[..], &[0]].concat(), &[]] {
             let made = calls::make(numbers, 1, &extents, 0, words, &mut []);
             assert_eq!(made, Err(Refusal::Picture));
@@ -44,7 +44,7 @@ fn the_second_files_number_comes_only_if_the_first_has_none() {
     let file = sample(RUNS);
     let bad = [
         file[..51].to_vec(),
-        with_byte(&file, 0, 6),
+        with_byte(&file, 0, 7),
         with_byte(&file, 3, 1),
         with_field(&file, 4, 0),
         with_field(&file, 48, 91),
@@ -88,13 +88,15 @@ fn change_gives_the_files_number_before_the_settings() {
     let mut room = [0; 200];
     for wrong in [
         [0, 0, 0],
-        [6, 0, 0],
+        [7, 0, 0],
         [257, 0, 0],
         [3, 0, 1],
         [3, 257, 1],
         [5, 0, 258],
+        [6, 1, 0],
+        [6, 1, 256],
     ] {
-        let own = if (1..=5).contains(&wrong[0]) { 3 } else { 2 };
+        let own = if (1..=6).contains(&wrong[0]) { 3 } else { 2 };
         assert_eq!(number(calls::change(&file, wrong, &mut room)), own);
         for (bad, wanted) in &bad {
             let given = calls::change(bad, wrong, &mut room);

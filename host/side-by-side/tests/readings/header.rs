@@ -73,6 +73,9 @@ fn width_and_step_are_tested_before_they_are_used() {
         ([5, 0, 2], [5, 0, 1]),
         ([5, 0, 2], [5, 0, 65]),
         ([5, 0, 2], [5, 1, 2]),
+        ([6, 1, 2], [6, 1, 0]),
+        ([6, 1, 2], [6, 0, 2]),
+        ([6, 1, 2], [6, 3, 2]),
         ([1, 0, 0], [1, 1, 0]),
         ([2, 0, 0], [2, 0, 1]),
     ] {
@@ -87,6 +90,7 @@ fn width_and_step_are_tested_before_they_are_used() {
     }
     assert!(line([5, 0, 64], &SAMPLE).is_some());
     assert!(line([3, 2, 255], &SAMPLE).is_some());
+    assert!(line([6, 2, 255], &SAMPLE).is_some());
     assert_eq!(
         number(calls::change(&sample(RUNS), [3, 1, 256], &mut [0; 200])),
         3

@@ -1,11 +1,12 @@
-//! What follows from document 01 and is easily got wrong: one test for each line of part B of the readings that document 01 bears.
-//! (Its lines on kinds 6, 7 and 8, pointers, permits, the search and the summary belong to document 02.)
+//! What follows from the documents and is easily got wrong: one test for each line of part B of the readings that document 01 or S-7 of
+//! document 02 bears. (Its lines on kinds 7 and 8, permits, the search and the summary belong to later requests.)
 
 mod calls;
 #[path = "../common/mod.rs"]
 mod common;
 mod header;
 mod offsets;
+mod pointers;
 mod runs;
 
 const RUNS: [u32; 3] = [1, 0, 0];

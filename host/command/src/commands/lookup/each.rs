@@ -66,9 +66,9 @@ fn alone(lines: &Lines) -> Result<Place, Failure> {
     }
 }
 
-/// A file of kind 4 changed to kind 2, since a lookup in kind 4 is a pass along the file; nothing for another kind.
+/// A file of kind 4 or 6 changed to kind 2, since a lookup there is a pass along the file; nothing for another kind.
 fn changed(file: &Input, archive: &Archive<&[u8]>) -> Result<Option<Archive>, Failure> {
-    if archive.setting().kind != Kind::Jumps {
+    if !matches!(archive.setting().kind, Kind::Jumps | Kind::PointedJumps) {
         return Ok(None);
     }
     let changed = archive.change(Setting::positions());

@@ -103,7 +103,7 @@ fn head(lines: &mut Lines) -> Result<Head, Failure> {
         return Err(lines.wrong(&format!("{line} is no first line; {WANTED}")));
     };
     if Kind::of_number(kind).is_none() || stored > cells {
-        let message = format!("{line} is the first line of no list: the kinds are 1 to 5, and no more cells are stored than there are");
+        let message = format!("{line} is the first line of no list: the kinds are 1 to 6, and no more cells are stored than there are");
         return Err(lines.wrong(&message));
     }
     Ok(Head { cells, stored })
