@@ -61,14 +61,7 @@ fn past_jumps(file: &[u8], start: u32, s: Reached, z: usize, behind: u32) -> Rea
 }
 
 // Over the 128 ranks after rank r at once: by the sum of their differences, or from the last jump among them by the sum behind it.
-pub fn take_group(
-    file: &[u8],
-    start: u32,
-    second: usize,
-    width: u32,
-    r: usize,
-    s: Reached,
-) -> Reached
+fn take_group(file: &[u8], start: u32, second: usize, width: u32, r: usize, s: Reached) -> Reached
     requires { ⌜ Room width second (now file) (r + 128) × Within (2 ^ 32) s ⌝ }
     ensures { λ t. ⌜ (t ≡ walked width start second (now (file .entry)) r 128 s) × ((m : ℕ) → Within m s → Within (m + 128) t) ⌝ }
 {

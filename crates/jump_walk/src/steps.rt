@@ -3,8 +3,10 @@ use difference_rows::batch::all_there;
 use difference_rows::batch::along_u8;
 use difference_rows::batch::along_u16;
 use difference_rows::batch::jump_by;
+use differences::walk::NO_TARGET;
+use differences::walk::Place;
 use differences::walk::Reached;
-use differences::walk::take_group;
+use differences::walk::walk;
 use format::Position;
 use format::View;
 use parts::Cursor;
@@ -63,22 +65,33 @@ fn leap(file: &[u8], v: View, mut c: Cursor, p: u32) -> Cursor
     if !all_there(file, v.second, v.width, c.rank, 128) {
         return c;
     }
-    let s = Reached {
-        position: c.at as usize,
-        taken: c.next as usize,
-    };
-    let t = take_group(file, v.start, v.second as usize, v.width, rank, s);
-    let at = t.position;
-    let taken = t.taken;
-    if p as usize <= at {
+    if rank + 1 < c.next as usize {
         return c;
     }
-    if 4294967295 < taken {
+    let from = Place {
+        rank,
+        reached: Reached {
+            position: c.at as usize,
+            taken: c.next as usize,
+        },
+    };
+    let place = walk(
+        file,
+        v.start,
+        v.second as usize,
+        v.width,
+        from,
+        rank + 128,
+        NO_TARGET,
+    );
+    let t = place.reached;
+    let at = t.position;
+    if p as usize <= at {
         return c;
     }
     c.rank += 128;
     c.at = at as u32;
-    c.next = taken as u32;
+    c.next = t.taken as u32;
     c
 }
 

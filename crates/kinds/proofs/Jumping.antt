@@ -1,7 +1,7 @@
 -- Kinds 4 and 6: both have jumps and differences, are walked along alike, and take positions alike. Assumes nothing.
 use Prim.Native.Nat.{ℕ}
 use mathlib.Core.Path.{_≡_, refl, sym, ap, _∙_, subst}
-use mathlib.Core.Bool.{true}
+use mathlib.Core.Bool.{true, false}
 use mathlib.Core.Logic.{_⊎_, inl, inr, ⊎-elim}
 use mathlib.Core.List.{List}
 use native.Mathlib.Omega.{arith}
@@ -32,10 +32,15 @@ use Rattle.pointed_jumps.proofs.Made as pointed-coder
 use Rattle.kinds.specs.Steps.{byWalk, nextBy, nextOf}
 use Rattle.kinds.specs.Coding.{coderOf, coder}
 use Rattle.kinds.specs.Copying.{hasJumps, copiesJumps, copiesTo}
+use Rattle.kinds.proofs.None.{never}
 
 -- a kind that is sought by a walk
 pub walked-kind : (k : ℕ) → byWalk k ≡ true → hasJumps k
 walked-kind k h = cases (eqb k 4) (λ e. inl (eqb-true k 4 e)) (λ e. inr (eqb-true k 6 (rw e at h)))
+
+-- one that is not
+pub not-walked : (k : ℕ) → byWalk k ≡ false → (k ≡ 4 → ⊥) × (k ≡ 6 → ⊥)
+not-walked k h = (λ e. never (sym (rw e at h)), λ e. never (sym (rw e at h)))
 
 -- an accepted file holds its positions as jumps and differences
 pub some-held : (b : List ℕ) (v : View) → ViewOf b v → hasJumps (v .kind) → SomeHeld b v

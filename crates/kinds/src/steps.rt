@@ -41,14 +41,15 @@ pub fn positions(file: &[u8], v: View, c: Cursor, out: &mut [u32]) -> Cursor
     requires { ⌜ kindOf v .allowed ≡ true ⌝ }
     ensures { λ r. ⌜ (r ≡ steppedBy (now (file .entry)) v c (length (now (out .entry)))) × (now (out .exit) ≡ walked (now (file .entry)) v c (length (now (out .entry)))) ⌝ }
 {
+    if by_walk(v.kind) {
+        return jump_walk::steps::positions(file, v, c, out);
+    }
     let kind = v.kind;
     match kind {
         1 => runs::steps::positions(file, v, c, out),
         2 => positions::steps::positions(file, v, c, out),
         3 => base_offset::steps::positions(file, v, c, out),
-        4 => jump_walk::steps::positions(file, v, c, out),
         5 => paged_runs::steps::positions(file, v, c, out),
-        6 => jump_walk::steps::positions(file, v, c, out),
         _ => c,
     }
 }
