@@ -20,11 +20,12 @@ use Rattle.parts.specs.Carried.{carried, PutAs, Reached}
 use Rattle.parts.proofs.Steps.{upper}
 use Rattle.parts.proofs.Carried.{along-front, room-front}
 use Rattle.difference_rows.proofs.Follows.{stepped-last}
+use Rattle.laws.proofs.Bounds.{length-differencesFrom}
 use Rattle.jump_walk.specs.Held.{Held}
 use Rattle.jump_walk.specs.Steps.{next}
 use Rattle.jump_entries.specs.Coding.{jumpsCoder}
 use Rattle.jump_copy.specs.Further.{further}
-use Rattle.jump_copy.proofs.Fronts.{jumpsFrom, from-length, take-differences, jumps-most, jumps-front, front-there, front-bytes}
+use Rattle.jump_copy.proofs.Fronts.{jumpsFrom, take-differences, jumps-most, jumps-front, front-there, front-bytes}
 use Rattle.jump_copy.proofs.Rows.{Stands, exact-jumps, walked-exact, jumps-exact}
 use Rattle.jump_copy.proofs.Ranks.{reached-below, reached-stands}
 use Rattle.jump_copy.proofs.Later.{later-taken, later-fits, later-room, later-put}
@@ -42,7 +43,7 @@ module _ (b : List ℕ) (v : View) (ls : List ℕ) (h : Held b v ls) (c : Cursor
   abbrev f : Cursor → Cursor
   f = next b v
 
-  here : Stands b v ls (o .rank) c
+  abbrev here : Stands b v ls (o .rank) c
   here = reached-stands b v ls h c n o some
 
   -- the positions ahead of the cursor, and those of them that are taken
@@ -100,7 +101,7 @@ module _ (b : List ℕ) (v : View) (ls : List ℕ) (h : Held b v ls) (c : Cursor
 
     pub differences-there : v .second + w * (c .rank + 1) + w * (n - 1) ≤ length b
     differences-there =
-        let l = from-length w (c .at) xs in
+        let l = length-differencesFrom w (c .at) xs in
         let k = enough in
         let e : upper c ≡ c .rank + 1 = let i = here .rank in let j = here .upper in omega arith in
         rw e at (front-there b w (v .second) (upper c) (differencesFrom w (c .at) xs) (here .exact .differences) (n - 1) (omega arith))
@@ -115,7 +116,7 @@ module _ (b : List ℕ) (v : View) (ls : List ℕ) (h : Held b v ls) (c : Cursor
 
       differences-copied : take (w * (n - 1)) (drop (v .second + w * (c .rank + 1)) b) ≡ bytesOf w (differencesFrom w (c .at) qs)
       differences-copied =
-          let l = from-length w (c .at) xs in
+          let l = length-differencesFrom w (c .at) xs in
           let k = enough in
           let e : upper c ≡ c .rank + 1 = let i = here .rank in let j = here .upper in omega arith in
           rw (e, take-differences w (c .at) (n - 1) xs) at

@@ -8,8 +8,7 @@ use lib.ListN.{length, take, drop, length-drop}
 use lib.Seq.{take-take}
 use Rattle.format.specs.Tools.{Below}
 use Rattle.format.specs.Bytes.{bytesOf}
-use Rattle.format.specs.Jumps.{difference, differencesFrom, differences, jumpsOf}
-use Rattle.laws.proofs.Bounds.{length-differences}
+use Rattle.format.specs.Jumps.{difference, differencesFrom, jumpsOf}
 use Rattle.laws.proofs.Bytes.{below-drop}
 use Rattle.laws.proofs.Check.{bytesOf-numbersOf}
 use Rattle.laws.proofs.RankRange.{take-bytesOf}
@@ -44,10 +43,6 @@ module _ (b : List ℕ) (w s i : ℕ) (xs : List ℕ) (e : Entries b w s i xs) w
 -- the jumps among the positions ls, which stand behind p
 abbrev pub jumpsFrom : ℕ → ℕ → List ℕ → List ℕ
 jumpsFrom w p ls = jumpsOf (differencesFrom w p ls) ls
-
-pub from-length : (w p : ℕ) (ls : List ℕ) → length (differencesFrom w p ls) ≡ length ls
-unfolding differences
-from-length w p ls = let n : suc (length (differencesFrom w p ls)) ≡ suc (length ls) = length-differences w (p ∷ ls) in omega arith
 
 -- the differences of the first positions are the first differences
 pub take-differences : (w p n : ℕ) (ls : List ℕ) → take n (differencesFrom w p ls) ≡ differencesFrom w p (take n ls)

@@ -11,7 +11,7 @@ use borrow.Author.Tests.{eqb-true, eqb-false}
 use Rattle.format.specs.declared.View.{View}
 use Rattle.format.specs.Jumps.{difference, differencesFrom, differences, jumpsOf}
 use Rattle.laws.proofs.Tools.{cases}
-use Rattle.laws.proofs.Bounds.{below-getD}
+use Rattle.laws.proofs.Bounds.{below-getD, length-differencesFrom}
 use Rattle.laws.proofs.Entries.{fitting}
 use Rattle.wire.specs.Wire.{add32}
 use Rattle.wire.proofs.Laws.{entry-of}
@@ -26,7 +26,7 @@ use Rattle.difference_rows.proofs.Follows.{stepped-last}
 use Rattle.jump_walk.specs.Held.{Held}
 use Rattle.jump_walk.specs.Steps.{next}
 use Rattle.jump_walk.proofs.Walks.{AheadOf, next-rank, turn, before-all}
-use Rattle.jump_copy.proofs.Fronts.{jumpsFrom, from-length, length-jump, entries-same}
+use Rattle.jump_copy.proofs.Fronts.{jumpsFrom, length-jump, entries-same}
 
 -- ---- before rank 0
 
@@ -51,7 +51,7 @@ module _ (b : List ℕ) (v : View) where
   exact-jumps c ls x =
       let a = x .ahead .ahead in
       let n = a .same in
-      let m = from-length (v .width) (c .at) ls in
+      let m = length-differencesFrom (v .width) (c .at) ls in
       let e = entries-same b (v .width) (v .second) (upper c) (a .ds) (a .differences) (differencesFrom (v .width) (c .at) ls) (x .differences) (omega arith) in
       rw e at (a .jumps)
 

@@ -1,13 +1,17 @@
 -- The positions of a list put out the jumps and the differences. Assumes nothing.
-use Prim.Native.Nat.{ℕ, zero, suc}
+use Prim.Native.Nat.{ℕ, zero, suc, _*_}
 use mathlib.Core.Path.{_≡_, refl, sym, ap, ap₂, _∙_}
 use mathlib.Core.List.{List, [], _∷_, _++_}
+use native.Mathlib.Nat.{zero-add}
 use native.Mathlib.Numerals.{add-one}
 use native.Mathlib.Omega.{arith}
+use lib.ListN.{length}
 use Rattle.format.specs.Bytes.{bytes, bytesOf}
 use Rattle.format.specs.Jumps.{difference, differencesFrom, differences, jumpsOf, jumps}
+use Rattle.laws.proofs.Bytes.{length-bytesOf}
 use Rattle.parts.specs.declared.Encoder.{Encoder}
-use Rattle.parts.specs.Encoder.{ifZero, begun, takenBy, firstsBy, secondsBy}
+use Rattle.parts.specs.Encoder.{ifZero, begun, takenBy, endedBy, takenAllBy, firstsBy, secondsBy}
+use Rattle.parts.proofs.Taking.{rank-all, first-all, second-all}
 use Rattle.jump_entries.specs.Coding.{differenceAt, jumpsCoder}
 use Rattle.jump_entries.proofs.Adds.{difference-later}
 
@@ -47,3 +51,21 @@ module _ (w : ℕ) where
   firsts f g (p ∷ ls) =
       ap (λ (l : List ℕ). bytes 4 p ++ l) (firsts-from (takenBy (jumpsCoder w) (begun f g) p) 0 ls refl)
       ∙ sym (jump-cons 0 p (differencesFrom w p ls) ls)
+
+-- ---- the encoder after all positions and the end
+
+module _ (w : ℕ) (ls : List ℕ) where
+  abbrev pub whole : Encoder
+  whole = endedBy (jumpsCoder w) (takenAllBy (jumpsCoder w) (begun 0 0) ls)
+
+  pub whole-rank : whole .rank ≡ length ls
+  unfolding endedBy begun
+  whole-rank = rank-all (jumpsCoder w) (begun 0 0) ls ∙ zero-add (length ls)
+
+  pub whole-first : whole .first ≡ 4 * length (jumps w ls)
+  unfolding begun
+  whole-first = first-all (jumpsCoder w) (begun 0 0) ls ∙ zero-add _ ∙ ap length (firsts w 0 0 ls) ∙ length-bytesOf 4 (jumps w ls)
+
+  pub whole-second : whole .second ≡ length (bytesOf w (differences w ls))
+  unfolding begun
+  whole-second = second-all (jumpsCoder w) (begun 0 0) ls ∙ zero-add _ ∙ ap length (seconds w 0 0 ls)

@@ -1,25 +1,23 @@
 -- What the crate says of itself: the cursor walks the stored positions, and the encoder puts out the parts of the kind. Assumes nothing.
 use Prim.Native.Nat.{ℕ, _*_, _/_}
-use mathlib.Core.Path.{_≡_, refl, ap, _∙_}
+use mathlib.Core.Path.{_≡_, refl, _∙_}
 use mathlib.Core.Bool.{true}
 use mathlib.Core.List.{List}
-use native.Mathlib.Nat.{zero-add}
 use native.Mathlib.Omega.{arith}
 use lib.ListN.{length}
-use Rattle.format.specs.Bytes.{bytesOf}
-use Rattle.format.specs.Jumps.{differences, jumps, jumpParts, jumpsKind}
+use Rattle.format.specs.Jumps.{jumps, jumpParts, jumpsKind}
 use Rattle.laws.proofs.Bytes.{length-bytesOf}
 use Rattle.parts.specs.declared.Encoder.{Encoder}
-use Rattle.parts.specs.Encoder.{begun, unchanged, endedBy, takenAllBy, sizesAs}
+use Rattle.parts.specs.Encoder.{begun, unchanged, sizesAs}
 use Rattle.parts.specs.Walks.{Walks}
 use Rattle.parts.specs.Codes.{sizesIn, Codes}
 use Rattle.parts.proofs.Outright.{outright}
-use Rattle.parts.proofs.Taking.{same-fit, rank-all, first-all, second-all}
+use Rattle.parts.proofs.Taking.{same-fit}
 use Rattle.jump_walk.specs.Steps.{next}
 use Rattle.jump_walk.proofs.Walks.{next-rank, walk-held}
 use Rattle.jump_entries.specs.Coding.{jumpsCoder}
 use Rattle.jump_entries.proofs.Adds.{keeps}
-use Rattle.jump_entries.proofs.Taken.{seconds, firsts}
+use Rattle.jump_entries.proofs.Taken.{seconds, firsts, whole, whole-rank, whole-first, whole-second}
 use Rattle.jumps.specs.Coding.{coder}
 use Rattle.jumps.proofs.Held.{widths, held}
 
@@ -39,25 +37,9 @@ sizes-as : (e : Encoder) (n c s : ℕ) → e .rank ≡ n → e .first ≡ 4 * c 
 sizes-as e n c s r f g = let q : 4 * c / 4 ≡ c = omega arith in rw (r, f, g, q)
 
 module _ (w : ℕ) (ls : List ℕ) where
-  -- the encoder after all positions and the end
-  abbrev whole : Encoder
-  whole = endedBy (jumpsCoder w) (takenAllBy (jumpsCoder w) (begun 0 0) ls)
-
-  ranks : whole .rank ≡ length ls
-  unfolding endedBy begun
-  ranks = rank-all (jumpsCoder w) (begun 0 0) ls ∙ zero-add (length ls)
-
-  first-bytes : whole .first ≡ 4 * length (jumps w ls)
-  unfolding begun
-  first-bytes = first-all (jumpsCoder w) (begun 0 0) ls ∙ zero-add _ ∙ ap length (firsts w 0 0 ls) ∙ length-bytesOf 4 (jumps w ls)
-
-  second-bytes : whole .second ≡ length (bytesOf w (differences w ls))
-  unfolding begun
-  second-bytes = second-all (jumpsCoder w) (begun 0 0) ls ∙ zero-add _ ∙ ap length (seconds w 0 0 ls)
-
-  sizes : jumpsCoder w .sizes whole ≡ sizesIn (length ls) (jumpParts w ls)
+  sizes : jumpsCoder w .sizes (whole w ls) ≡ sizesIn (length ls) (jumpParts w ls)
   unfolding jumpsCoder sizesIn jumpParts
-  sizes = sizes-as whole (length ls) (length (jumps w ls)) _ ranks first-bytes second-bytes ∙ rw (length-bytesOf 4 (jumps w ls))
+  sizes = sizes-as (whole w ls) (length ls) (length (jumps w ls)) _ (whole-rank w ls) (whole-first w ls) (whole-second w ls) ∙ rw (length-bytesOf 4 (jumps w ls))
 
 pub codes : (w l : ℕ) → jumpsKind w l .allowed ≡ true → Codes (coder w l) (jumpsKind w l)
 unfolding coder

@@ -88,7 +88,7 @@ below-offsets w l ls h = below-every w (offsets l ls) h
 
 -- ---- kind 4
 
-length-differencesFrom : (w b : ℕ) (ls : List ℕ) → length (differencesFrom w b ls) ≡ length ls
+pub length-differencesFrom : (w b : ℕ) (ls : List ℕ) → length (differencesFrom w b ls) ≡ length ls
 unfolding differencesFrom
 length-differencesFrom w b [] = refl
 length-differencesFrom w b (l ∷ ls) = ap suc (length-differencesFrom w l ls)

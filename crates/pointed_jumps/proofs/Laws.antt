@@ -3,7 +3,6 @@ use Prim.Native.Nat.{ℕ, _*_, _/_}
 use mathlib.Core.Path.{_≡_, refl, ap, _∙_}
 use mathlib.Core.Bool.{true}
 use mathlib.Core.List.{List}
-use native.Mathlib.Nat.{zero-add}
 use native.Mathlib.Omega.{arith}
 use lib.ListN.{length}
 use Rattle.format.specs.Jumps.{jumps, jumpParts}
@@ -13,10 +12,11 @@ use Rattle.parts.specs.declared.Encoder.{Encoder}
 use Rattle.parts.specs.Encoder.{begun, unchanged, endedBy, takenAllBy}
 use Rattle.parts.specs.Walks.{Walks}
 use Rattle.parts.specs.Codes.{sizesIn, Codes}
-use Rattle.parts.proofs.Alike.{keeps-alike}
-use Rattle.parts.proofs.Taking.{same-fit, rank-all, first-all, second-all}
+use Rattle.parts.proofs.Alike.{alike-back, ended-alike, taken-all-alike, keeps-alike}
+use Rattle.parts.proofs.Taking.{same-fit}
 use Rattle.jump_entries.specs.Coding.{jumpsCoder}
 use Rattle.jump_entries.proofs.Adds.{keeps}
+use Rattle.jump_entries.proofs.Taken.{whole, whole-rank, whole-first, whole-second}
 use Rattle.jump_walk.specs.Steps.{next}
 use Rattle.jump_walk.proofs.Walks.{next-rank, walk-held}
 use Rattle.pointed_jumps.specs.Coding.{coder}
@@ -32,28 +32,22 @@ walks = record { rank = next-rank; walk = λ b v ls h. walk-held b v ls (pointed
 
 module _ (w n : ℕ) (ls : List ℕ) where
   -- the encoder after all positions and the end
-  abbrev whole : Encoder
-  whole = endedBy (coder w n) (takenAllBy (coder w n) (begun 0 0) ls)
+  abbrev ended : Encoder
+  ended = endedBy (coder w n) (takenAllBy (coder w n) (begun 0 0) ls)
 
-  ranks : whole .rank ≡ length ls
-  unfolding endedBy begun
-  ranks = rank-all (coder w n) (begun 0 0) ls ∙ zero-add (length ls)
-
-  first-bytes : whole .first ≡ 4 * length (jumps w ls)
-  unfolding begun
-  first-bytes = first-all (coder w n) (begun 0 0) ls ∙ zero-add _ ∙ ap length (firsts-out w n ls 0 0) ∙ length-bytesOf 4 (jumps w ls)
-
-  second-bytes : whole .second ≡ w * length ls
-  unfolding begun
-  second-bytes = second-all (coder w n) (begun 0 0) ls ∙ zero-add _ ∙ ap length (seconds-out w n ls 0 0) ∙ length-seconds w n ls
+  as-kind-4 : ended ≡ whole w ls
+  as-kind-4 =
+      let o = alike-back (jumpsCoder w) (coder w n) (alike w n) in
+      ended-alike (coder w n) (jumpsCoder w) o (takenAllBy (coder w n) (begun 0 0) ls)
+      ∙ ap (endedBy (jumpsCoder w)) (taken-all-alike (coder w n) (jumpsCoder w) o (begun 0 0) ls)
 
   -- the pointers are yet to be made, and count
-  sizes : (B : ℕ) → coder w n .sizes whole ≡ sizesIn (length ls) (pointedKind w n .parts B ls)
+  sizes : (B : ℕ) → coder w n .sizes ended ≡ sizesIn (length ls) (pointedKind w n .parts B ls)
   unfolding sizesIn pointedKind pointedParts jumpParts coder
   sizes B =
       let q : 4 * length (jumps w ls) / 4 ≡ length (jumps w ls) = omega arith in
       let s = length-second w n ls B in
-      rw (ranks, first-bytes, second-bytes, q, length-bytesOf 4 (jumps w ls), s, count-pointers w n ls)
+      rw (as-kind-4, whole-rank w ls, whole-first w ls, whole-second w ls, length-seconds w n ls, q, length-bytesOf 4 (jumps w ls), s, count-pointers w n ls)
 
 pub codes : (w l : ℕ) → pointedKind w l .allowed ≡ true → Codes (coder w l) (pointedKind w l)
 codes w l a =
