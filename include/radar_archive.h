@@ -34,7 +34,7 @@
  * leaves the rest unchanged; a file's length stands in its bytes 48 to 51, lowest byte first. No file is longer than 167,772,212 bytes.
  *
  * A lookup's answer is 64 bits: the low 32 the value, the high 32 the code: 0 given, 1 to 11 refused with that number (the value is then
- * 0), 255 empty.
+ * 0), 255 empty (the value is then the number of stored cells before the cell).
  *
  * To link: radar_archive.pc has the flags of the installed library. The loader finds the shared one by its soname libradar_archive.so.1,
  * whose number is RA_VERSION_MAJOR; the static one needs nothing but the C library.
@@ -63,12 +63,15 @@ extern "C" {
 
 /* The version. The package, radar_archive.pc and the command have it from here. */
 #define RA_VERSION_MAJOR 1
-#define RA_VERSION_MINOR 1
+#define RA_VERSION_MINOR 2
 #define RA_VERSION_PATCH 0
-#define RA_VERSION "1.1.0"
+#define RA_VERSION "1.2.0"
 
-/* The last change request that this interface has: 0 is document 01 alone, 7 adds kind 6. A program can test it. */
-#define RA_REQUEST 7
+/*
+ * The last change request that this interface has: 0 is document 01 alone, 7 adds kind 6, 9 the number of stored cells before an empty
+ * cell. A program can test it.
+ */
+#define RA_REQUEST 9
 
 /* The bytes of the longest file. */
 #define RA_LONGEST_FILE 167772212u
@@ -86,7 +89,7 @@ extern "C" {
 #define RA_SMALL 10u
 #define RA_OTHER 11u
 
-/* The code of a lookup's answer that says the cell is empty. */
+/* The code of ra_rank and ra_opened_rank that says the cell is empty. */
 #define RA_EMPTY 255u
 
 /* The value and the code of a lookup's answer. */
@@ -249,12 +252,17 @@ uint64_t ra_cell(const uint8_t *file, size_t len, uint32_t position);
  *   file, len   the file's bytes
  *   position    where
  *
- * Answers the rank (code 0), RA_EMPTY for an empty cell, or the first of 1 to 6, 8.
+ * Answers the rank (code 0); for an empty cell RA_EMPTY, and as the value the number of stored cells before it: 0 before the first stored
+ * cell, N after the last; or the first of 1 to 6, 8. So the stored cells from one position to another, both inclusive, are the value at the
+ * second, 1 more if it is stored, less the value at the first.
  *
  * Example:
- *     uint64_t answer = ra_rank(file, 84, 5);
- *     assert(RA_CODE(answer) == 0 && RA_VALUE(answer) == 2);
- *     assert(RA_CODE(ra_rank(file, 84, 6)) == RA_EMPTY);
+ *     uint64_t stored = ra_rank(file, 84, 5), empty = ra_rank(file, 84, 6), last = ra_rank(file, 84, 11);
+ *     assert(RA_CODE(stored) == 0 && RA_VALUE(stored) == 2);
+ *     assert(RA_CODE(empty) == RA_EMPTY && RA_VALUE(empty) == 3);
+ *     assert(RA_CODE(last) == RA_EMPTY && RA_VALUE(last) == 4);
+ *     uint32_t from_5_to_11 = RA_VALUE(last) + (RA_CODE(last) == 0) - RA_VALUE(stored);
+ *     assert(from_5_to_11 == 2);
  */
 uint64_t ra_rank(const uint8_t *file, size_t len, uint32_t position);
 
@@ -360,13 +368,15 @@ uint64_t ra_shorter(const uint8_t *a, size_t a_len, const uint8_t *b, size_t b_l
 /*
  * The three lookups over the header's own counts, nothing checked, for a file that ra_check has accepted and that has not changed since:
  * there they answer as ra_cell, ra_rank and ra_position do, in the time of the search alone. On any other bytes they end all the same,
- * inside what was lent, with 8, empty, a number below what the header claims, or (ra_opened_cell) any word. Under 52 bytes: 8.
+ * inside what was lent, with 8, empty (the value is then any number), a number below what the header claims, or (ra_opened_cell) any word.
+ * Under 52 bytes: 8.
  *
  * Example:
  *     assert(ra_check(file, 84) == 0);
  *     for (uint32_t p = 0; p < 12; p++)
  *         assert(RA_VALUE(ra_opened_cell(file, 84, p)) == words[p]);
  *     assert(RA_VALUE(ra_opened_rank(file, 84, 5)) == 2);
+ *     assert(RA_CODE(ra_opened_rank(file, 84, 6)) == RA_EMPTY && RA_VALUE(ra_opened_rank(file, 84, 6)) == 3);
  *     assert(RA_VALUE(ra_opened_position(file, 84, 2)) == 5);
  */
 uint64_t ra_opened_cell(const uint8_t *file, size_t len, uint32_t position);

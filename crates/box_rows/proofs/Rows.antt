@@ -18,7 +18,7 @@ use Rattle.format.specs.declared.RankAnswer.{RankAnswer}
 use Rattle.format.specs.declared.RankAnswer.the-variants as ra
 use Rattle.format.specs.Tools.{range, first}
 use Rattle.format.specs.Bytes.{field, numbersOf}
-use Rattle.format.specs.Answers.{Answer, empty, given, valuesOf, rankSays}
+use Rattle.format.specs.Answers.{Answer, refused, empty, given, valuesOf, rankSays}
 use Rattle.format.specs.Accepted.{wordsOf}
 use Rattle.format.specs.Lookups.{cellIn}
 use Rattle.laws.proofs.Tools.{length-range}
@@ -44,6 +44,12 @@ use Rattle.box_rows.proofs.Turns.{words-append, length-words-on}
 
 -- ---- the word of a cell, by the answer of the search
 
+-- 1 where an answer is a rank
+abbrev isRank : Answer → ℕ
+isRank (refused n) = 0
+isRank (empty n) = 0
+isRank (given r) = 1
+
 module _ (b : List ℕ) (v : View) (o : ViewOf b v) (p : ℕ) (k : p < v .cells) where
   cell-is : (a : Answer) → RankSearched b v p a → cellBy b v a ≡ given (getD (wordsOf b) p 0)
   unfolding cellIn
@@ -52,8 +58,8 @@ module _ (b : List ℕ) (v : View) (o : ViewOf b v) (p : ℕ) (k : p < v .cells)
   word-stored : (r : ℕ) → RankSearched b v p (given r) → whole 4 (v .place + 4 * r) b ≡ getD (wordsOf b) p 0
   word-stored r s = ap (λ (x : Answer). first (valuesOf x)) (cell-is (given r) s)
 
-  word-none : RankSearched b v p empty → v .empty ≡ getD (wordsOf b) p 0
-  word-none s = ap (λ (x : Answer). first (valuesOf x)) (cell-is _ s)
+  word-none : (n : ℕ) → RankSearched b v p (empty n) → v .empty ≡ getD (wordsOf b) p 0
+  word-none n s = ap (λ (x : Answer). first (valuesOf x)) (cell-is _ s)
 
   module _ (c : Cursor) (y : Reached b v c p) (a : RankAnswer) (s : RankSearched b v p (rankSays a)) where
     -- two answers are the same
@@ -63,18 +69,18 @@ module _ (b : List ℕ) (v : View) (o : ViewOf b v) (p : ℕ) (k : p < v .cells)
     -- where the answer is no rank, the cursor stands past the position
     pub stands-past : OneOf (1 ∷ (2 ∷ [])) (tagOf the-type a) → c .rank < v .words → p < c .at
     stands-past h more =
-        lt-of-le-ne (y .past more) (λ e. apart a h (ap (λ (x : Answer). length (valuesOf x)) (agree _ (sought-here b v o c p (y .ready) more k (sym e)))))
+        lt-of-le-ne (y .past more) (λ e. apart a h (ap isRank (agree _ (sought-here b v o c p (y .ready) more k (sym e)))))
       where
-        apart : (a : RankAnswer) → OneOf (1 ∷ (2 ∷ [])) (tagOf the-type a) → length (valuesOf (rankSays a)) ≡ 1 → ⊥
+        apart : (a : RankAnswer) → OneOf (1 ∷ (2 ∷ [])) (tagOf the-type a) → isRank (rankSays a) ≡ 1 → ⊥
         apart (ra.Rank r) h z = ⊎-elim (λ z. omega arith) (λ z. omega arith) h
-        apart ra.Empty h z = omega arith
+        apart (ra.Empty n) h z = omega arith
         apart (ra.Refused n) h z = omega arith
 
     -- where it is one, the cursor stands there
     pub stands-here : (r : Rank) → a ≡ ra.Rank r → (c .rank < v .words) × (c .at ≡ p) × (c .rank ≡ r .0)
     stands-here r e =
         elim (decLe (v .words) (c .rank)) [
-          | yes n ↦ absurd (none (sought-none b v o c p (y .ready) k n))
+          | yes n ↦ absurd (none _ (sought-none b v o c p (y .ready) k n))
           | no n ↦
               let more = lt-of-not-le n in
               elim (decLe (c .at) p) [
@@ -82,12 +88,12 @@ module _ (b : List ℕ) (v : View) (o : ViewOf b v) (p : ℕ) (k : p < v .cells)
                     let z : c .at ≡ p = let l = y .past more in omega arith in
                     let t = ap (λ (x : Answer). first (valuesOf x)) (rw e at (agree _ (sought-here b v o c p (y .ready) more k z))) in
                     (more, z, sym t)
-                | no q ↦ absurd (none (sought-past b v o c p (y .ready) more k (lt-of-not-le q)))
+                | no q ↦ absurd (none _ (sought-past b v o c p (y .ready) more k (lt-of-not-le q)))
               ]
         ]
       where
-        none : RankSearched b v p empty → ⊥
-        none t = let z = ap (λ (x : Answer). length (valuesOf x)) (rw e at (agree empty t)) in omega arith
+        none : (n : ℕ) → RankSearched b v p (empty n) → ⊥
+        none n t = let z = ap isRank (rw e at (agree (empty n) t)) in omega arith
 
 -- the cells before the next stored one
 pub words-empty : (b : List ℕ) (v : View) → ViewOf b v → (c : Cursor) (p m : ℕ) → Ready b v c p → p + m ≤ v .cells
@@ -95,7 +101,7 @@ pub words-empty : (b : List ℕ) (v : View) → ViewOf b v → (c : Cursor) (p m
 unfolding wordsOn range
 words-empty b v o c p zero y k h = refl
 words-empty b v o c p (suc m) y k h =
-    let e = word-none b v o p (omega arith) (sought-empty b v o c p y (omega arith) (λ n. let z = h n in omega arith)) in
+    let e = word-none b v o p (omega arith) _ (sought-empty b v o c p y (omega arith) (λ n. let z = h n in omega arith)) in
     let i = words-empty b v o c (suc p) m (ready-later b v c p (suc p) (omega arith) y) (omega arith) (λ n. let z = h n in omega arith) in
     ap₂ (λ (x : ℕ) (xs : List ℕ). x ∷ xs) e i
 

@@ -1,4 +1,5 @@
-// A lookup's answer in 64 bits: the low 32 the value, the high 32 the code: 0 given, the number of a refusal, 255 "empty".
+// A lookup's answer in 64 bits: the low 32 the value, the high 32 the code: 0 given, the number of a refusal, 255 "empty", whose value is the number of
+// stored cells before.
 use format::CellAnswer;
 use format::PositionAnswer;
 use format::RankAnswer;
@@ -30,7 +31,7 @@ pub fn rank_code(a: RankAnswer) -> u64
 {
     match a {
         RankAnswer::Rank(rank) => code_and_value(0, rank.0),
-        RankAnswer::Empty => code_and_value(255, 0),
+        RankAnswer::Empty(before) => code_and_value(255, before.0),
         RankAnswer::Refused(number) => code_and_value(number, 0),
     }
 }

@@ -21,9 +21,9 @@ use Rattle.levels.proofs.Reading.{length-entries}
 -- ---- places that differ in sums of cells only
 
 abbrev Like : Place → Place → Type 0
-Like lost lost = Unit
-Like lost (at i p a x) = ⊥
-Like (at i p a x) lost = ⊥
+Like (lost a) (lost c) = Unit
+Like (lost c) (at i p a x) = ⊥
+Like (at i p a x) (lost c) = ⊥
 Like (at i p a x) (at j q c y) = (i ≡ j) × (p ≡ q) × (a .empty ≡ c .empty) × (x ≡ y)
 
 after-like : (m : Span → ℕ) (i p : ℕ) (a d : Span) (ys : List Span) (k : ℕ) → a .empty ≡ d .empty → Like (placeAfter m i p a ys k) (placeAfter m i p d ys k)
@@ -32,15 +32,15 @@ after-like m i p a d ys k h =
     cases (ltb k (length ys)) (λ e. rw e (refl, refl, ap (λ (z : ℕ). z + leftOf ys k .empty) h, refl)) (λ e. rw e tt)
 
 step-like : (m : Span → ℕ) (b : ℕ) (ys : List Span) (q r : Place) → Like q r → Like (pageDown m b ys q) (pageDown m b ys r)
-step-like m b ys lost lost h = tt
-step-like m b ys lost (at i p a x) h = absurd h
-step-like m b ys (at i p a x) lost h = absurd h
+step-like m b ys (lost a) (lost c) h = tt
+step-like m b ys (lost c) (at i p a x) h = absurd h
+step-like m b ys (at i p a x) (lost c) h = absurd h
 step-like m b ys (at i p a x) (at j q c y) h = rw (h .0, h .1) (after-like m (j * b) q a c (take b (drop (j * b) ys)) _ (h .2))
 
 answered-like : (s : ℕ) (q r : Place) → Like q r → answered s q ≡ answered s r
-answered-like s lost lost h = refl
-answered-like s lost (at i p a x) h = absurd h
-answered-like s (at i p a x) lost h = absurd h
+answered-like s (lost a) (lost c) h = refl
+answered-like s (lost c) (at i p a x) h = absurd h
+answered-like s (at i p a x) (lost c) h = absurd h
 answered-like s (at i p a x) (at j q c y) h = rw (h .1, h .2, h .3)
 
 levels-like : (m : Span → ℕ) (b s : ℕ) (ls : List (List Span)) (q r : Place) → Like q r
@@ -49,10 +49,10 @@ unfolding levelsDown
 levels-like m b s [] q r h = answered-like s q r h
 levels-like m b s (ys ∷ ls) q r h = levels-like m b s ls (pageDown m b ys q) (pageDown m b ys r) (step-like m b ys q r h)
 
-levels-lost : (m : Span → ℕ) (b : ℕ) (ls : List (List Span)) → levelsDown m b ls lost ≡ lost
+levels-lost : (m : Span → ℕ) (b : ℕ) (a : Span) (ls : List (List Span)) → levelsDown m b ls (lost a) ≡ lost a
 unfolding levelsDown
-levels-lost m b [] = refl
-levels-lost m b (ys ∷ ls) = levels-lost m b ls
+levels-lost m b a [] = refl
+levels-lost m b a (ys ∷ ls) = levels-lost m b a ls
 
 -- ---- along a page
 
@@ -71,7 +71,7 @@ module _ (es : List Span) (sizes : List ℕ) (step asked : ℕ) (stored : Bool) 
   walk-none h =
       let l = length-take left (drop (from + first) es) in
       rw (le-ltb (passed (counted stored) p (pageAt es from first left)) (length (pageAt es from first left)) (omega arith))
-      (rw (levels-lost (counted stored) step (cut sizes level (drop (from + getD sizes level 0) es))))
+      (rw (levels-lost (counted stored) step _ (cut sizes level (drop (from + getD sizes level 0) es))))
 
   -- past k of them: c is the entry to the left of y
   pub walk-here : (k : ℕ) (c y : Span) → k ≡ passed (counted stored) p (pageAt es from first left) → k < left → from + first + left ≤ length es

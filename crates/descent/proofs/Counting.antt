@@ -139,7 +139,7 @@ module _ (s : Bool) (p : ℕ) where
   abbrev afterFrom : ℕ → Span → Span → List Span → ℕ → Place
   afterFrom i a c ys k =
       let d = getD (c ∷ ys) k none in
-      pick (ltb k (length ys)) (at (i + k) (sub32 p (exact s d)) (plus a d) (less (getD ys k none) d)) lost
+      pick (ltb k (length ys)) (at (i + k) (sub32 p (exact s d)) (plus a d) (less (getD ys k none) d)) (lost (plus a d))
 
   after-suc : (i : ℕ) (a c y : Span) (ys : List Span) (k : ℕ) → afterFrom i a c (y ∷ ys) (suc k) ≡ afterFrom (suc i) a y ys k
   after-suc i a c y ys k =
@@ -200,7 +200,7 @@ module _ (s : Bool) where
 
   -- a place whose number is of 32 bits
   abbrev Small : Place → Type 0
-  Small lost = Unit
+  Small (lost a) = Unit
   Small (at i p a x) = p < 2 ^ 32
 
   walk-small : (i p : ℕ) (a c : Span) (ys : List Span) → p < 2 ^ 32 → Small (walkFrom (exact s) i p a c ys)
@@ -210,7 +210,7 @@ module _ (s : Bool) where
 
   module _ (b : ℕ) (low : 1 ≤ b) where
     step-small : (ys : List Span) (q : Place) → Small q → Small (stepDown (exact s) b ys q)
-    step-small ys lost l = tt
+    step-small ys (lost a) l = tt
     step-small ys (at j p a x) l = walk-small (j * b) p a none (take b (drop (j * b) ys)) l
 
     -- a page of a level
@@ -236,7 +236,7 @@ module _ (s : Bool) where
     cells-drop (suc n) (x ∷ xs) = let i = cells-drop n xs in omega arith
 
     page-same : (xs : List Span) (q : Place) → Proper xs → cellsOf xs < 2 ^ 32 → Small q → pageDown (counted s) b (level b xs) q ≡ stepDown (exact s) b (level b xs) q
-    page-same xs lost o f l = refl
+    page-same xs (lost a) o f l = refl
     page-same xs (at j p a x) o f l =
         let page = take b (drop (j * b) xs) in
         let proper = proper-take b (drop (j * b) xs) (proper-drop (j * b) xs o) in

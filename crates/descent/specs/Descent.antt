@@ -36,7 +36,7 @@ halves high low = high % 2 ^ 32 * 2 ^ 32 + low
 -- what a search answers: twice the empty cells up to the number, and 1 more where it stands at a stored cell, as a rank always does; or the empty cells up
 -- to a rank, and the ranks from there on in its run
 abbrev pub answered : ℕ → Place → ℕ
-answered asked lost = nowhere
+answered asked (lost a) = nowhere
 answered asked (at i p a x) =
     pick (eqb asked 2) (halves (a .empty + x .empty) (sub32 (counted true x) p))
     (pick (forRank asked || leb (x .empty) p) (2 * (a .empty + x .empty) + 1) (2 * (a .empty + p)))
@@ -56,11 +56,11 @@ leftOf ys k = getD (none ∷ ys) k none
 unfoldable pub placeAfter : (Span → ℕ) → ℕ → ℕ → Span → List Span → ℕ → Place
 placeAfter m i p a ys k =
     let c = leftOf ys k in
-    pick (ltb k (length ys)) (at (i + k) (sub32 p (m c)) (plus a c) (less (getD ys k none) c)) lost
+    pick (ltb k (length ys)) (at (i + k) (sub32 p (m c)) (plus a c) (less (getD ys k none) c)) (lost (plus a c))
 
 -- from an entry to the page below it, past the entries that count at most the number
 abbrev pub pageDown : (Span → ℕ) → ℕ → List Span → Place → Place
-pageDown m b ys lost = lost
+pageDown m b ys (lost a) = lost a
 pageDown m b ys (at j p a x) = let page = take b (drop (j * b) ys) in placeAfter m (j * b) p a page (passed m p page)
 
 -- through levels, the top first

@@ -32,7 +32,7 @@ pub extern "C" fn ra_opened_cell(file: &[u8], place: u32) -> u64
     cell_code(cell_in(file, read_view(file), Position(place)))
 }
 
-// The rank at a position, or "empty".
+// The rank at a position, or "empty" with the number of stored cells before it.
 #[no_mangle]
 pub extern "C" fn ra_opened_rank(file: &[u8], place: u32) -> u64
     ensures { λ r. ⌜ Coded (rankUnchecked (now (file .entry)) place) r ⌝ }
@@ -40,7 +40,9 @@ pub extern "C" fn ra_opened_rank(file: &[u8], place: u32) -> u64
     if !whole_header(file) {
         return code_and_value(BEYOND, 0);
     }
-    rank_code(rank_in(file, read_view(file), Position(place)))
+    let v = read_view(file);
+    let answer = rank_in(file, v, Position(place));
+    rank_code(answer)
 }
 
 // The code of a position in a kind where the rank gives its place: no search is compiled in.

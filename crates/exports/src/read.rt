@@ -52,7 +52,7 @@ pub extern "C" fn ra_cell(file: &[u8], place: u32) -> u64
     cell_code(cell(file, Position(place)))
 }
 
-// The rank at a position, or "empty".
+// The rank at a position, or "empty" with the number of stored cells before it.
 #[no_mangle]
 pub extern "C" fn ra_rank(file: &[u8], place: u32) -> u64
     ensures { λ r. ⌜ Coded (RankFound (now (file .entry)) place) r ⌝ }

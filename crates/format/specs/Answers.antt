@@ -1,5 +1,6 @@
 -- What a call hands back (document 01, "The signal list"), and the number and values of each case of a declared answer. Assumes nothing.
 use Prim.Native.Nat.{ℕ, zero, suc}
+use mathlib.Core.Bool.{Bool, true, false}
 use mathlib.Core.List.{List, [], _∷_, _++_}
 use lib.ListN.{length, drop}
 use Rattle.format.specs.declared.Position.{Position}
@@ -13,10 +14,10 @@ use Rattle.format.specs.declared.PositionAnswer.the-variants as pa
 use Rattle.format.specs.declared.CoordinatesAnswer.{CoordinatesAnswer}
 use Rattle.format.specs.declared.CoordinatesAnswer.the-variants as co
 
--- an answer: a refusal's number, "empty", or a word, rank or position
+-- an answer: a refusal's number; "empty", with the number of stored cells before the cell (document 02, S-9); or a word, rank or position
 pub data Answer : Type 0 where
   refused : ℕ → Answer
-  empty : Answer
+  empty : ℕ → Answer
   given : ℕ → Answer
 
 -- the refusal, or else the answer
@@ -24,15 +25,20 @@ abbrev pub answered : ℕ → Answer → Answer
 answered zero a = a
 answered (suc n) a = refused (suc n)
 
--- the paper's number of an answer, 0 where the call is accepted, and its values
+-- the paper's number of an answer, 0 where the call is accepted; whether it is "empty"; and its values
 abbrev pub numberOf : Answer → ℕ
 numberOf (refused n) = n
-numberOf empty = 0
+numberOf (empty n) = 0
 numberOf (given x) = 0
+
+abbrev pub isEmpty : Answer → Bool
+isEmpty (refused n) = false
+isEmpty (empty n) = true
+isEmpty (given x) = false
 
 abbrev pub valuesOf : Answer → List ℕ
 valuesOf (refused n) = []
-valuesOf empty = []
+valuesOf (empty n) = n ∷ []
 valuesOf (given x) = x ∷ []
 
 -- what each case of a declared answer says
@@ -42,7 +48,7 @@ cellSays (ca.Refused n) = refused n
 
 abbrev pub rankSays : RankAnswer → Answer
 rankSays (ra.Rank r) = given (r .0)
-rankSays ra.Empty = empty
+rankSays (ra.Empty n) = empty (n .0)
 rankSays (ra.Refused n) = refused n
 
 abbrev pub positionSays : PositionAnswer → Answer

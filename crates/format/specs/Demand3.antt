@@ -68,8 +68,8 @@ lastWritten p x [] ns = x
 lastWritten p x (c ∷ cs) [] = x
 lastWritten p x (c ∷ cs) (n ∷ ns) = lastWritten p (wordAfter p x (c .request) n) cs ns
 
--- two files answer alike: each lookup gives the same on both for every number handed in, and expand, into destinations of equal length and contents,
--- the same answer and the same final contents
+-- two files answer alike: each lookup gives the same on both for every number handed in, with "empty" the number of stored cells before the cell too
+-- (document 02, S-9), and expand, into destinations of equal length and contents, the same answer and the same final contents
 pub record Alike (b₁ b₂ : List ℕ) : Type 0 where
   pub cell : (p : ℕ) (a₁ a₂ : Answer) → CellFound b₁ p a₁ → CellFound b₂ p a₂ → a₁ ≡ a₂
   pub rank : (p : ℕ) (a₁ a₂ : Answer) → RankFound b₁ p a₁ → RankFound b₂ p a₂ → a₁ ≡ a₂

@@ -15,9 +15,9 @@ use Rattle.format.specs.Accepted.{emptyOf, wordsOf, checkNumber}
 unfoldable pub cellIn : List ℕ → ℕ → Answer
 cellIn ws p = pick (ltb p (length ws)) (given (getD ws p 0)) (refused BEYOND)
 
--- a rank, or "empty"
+-- a rank, or "empty" with the number of stored cells before the cell (document 02, S-9): 0 before the first stored cell, N after the last
 unfoldable pub rankIn : ℕ → List ℕ → ℕ → Answer
-rankIn E ws p = pick (ltb p (length ws)) (pick (eqb (getD ws p 0) E) empty (given (rankAt E ws p))) (refused BEYOND)
+rankIn E ws p = pick (ltb p (length ws)) (pick (eqb (getD ws p 0) E) (empty (rankAt E ws p)) (given (rankAt E ws p))) (refused BEYOND)
 
 unfoldable pub positionIn : ℕ → List ℕ → ℕ → Answer
 positionIn E ws r = pick (ltb r (length (stored E ws))) (given (getD (stored E ws) r 0)) (refused BEYOND)

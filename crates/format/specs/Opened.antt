@@ -58,10 +58,10 @@ viaOpening zero a = a
 viaOpening (suc n) a = refused BEYOND
 
 -- One answer is free (document 01, "What the surveyor looks for"): through a value that somebody put together over unchecked bytes a lookup gives 8,
--- "empty" (rank at a position alone: a declared `PositionAnswer` has no such case), or a number below a bound.
+-- "empty" with any number (rank at a position alone: a declared `PositionAnswer` has no such case; document 02, S-9), or a number below a bound.
 pub data Free (bound : ℕ) : Answer → Type 0 where
   beyond : Free bound (refused BEYOND)
-  none : Free bound empty
+  none : (n : ℕ) → Free bound (empty n)
   number : (n : ℕ) → n < bound → Free bound (given n)
 
 -- 8, or any word (a declared `CellAnswer` holds 32 bits)

@@ -113,21 +113,21 @@ allCells x = x .cells
 abbrev pub storedCells : Span → ℕ
 storedCells x = x .cells - x .empty
 
--- the entry i, the number p left within it, the sum a of the pairs before it, and its own pair x
+-- the entry i, the number p left within it, the sum a of the pairs before it, and its own pair x; or, where no entry exceeds the number, the sum of them all
 pub data Place : Type 0 where
-  lost : Place
+  lost : Span → Place
   at : ℕ → ℕ → Span → Span → Place
 
 -- along a page from entry i on: the first entry whose count exceeds the number, with the number less the entry c to the left
 unfoldable pub walkFrom : (Span → ℕ) → ℕ → ℕ → Span → Span → List Span → Place
-walkFrom m i p a c [] = lost
+walkFrom m i p a c [] = lost (plus a c)
 walkFrom m i p a c (y ∷ ys) =
     let later = walkFrom m (suc i) p a y ys in
     pick (ltb p (m y)) (at i (p - m c) (plus a c) (less y c)) later
 
 -- from an entry to the page below it, which has the entry's index; at the page's first entry the entry to the left is 0
 abbrev pub stepDown : (Span → ℕ) → ℕ → List Span → Place → Place
-stepDown m b ys lost = lost
+stepDown m b ys (lost a) = lost a
 stepDown m b ys (at j p a x) = walkFrom m (j * b) p a none (take b (drop (j * b) ys))
 
 -- through levels, the top first
@@ -146,12 +146,13 @@ levels (suc n) b xs =
 unfoldable pub descent : (Span → ℕ) → ℕ → List Span → ℕ → Place
 descent m b xs p = through m b (levels (length xs) b xs) (at 0 p none none)
 
--- the rank at the place of a position: a run's first cells are empty; where no entry exceeds it, the cell is empty
+-- the rank at the place of a position: a run's first cells are empty, and before them stand the stored cells of the pairs before; where no entry exceeds
+-- it, the cell is empty, and all stored cells stand before it
 abbrev pub rankAtPlace : Place → Answer
-rankAtPlace lost = empty
-rankAtPlace (at i p a x) = pick (ltb p (x .empty)) empty (given (a .cells - a .empty + (p - x .empty)))
+rankAtPlace (lost a) = empty (a .cells - a .empty)
+rankAtPlace (at i p a x) = pick (ltb p (x .empty)) (empty (a .cells - a .empty)) (given (a .cells - a .empty + (p - x .empty)))
 
 -- the position at the place of a rank
 abbrev pub positionAtPlace : Place → Answer
-positionAtPlace lost = refused BEYOND
+positionAtPlace (lost a) = refused BEYOND
 positionAtPlace (at i r a x) = given (a .cells + x .empty + r)

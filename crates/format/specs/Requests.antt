@@ -10,7 +10,9 @@ use Rattle.format.specs.File.{layout}
 use Rattle.format.specs.Accepted.{positionsOf, checkNumber}
 use Rattle.format.specs.Calls.{writtenFile, changedFile}
 use Rattle.format.specs.Shorter.{shorterNumber}
-use Rattle.format.specs.Sample.{setting, row, file, pair, Row, M, one}
+use Rattle.format.specs.Lookups.{rankIn, rankAnswer}
+use Rattle.format.specs.Opened.{viaOpening}
+use Rattle.format.specs.Sample.{setting, row, sampleL, file, inEach, pair, shown, byRuns, Row, M, one}
 use Rattle.format.specs.Examples.{claimed}
 use Rattle.format.specs.Edges.{parts, changed}
 
@@ -63,4 +65,13 @@ requests =
     ∷ M 0 (changed 7 1 1 ∷ checkNumber (set (file 6 1 1) 0 7) ∷ []) (2 ∷ 2 ∷ [])
     ∷ M 0 (changed 6 1 1 ∷ changed 6 2 1 ∷ changed 6 1 255 ∷ []) (0 ∷ 0 ∷ 0 ∷ [])
     ∷ M 0 (changed 6 1 0 ∷ changed 6 1 256 ∷ changed 6 0 1 ∷ changed 6 3 1 ∷ changed 6 257 1 ∷ []) (3 ∷ 3 ∷ 3 ∷ 3 ∷ 3 ∷ [])
+    -- S-9, the sample: 6 gives empty with 3, 11 empty with 4, 0 empty with 0; in each kind's file, through an opening, and by the runs
+    ∷ M 0 (inEach (λ b. shown (rankAnswer b 6) ++ shown (rankAnswer b 11) ++ shown (rankAnswer b 0))) (inEach (λ b. 255 ∷ 3 ∷ 255 ∷ 4 ∷ 255 ∷ 0 ∷ []))
+    ∷ M 0 (inEach (λ b. shown (viaOpening (checkNumber b) (rankAnswer b 6)))) (inEach (λ b. 255 ∷ 3 ∷ []))
+    ∷ M 0 (byRuns sampleL 6 ++ byRuns sampleL 11 ++ byRuns sampleL 0) (255 ∷ 3 ∷ 255 ∷ 3 ∷ 255 ∷ 4 ∷ 255 ∷ 4 ∷ 255 ∷ 0 ∷ 255 ∷ 0 ∷ [])
+    -- between the runs at 3 and 5: 2; a rank and a refusal are told as before
+    ∷ M 0 (shown (rankAnswer (file 1 0 0) 4) ++ shown (rankAnswer (file 1 0 0) 5) ++ shown (rankAnswer (file 1 0 0) 12)) (255 ∷ 2 ∷ 0 ∷ 2 ∷ one 8)
+    -- all twelve cells empty, by the runs too; all stored but the last
+    ∷ M 0 (shown (rankIn 0 (replicate 12 0) 11) ++ byRuns [] 11) (255 ∷ 0 ∷ 255 ∷ 0 ∷ 255 ∷ 0 ∷ [])
+    ∷ M 0 (shown (rankIn 0 (set (replicate 12 1) 11 0) 11)) (255 ∷ 11 ∷ [])
     ∷ []

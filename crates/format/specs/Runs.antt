@@ -78,12 +78,13 @@ runsKind w l =
 
 -- ---- kind 1's rule, over any list of runs
 
--- For L_(j-1) < p <= L_j the cell is stored when L_(j-1) + V_j - V_(j-1) < p, and its rank is p - V_j. `end` and v as above.
+-- For L_(j-1) < p <= L_j the cell is stored when L_(j-1) + V_j - V_(j-1) < p, and its rank is p - V_j. Before an empty cell stand the stored cells up to
+-- L_(j-1), and after the last run all. `end` and v as above.
 unfoldable pub runRankFrom : ℕ → ℕ → ℕ → List Run → Answer
-runRankFrom end v p [] = empty
+runRankFrom end v p [] = empty (end - v)
 runRankFrom end v p (x ∷ xs) =
     let later = runRankFrom (suc (x .last)) (x .empty) p xs in
-    pick (leb p (x .last)) (pick (leb (end + (x .empty - v)) p) (given (p - x .empty)) empty) later
+    pick (leb p (x .last)) (pick (leb (end + (x .empty - v)) p) (given (p - x .empty)) (empty (end - v))) later
 
 unfoldable pub runRank : List Run → ℕ → Answer
 runRank xs p = runRankFrom 0 0 p xs

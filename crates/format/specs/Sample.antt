@@ -4,7 +4,8 @@ use mathlib.Core.List.{List, [], _∷_, _++_}
 use lib.ListN.{length, replicate, set}
 use Rattle.format.specs.declared.Dimensions.{Dimensions}
 use Rattle.format.specs.declared.Setting.{Setting}
-use Rattle.format.specs.Answers.{Answer, numberOf, valuesOf}
+use Rattle.format.specs.Tools.{pick}
+use Rattle.format.specs.Answers.{Answer, numberOf, isEmpty, valuesOf}
 use Rattle.format.specs.Stored.{stored}
 use Rattle.format.specs.Runs.{runs, spans, flatRuns, runRank, runPosition}
 use Rattle.format.specs.BaseOffset.{bases, offsets}
@@ -41,9 +42,9 @@ inEach f = f (file 1 0 0) ++ f (file 2 0 0) ++ f (file 3 1 2) ++ f (file 4 1 0) 
 abbrev pub pair : ℕ → List ℕ
 pair q = set (set (replicate 300 0) 2 7) q 9
 
--- an answer's number and values
+-- an answer's number, or 255 for "empty", and its values
 abbrev pub shown : Answer → List ℕ
-shown a = numberOf a ∷ valuesOf a
+shown a = pick (isEmpty a) 255 (numberOf a) ∷ valuesOf a
 
 -- the same rank, or position, by kind 1's rule and by kind 5's descent, over the stored positions ls
 abbrev pub byRuns : List ℕ → ℕ → List ℕ
@@ -84,11 +85,11 @@ rows =
     ∷ M 5 (flatSpans (level 2 (spans (runs sampleL)))) (4 ∷ 2 ∷ 6 ∷ 3 ∷ 5 ∷ 4 ∷ [])
     ∷ M 5 (flatSpans (upperLevels 2 (level 2 (spans (runs sampleL))))) (6 ∷ 3 ∷ 11 ∷ 7 ∷ [])
     ∷ M 5 (one (length (file 5 0 2))) (one 108)
-    -- M6 rank at 5 is 2; M7 at 6 and at 11: empty; M8 rank 3 is at 10; rank 4: 8. In each kind's file, and by the runs
+    -- M6 rank at 5 is 2; M7 at 6 and at 11: empty, with 3 and 4 (S-9); M8 rank 3 is at 10; rank 4: 8. In each kind's file, and by the runs
     ∷ M 6 (inEach (λ b. shown (rankAnswer b 5))) (inEach (λ b. 0 ∷ 2 ∷ []))
     ∷ M 6 (byRuns sampleL 5) (0 ∷ 2 ∷ 0 ∷ 2 ∷ [])
-    ∷ M 7 (inEach (λ b. shown (rankAnswer b 6) ++ shown (rankAnswer b 11))) (inEach (λ b. 0 ∷ 0 ∷ []))
-    ∷ M 7 (byRuns sampleL 6 ++ byRuns sampleL 11) (0 ∷ 0 ∷ 0 ∷ 0 ∷ [])
+    ∷ M 7 (inEach (λ b. shown (rankAnswer b 6) ++ shown (rankAnswer b 11))) (inEach (λ b. 255 ∷ 3 ∷ 255 ∷ 4 ∷ []))
+    ∷ M 7 (byRuns sampleL 6 ++ byRuns sampleL 11) (255 ∷ 3 ∷ 255 ∷ 3 ∷ 255 ∷ 4 ∷ 255 ∷ 4 ∷ [])
     ∷ M 8 (inEach (λ b. shown (positionAnswer b 3) ++ shown (positionAnswer b 4))) (inEach (λ b. 0 ∷ 10 ∷ 8 ∷ []))
     ∷ M 8 (byRunsBack sampleL 3 ++ byRunsBack sampleL 4) (0 ∷ 10 ∷ 0 ∷ 10 ∷ 8 ∷ 8 ∷ [])
     -- M9 all twelve cells 0, kind 1: 52 bytes; M10 all twelve stored: one run (11,0)

@@ -19,7 +19,7 @@ unfoldable pub kept : ℕ → List ℕ → List ℕ
 kept E [] = []
 kept E (x ∷ ws) = unless (eqb x E) x (kept E ws)
 
--- the rank of the cell at p: the number of stored cells at lower positions
+-- the number of stored cells at positions lower than p: the rank of the cell at p, where it is stored
 unfoldable pub rankAt : ℕ → List ℕ → ℕ → ℕ
 rankAt E ws p = length (stored E (take p ws))
 

@@ -34,10 +34,10 @@ pub enum CellAnswer {
     Refused(u32),
 }
 
-// Rank at a position.
+// Rank at a position; at an empty cell the number of stored cells before it, which is the rank that a word written there would have.
 pub enum RankAnswer {
     Rank(Rank),
-    Empty,
+    Empty(Rank),
     Refused(u32),
 }
 

@@ -1,6 +1,7 @@
 -- Demand 3, proved of every two lists. Assumes nothing.
 use Prim.Native.Nat.{ℕ, zero, suc, _+_, _-_, _^_, _<_}
 use mathlib.Core.Path.{_≡_, refl, sym, ap, ap₂, _∙_, subst}
+use mathlib.Core.Logic.{_↔_}
 use mathlib.Core.List.{List, [], _∷_, _++_, map}
 use native.Mathlib.Omega.{arith}
 use lib.ListN.{length, drop, getD, replicate, getD-replicate}
@@ -13,7 +14,7 @@ use Rattle.format.specs.declared.Setting.{Setting}
 use Rattle.format.specs.File.{layout, HasFile}
 use Rattle.format.specs.Accepted.{wordsOf, settingOf}
 use Rattle.format.specs.Calls.{makeNumber, expandNumber, writeNumber, writtenFile, changeNumber, changedFile, Made, Expanded}
-use Rattle.format.specs.Answers.{leaves, given}
+use Rattle.format.specs.Answers.{leaves, empty, given}
 use Rattle.format.specs.Lookups.{CellFound, RankFound, PositionFound, cellIn, cellAnswer, rankAnswer, positionAnswer}
 use Rattle.format.specs.Table.{Request, write, change, Table, newTable, tableFile, wouldBe, signal, tableNumber, becomes, tableNext, tableRun, tableNumbers}
 use Rattle.format.specs.Demand3.{Call, fed, Called, fileIn, nextFile, Ran, done, then, Listed, wordAfter, lastWritten, Alike, AsTable, Agree, Demand3}
@@ -206,6 +207,13 @@ demand3 d E k s₁ cs₁ ns₁ b₁ l₁ s₂ cs₂ ns₂ b₂ l₂ =
         (λ a. sym (f₁ .holds .file) ∙ ap₂ (λ (s : Setting) (ws : List ℕ). layout s d E ws) (a .1) (words (a .0)) ∙ f₂ .holds .file),
       );
     }
+
+-- files that answer alike give the same number of stored cells before an empty cell (document 02, S-9)
+pub alike-before : (b₁ b₂ : List ℕ) → Alike b₁ b₂ → (p n : ℕ) → RankFound b₁ p (empty n) ↔ RankFound b₂ p (empty n)
+alike-before b₁ b₂ a p n = (
+  (λ f. record { said = a .rank p (empty n) (rankAnswer b₂ p) f (record { said = refl }) }),
+  (λ f. record { said = sym (a .rank p (rankAnswer b₁ p) (empty n) (record { said = refl }) f) }),
+)
 
 -- a written word is below 2^32
 abbrev pub WordIn : Request → Type 0

@@ -78,7 +78,7 @@ module _ (m : Span → ℕ) (add : (a x : Span) → Ok a → Ok x → m (plus a 
   unfolding seekFrom
   seek-on j p a t ts h = rw (le-ltb p (m t) h)
 
-  seek-none : (j p : ℕ) (a : Span) (ts : List Span) → ts ≡ [] → seekFrom m j p a ts ≡ lost
+  seek-none : (j p : ℕ) (a : Span) (ts : List Span) → ts ≡ [] → seekFrom m j p a ts ≡ lost a
   unfolding seekFrom
   seek-none j p a [] e = refl
   seek-none j p a (t ∷ ts) e = absurd (omega (arith, ap length e))

@@ -5,16 +5,17 @@ use mathlib.Core.Path.{_≡_, refl, sym, ap, _∙_}
 use mathlib.Core.Logic.{_↔_}
 use mathlib.Core.Bool.{true, false, not}
 use mathlib.Core.List.{List}
+use native.Mathlib.Nat.{le-refl}
 use native.Mathlib.Omega.{arith}
 use lib.ListN.{length, getD, set, length-set}
-use lib.Seq.{getD-set-same, getD-set-other, ext-getD}
+use lib.Seq.{getD-set-same, getD-set-other, take-set-le, ext-getD}
 use lib.Dec.{eqb, ltb}
 use borrow.Author.Tests.{eq-eqb, lt-ltb, le-ltb, ltb-false, eqb-true, eqb-false}
 use Rattle.format.specs.Tools.{Below}
 use Rattle.format.specs.declared.Dimensions.{Dimensions}
 use Rattle.format.specs.declared.Setting.{Setting}
 use Rattle.format.specs.Picture.{cells, dimensionsAllowed}
-use Rattle.format.specs.Stored.{stored}
+use Rattle.format.specs.Stored.{stored, rankAt}
 use Rattle.format.specs.Kinds.{codec, settingAllowed}
 use Rattle.format.specs.File.{layout, HasFile}
 use Rattle.format.specs.Answers.{empty}
@@ -90,9 +91,10 @@ module _ (s : Setting) (d : Dimensions) (E : ℕ) (ws b : List ℕ) (h : HasFile
   pub change-same : (room : ℕ) → length b ≤ room → (changeNumber b s room ≡ 0) × (changedFile b s ≡ b)
   change-same room r = (change-accepts s room (h .setting) (h .fits) (rw (h .file) r), changed-file s d E ws b h s ∙ h .file)
 
--- writing E empties a cell
-pub write-empties : (E p : ℕ) (ws : List ℕ) → p < length ws → rankIn E (set ws p E) p ≡ empty
+-- writing E empties a cell; before it stand the stored cells that stood there
+pub write-empties : (E p : ℕ) (ws : List ℕ) → p < length ws → rankIn E (set ws p E) p ≡ empty (rankAt E ws p)
 unfolding rankIn
 write-empties E p ws k =
     let n : p < length (set ws p E) = rw (length-set ws p E) k in
-    rw (lt-ltb p (length (set ws p E)) n, getD-set-same ws p E 0 k, eq-eqb E E refl)
+    let rank-set : rankAt E (set ws p E) p ≡ rankAt E ws p = unfold rankAt in (ap (λ (l : List ℕ). length (stored E l)) (take-set-le p ws p E (le-refl p))) in
+    rw (lt-ltb p (length (set ws p E)) n, getD-set-same ws p E 0 k, eq-eqb E E refl, rank-set)

@@ -23,6 +23,7 @@ pub mod Acceptance
 -- The calls.
 pub mod Calls
 pub mod Coordinates
+pub mod Before
 pub mod RankRange
 pub mod Shorter
 pub mod Fits

@@ -7,7 +7,7 @@ use native.Mathlib.Nat.{le-refl, sub-zero, sub-add-eq}
 use native.Mathlib.Omega.{arith}
 use lib.ListN.{length, getD}
 use lib.Dec.{eqb, leb, ltb}
-use borrow.Author.Tests.{eq-eqb, ne-eqb, eqb-true, leb-true, leb-false, ltb-true, ltb-false, lt-ltb, le-ltb}
+use borrow.Author.Tests.{eqb-true, leb-true, leb-false, ltb-true, ltb-false, lt-ltb, le-ltb}
 use Rattle.format.specs.Tools.{pick, first}
 use Rattle.format.specs.Signals.{BEYOND}
 use Rattle.format.specs.Stored.{stored, rankAt}
@@ -16,7 +16,7 @@ use Rattle.format.specs.PagedRuns.{plus, none, allCells, storedCells, positionA
 use Rattle.format.specs.Answers.{empty, given, refused, valuesOf}
 use Rattle.format.specs.Lookups.{rankIn, positionIn}
 use Rattle.laws.proofs.Stored.{Rising, rising}
-use Rattle.laws.proofs.Search.{rankAmong, seekFrom, Proper, along, rank-among, positionAmong, along-position}
+use Rattle.laws.proofs.Search.{rankAmong, seekFrom, Proper, along, among-head, among-later, rank-among, positionAmong, along-position}
 use Rattle.laws.proofs.Tools.{cases}
 use Rattle.laws.proofs.Positions.{rising-at, runs-back}
 use Rattle.laws.proofs.Descent.{descent-finds, cells-add, stored-add}
@@ -64,7 +64,8 @@ rank-of : (e v y p : ℕ) → v ≤ y → v ≤ e → e + (y - v) ≤ p → e - 
 rank-of e v y p k g h = omega arith
 
 in-run : (e v y p : ℕ) (a : Span) → e ≤ p → v ≤ y → v ≤ e → a .cells ≡ e → a .empty ≡ v
-    → pick (ltb (p - e) (y - v)) empty (given (a .cells - a .empty + (p - e - (y - v)))) ≡ pick (leb (e + (y - v)) p) (given (p - y)) empty
+    → pick (ltb (p - e) (y - v)) (empty (a .cells - a .empty)) (given (a .cells - a .empty + (p - e - (y - v))))
+    ≡ pick (leb (e + (y - v)) p) (given (p - y)) (empty (e - v))
 in-run e v y p a h k g c d =
     cases (leb (e + (y - v)) p)
     (λ t.
@@ -74,13 +75,13 @@ in-run e v y p a h k g c d =
     (λ t.
     let z = leb-false (e + (y - v)) p t in
     let u : p - e < y - v = omega arith in
-    rw (t, lt-ltb (p - e) (y - v) u))
+    rw (t, lt-ltb (p - e) (y - v) u, c, d))
 
 -- kind 1's rule is the walk along the length pairs
 pub run-rank : (e v p i : ℕ) (a : Span) (xs : List Run) → InOrder e v xs → e ≤ p → v ≤ e → a .cells ≡ e → a .empty ≡ v
     → rankAtPlace (seekFrom allCells i (p - e) a (spansFrom e v xs)) ≡ runRankFrom e v p xs
 unfolding spansFrom seekFrom runRankFrom
-run-rank e v p i a [] o h g c d = refl
+run-rank e v p i a [] o h g c d = rw (c, d)
 run-rank e v p i a (x ∷ xs) o h g c d =
     cases (leb p (x .last))
     (λ t.
@@ -202,13 +203,12 @@ position-shared b r xs g o =
 -- ---- L(r) is the position of rank r
 
 among-at : (r k a B : ℕ) (ls : List ℕ) → Rising a B ls → r < length ls → rankAmong (getD ls r 0) k ls ≡ given (k + r)
-unfolding rankAmong
 among-at r k a B [] o h = absurd (omega arith)
-among-at zero k a B (l ∷ ls) o h = rw (eq-eqb l l refl) (ap given (omega arith))
+among-at zero k a B (l ∷ ls) o h = among-head l k ls ∙ ap given (omega arith)
 among-at (suc r) k a B (l ∷ ls) o h =
     let i = rising-at (suc l) B ls r (o .2) (omega arith) in
     let ih = among-at r (suc k) (suc l) B ls (o .2) (omega arith) in
-    rw (ne-eqb l (getD ls r 0) (λ e. omega arith)) (ih ∙ ap given (omega arith))
+    among-later (getD ls r 0) k l ls (omega arith) ∙ ih ∙ ap given (omega arith)
 
 pub rank-at : (E r : ℕ) (ws : List ℕ) → r < length (stored E ws) → rankIn E ws (getD (stored E ws) r 0) ≡ given r
 rank-at E r ws h =
@@ -229,7 +229,7 @@ rank-counts E r ws h = counted (ltb p (length ws)) (eqb (getD ws p 0) E) (ap val
     p : ℕ
     p = getD (stored E ws) r 0
 
-    counted : (s t : Bool) → valuesOf (pick s (pick t empty (given (rankAt E ws p))) (refused BEYOND)) ≡ r ∷ [] → rankAt E ws p ≡ r
-    counted true true e = absurd (omega (arith, ap length e))
+    counted : (s t : Bool) → valuesOf (pick s (pick t (empty (rankAt E ws p)) (given (rankAt E ws p))) (refused BEYOND)) ≡ r ∷ [] → rankAt E ws p ≡ r
+    counted true true e = ap first e
     counted true false e = ap first e
     counted false t e = absurd (omega (arith, ap length e))

@@ -60,7 +60,7 @@ fn cell_within(file: &[u8], v: View, p: Position) -> CellAnswer
     search::cell_in(file, v, p)
 }
 
-// The rank at a position, or empty; 8 where the opening was refused.
+// The rank at a position, or "empty" with the number of stored cells before it; 8 where the opening was refused.
 fn rank_within(file: &[u8], v: View, p: Position) -> RankAnswer
     ensures { λ r. ⌜ OpenedRank (over (file .entry) v) (p .0) (rankSays r) ⌝ }
 {
@@ -87,7 +87,7 @@ pub fn cell<'a>(o: Opened<'a>, p: Position) -> CellAnswer
     cell_within(o.bytes, o.view, p)
 }
 
-// The rank at a position, or empty, through the opened file.
+// The rank at a position, or "empty" with the number of stored cells before it, through the opened file.
 pub fn rank<'a>(o: Opened<'a>, p: Position) -> RankAnswer
     ensures { λ r. ⌜ OpenedRank (fileOf (o .entry)) (p .0) (rankSays r) ⌝ }
 {

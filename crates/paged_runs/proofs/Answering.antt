@@ -150,7 +150,7 @@ place-free e p n h =
 
 -- the stored cells before a place and the number that is left make up the rank
 abbrev pub StoredAt : ℕ → Place → Type 0
-StoredAt r lost = Unit
+StoredAt r (lost a) = Unit
 StoredAt r (at i q a x) = (a .cells - a .empty + q ≡ r) × (a .empty ≤ a .cells)
 
 stored-from : (i r q : ℕ) (a : Span) (xs : List Span) → Proper xs → a .empty ≤ a .cells → a .cells - a .empty + q ≡ r
@@ -173,7 +173,7 @@ abbrev pub positionBy : ℕ → ℕ → ℕ
 positionBy e r = pick (eqb e nowhere) 0 (r + e / 2)
 
 pub position-at : (r k : ℕ) (q : Place) → StoredAt r q → positionAtPlace q ≡ given k → k < 2 ^ 32 → positionBy (answered 1 q) r ≡ k
-position-at r k lost h e l = let z : _≡_ {A = ℕ} 0 1 = cc in absurd (omega arith)
+position-at r k (lost a) h e l = let z : _≡_ {A = ℕ} 0 1 = cc in absurd (omega arith)
 position-at r k (at i q a x) h e l =
     let h0 = h .0 in
     let h1 = h .1 in

@@ -113,7 +113,7 @@ module _ (b : List ℕ) (v : View) (ls : List ℕ) (h : Holds (pagesKind (v .wid
     where
       part : (r : ℕ) (f : RunPart) → r < length ls → getD ls r 0 < 2 ^ 32 → (q : Place) → RunAt (2 ^ 32) r ls q → StoredAt r q
           → f .at ≡ r + answered 2 q / 2 ^ 32 → f .cells ≡ answered 2 q % 2 ^ 32 → PartOf ls r f
-      part r f l g lost w u e n = absurd (omega arith)
+      part r f l g (lost a) w u e n = absurd (omega arith)
       part r f l g (at i t c x) w u e n =
           let z : r + 0 ≡ r = omega arith in
           let left = ranks-left x t (w .1) (w .2) (w .0) in

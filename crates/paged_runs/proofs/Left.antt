@@ -17,14 +17,14 @@ use Rattle.parts.proofs.Places.{getD-range}
 
 -- the place of the rank q among positions: the ranks of its run from there on stand one cell after the other; its run has fewer than M cells
 abbrev pub RunAt : ℕ → ℕ → List ℕ → Place → Type 0
-RunAt M q ls lost = length ls ≤ q
+RunAt M q ls (lost a) = length ls ≤ q
 RunAt M q ls (at i t c x) =
     (t < storedCells x) × (x .empty ≤ x .cells) × (x .cells < M) × (q + (storedCells x - t) ≤ length ls)
     × ((k : ℕ) → k < storedCells x - t → getD ls (q + k) 0 ≡ c .cells + x .empty + t + k)
 
 -- past a stretch of n positions
 past : (M q s n : ℕ) (ls : List ℕ) (p : Place) → n ≤ q → RunAt M (q - n) ls p → RunAt M q (range s n ++ ls) p
-past M q s n ls lost h w = let a = length-append (range s n) ls in let l = length-range s n in omega arith
+past M q s n ls (lost c) h w = let a = length-append (range s n) ls in let l = length-range s n in omega arith
 past M q s n ls (at i t c x) h w =
     let a = length-append (range s n) ls in
     let l = length-range s n in

@@ -1,19 +1,19 @@
 -- Where a number stands among rising positions: by two neighbours, and what that says of its rank. Every search of a kind ends here. Assumes nothing.
 use Prim.Native.Nat.{ℕ, zero, suc, _+_, _-_, _≤_, _<_}
-use mathlib.Core.Path.{_≡_, refl, sym, ap, _∙_}
+use mathlib.Core.Path.{_≡_, refl, sym, _∙_}
 use mathlib.Core.Bool.{true, false}
 use mathlib.Core.List.{List, [], _∷_}
 use native.Mathlib.Nat.{zero-add, add-zero}
 use native.Mathlib.Omega.{arith}
 use lib.ListN.{length, getD}
 use lib.Dec.{ltb, eqb}
-use borrow.Author.Tests.{eq-eqb, ne-eqb, lt-ltb, le-ltb, eqb-true, eqb-false, ltb-false}
+use borrow.Author.Tests.{eq-eqb, ne-eqb, lt-ltb, le-ltb, eqb-true, eqb-false, ltb-true, ltb-false}
 use Rattle.format.specs.Tools.{pick, range}
 use Rattle.format.specs.Answers.{empty, given}
 use Rattle.laws.proofs.Tools.{cases}
-use Rattle.laws.proofs.Stored.{Rising, rising-weaken}
+use Rattle.laws.proofs.Stored.{Rising}
 use Rattle.laws.proofs.Positions.{rising-at}
-use Rattle.laws.proofs.Search.{rankAmong, not-among}
+use Rattle.laws.proofs.Search.{rankAmong}
 use Rattle.parts.specs.declared.Found.{Found}
 use Rattle.parts.specs.Found.{countBelow, among, FoundAmong}
 
@@ -122,23 +122,22 @@ module _ (B p : ℕ) (ls : List ℕ) (o : Rising 0 B ls) (r : ℕ) where
 
 -- ---- the rank by it
 
-pub rank-found : (p B a r : ℕ) (ls : List ℕ) → Rising a B ls → rankAmong p r ls ≡ pick (among p ls) (given (r + countBelow p ls)) empty
+pub rank-found : (p B a r : ℕ) (ls : List ℕ) → Rising a B ls → rankAmong p r ls ≡ pick (among p ls) (given (r + countBelow p ls)) (empty (r + countBelow p ls))
 unfolding rankAmong among countBelow
-rank-found p B a r [] o = refl
+rank-found p B a r [] o = rw (add-zero r)
 rank-found p B a r (l ∷ ls) o =
-    cases (eqb l p)
-    (λ e.
-    let q : l ≡ p = eqb-true l p e in
+    cases (ltb l p)
+    (λ t.
+    let k = ltb-true l p t in
+    let n : suc r + countBelow p ls ≡ r + (1 + countBelow p ls) = omega arith in
+    rw (t, ne-eqb l p (λ e. omega arith), ← n) (rank-found p B (suc l) (suc r) ls (o .2)))
+    (λ t.
+    let k = ltb-false l p t in
     let z : countBelow p ls ≡ 0 = count-none (suc l) p B ls (omega arith) (o .2) in
-    rw (e, le-ltb l p (omega arith), z) (ap given (omega arith)))
-    (λ e. rw e (later (eqb-false l p e) (rank-found p B (suc l) (suc r) ls (o .2))))
+    let n : r + (0 + countBelow p ls) ≡ r = omega arith in
+    cases (eqb l p)
+    (λ e. rw (t, e, n))
+    (λ e. rw (t, e, n, among-none (suc l) p B ls (above (eqb-false l p e) k) (o .2))))
   where
-    later : (l ≡ p → ⊥) → rankAmong p (suc r) ls ≡ pick (among p ls) (given (suc r + countBelow p ls)) empty
-        → rankAmong p (suc r) ls ≡ pick (among p ls) (given (r + (pick (ltb l p) 1 0 + countBelow p ls))) empty
-    later ne i =
-        cases (ltb l p)
-        (λ t. rw t (i ∙ ap (λ (n : ℕ). pick (among p ls) (given n) empty) (omega arith)))
-        (λ t.
-        let k = ltb-false l p t in
-        rw (among-none (suc l) p B ls (omega arith) (o .2))
-        (not-among p (suc r) B ls (rising-weaken (suc p) (suc l) B ls (omega arith) (o .2))))
+    above : {l p : ℕ} → (l ≡ p → ⊥) → p ≤ l → p < suc l
+    above ne k = omega arith

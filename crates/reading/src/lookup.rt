@@ -22,7 +22,7 @@ pub fn cell(file: &[u8], p: Position) -> CellAnswer
     cell_in(file, verdict.view, p)
 }
 
-// The rank at a position, or empty.
+// The rank at a position, or "empty" with the number of stored cells before it.
 pub fn rank(file: &[u8], p: Position) -> RankAnswer
     ensures { λ r. ⌜ RankFound (now (file .entry)) (p .0) (rankSays r) ⌝ }
 {

@@ -1,6 +1,6 @@
 -- A search that goes on from where a cursor stands. Assumes nothing.
 use Prim.Native.Nat.{ℕ, zero, suc, _+_, _-_, _≤_, _<_}
-use mathlib.Core.Path.{_≡_, refl, sym, ap, _∙_, subst}
+use mathlib.Core.Path.{_≡_, sym, ap, _∙_, subst}
 use mathlib.Core.Logic.{⊎-elim}
 use mathlib.Core.Bool.{true, false}
 use mathlib.Core.List.{List, [], _∷_}
@@ -10,7 +10,7 @@ use native.Mathlib.Numerals.{add-one}
 use native.Mathlib.Omega.{arith}
 use lib.ListN.{length, getD, take, drop, drop-of-length-le}
 use lib.Seq.{drop-cons}
-use borrow.Author.Tests.{eq-eqb, ne-eqb}
+use borrow.Author.Tests.{eq-eqb, ne-eqb, lt-ltb, le-ltb}
 use Rattle.format.specs.declared.View.{View}
 use Rattle.format.specs.Tools.{Below}
 use Rattle.format.specs.Answers.{empty, given}
@@ -37,13 +37,13 @@ use Rattle.row_seek.specs.Ready.{Ready}
 -- ---- among positions
 
 -- no position before rank r is p or above
-among-passed : (p q s r : ℕ) (ls : List ℕ) → p ≤ q → Below p (take r ls) → rankAmong q s ls ≡ rankAmong q (s + r) (drop r ls)
+among-passed : (p q s r : ℕ) (ls : List ℕ) → p ≤ q → r ≤ length ls → Below p (take r ls) → rankAmong q s ls ≡ rankAmong q (s + r) (drop r ls)
 unfolding rankAmong
-among-passed p q s zero ls h b = rw (add-zero s)
-among-passed p q s (suc r) [] h b = refl
-among-passed p q s (suc r) (l ∷ ls) h b =
+among-passed p q s zero ls h n b = rw (add-zero s)
+among-passed p q s (suc r) [] h n b = absurd (omega arith)
+among-passed p q s (suc r) (l ∷ ls) h n b =
     let e : s + suc r ≡ suc s + r = omega arith in
-    rw (ne-eqb l q (λ z. omega (arith, b .0)), e) (among-passed p q (suc s) r ls h (b .1))
+    rw (lt-ltb l q (omega (arith, b .0)), e) (among-passed p q (suc s) r ls h (omega arith) (b .1))
 
 -- where rank r stands below p, so do those before
 passed-through : (a B p r : ℕ) (ls : List ℕ) → Rising a B ls → r < length ls → getD ls r 0 < p → Below p (take (suc r) ls)
@@ -109,14 +109,14 @@ module _ (b : List ℕ) (v : View) (o : ViewOf b v) where
     left k =
         rank-among (emptyOf b) p (wordsOf b) (rw (known .words-size) k)
         ∙ ap (rankAmong p 0) (sym (known .stored))
-        ∙ among-passed p p 0 (c .rank) (positionsOf b) (omega arith) (y .passed)
+        ∙ among-passed p p 0 (c .rank) (positionsOf b) (omega arith) (rw (known .holds .size) (y .rank)) (y .passed)
         ∙ ap (λ (r : ℕ). rankAmong p r (drop (c .rank) (positionsOf b))) (zero-add (c .rank))
 
-    pub sought-none : p < v .cells → v .words ≤ c .rank → RankSearched b v p empty
+    pub sought-none : p < v .cells → v .words ≤ c .rank → RankSearched b v p (empty (c .rank))
     unfolding rankAmong
     sought-none k h =
         let n : length (positionsOf b) ≤ c .rank = rw (known .holds .size) h in
-        record { right = λ z. sym (left k ∙ rw (drop-of-length-le (positionsOf b) n)); free = Free.none }
+        record { right = λ z. sym (left k ∙ rw (drop-of-length-le (positionsOf b) n)); free = Free.none (c .rank) }
 
     module _ (more : c .rank < v .words) where
       next-there : drop (c .rank) (positionsOf b) ≡ c .at ∷ drop (suc (c .rank)) (positionsOf b)
@@ -126,14 +126,14 @@ module _ (b : List ℕ) (v : View) (o : ViewOf b v) where
 
       pub sought-here : p < v .cells → c .at ≡ p → RankSearched b v p (given (c .rank))
       unfolding rankAmong
-      sought-here k e = record { right = λ z. sym (left k ∙ rw (next-there, eq-eqb (c .at) p e)); free = Free.number (c .rank) more }
+      sought-here k e = record { right = λ z. sym (left k ∙ rw (next-there, le-ltb (c .at) p (omega arith), eq-eqb (c .at) p e)); free = Free.number (c .rank) more }
 
-      pub sought-past : p < v .cells → p < c .at → RankSearched b v p empty
+      pub sought-past : p < v .cells → p < c .at → RankSearched b v p (empty (c .rank))
       sought-past k h =
           let s = rising-rest 0 (v .cells) (c .rank) (c .at) (positionsOf b) _ (known .holds .rising) next-there in
           record {
             right = λ z. sym (left k ∙ rw next-there (not-among p (c .rank) _ (c .at ∷ drop (suc (c .rank)) (positionsOf b)) (h, s .1, s .2)));
-            free = Free.none;
+            free = Free.none (c .rank);
           }
 
       pub rank-up : (d : Cursor) → d ≡ nextOf b v c → d .rank ≡ c .rank + 1
@@ -146,5 +146,5 @@ module _ (b : List ℕ) (v : View) (o : ViewOf b v) where
           by-walk (walk-no-runs (v .kind) k) d p (omega arith) (from-rank d (c .rank + 1) u (rw e (t .rest))) (rw u (passed-at p (c .rank) more (rw (← y .at more) h)))
 
     -- before the next stored cell
-    pub sought-empty : p < v .cells → (c .rank < v .words → p < c .at) → RankSearched b v p empty
+    pub sought-empty : p < v .cells → (c .rank < v .words → p < c .at) → RankSearched b v p (empty (c .rank))
     sought-empty k h = elim (decLe (v .words) (c .rank)) [ yes n ↦ sought-none k n | no n ↦ let m = lt-of-not-le n in sought-past m k (h m) ]

@@ -48,7 +48,7 @@ pub fn rank_from(file: &[u8], v: View, c: Cursor, p: Position) -> Sought
         }
     }
     Sought {
-        answer: RankAnswer::Empty,
+        answer: RankAnswer::Empty(Rank(next.rank)),
         cursor: next,
     }
 }

@@ -43,7 +43,7 @@ kept-at E (suc p) (x ∷ ws) h e =
 -- what a cell is, by the answer of the rank search
 abbrev pub cellBy : List ℕ → View → Answer → Answer
 cellBy b v (refused n) = refused n
-cellBy b v empty = given (v .empty)
+cellBy b v (empty n) = given (v .empty)
 cellBy b v (given r) = given (whole 4 (v .place + 4 * r) b)
 
 word-at : (b : List ℕ) (v : View) → ViewOf b v → (r : ℕ) → r < wordsCount b → whole 4 (v .place + 4 * r) b ≡ getD (keptOf b) r 0
@@ -83,7 +83,7 @@ cell-by-rank b v o p =
 -- a free answer by a free rank
 cell-free : (b : List ℕ) (v : View) (bound : ℕ) (a : Answer) → Free bound a → FreeWord (cellBy b v a)
 cell-free b v bound a Free.beyond = FreeWord.beyond
-cell-free b v bound a Free.none = FreeWord.word (v .empty)
+cell-free b v bound a (Free.none n) = FreeWord.word (v .empty)
 cell-free b v bound a (Free.number n h) = FreeWord.word _
 
 pub cell-searched : (b : List ℕ) (v : View) (p : ℕ) (a : Answer) → RankSearched b v p a → CellSearched b v p (cellBy b v a)
@@ -94,5 +94,5 @@ cell-searched b v p a s =
 pub cell-empty : (b : List ℕ) (v : View) (p : ℕ) (a : RankAnswer) → OneOf (1 ∷ (2 ∷ [])) (tagOf the-type a) → OneOf (0 ∷ (1 ∷ [])) (tagOf the-type a)
     → RankSearched b v p (rankSays a) → CellSearched b v p (given (v .empty))
 cell-empty b v p (ra.Rank r) h k s = absurd (⊎-elim (λ z. omega arith) (λ z. omega arith) h)
-cell-empty b v p ra.Empty h k s = cell-searched b v p empty s
+cell-empty b v p (ra.Empty n) h k s = cell-searched b v p (empty (n .0)) s
 cell-empty b v p (ra.Refused n) h k s = absurd (⊎-elim (λ z. omega arith) (λ z. omega arith) k)

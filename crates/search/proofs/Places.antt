@@ -33,7 +33,7 @@ module _ (b : List ℕ) (v : View) where
 
   -- a place that was found
   free-place : (f : Found) → (f .here ≡ true → f .below < v .words) → Free (v .words) (rankFrom f)
-  free-place f h = cases (f .here) (λ t. rw t (number (f .below) (h t))) (λ t. rw t none)
+  free-place f h = cases (f .here) (λ t. rw t (number (f .below) (h t))) (λ t. rw t (none (f .below)))
 
   pub rank-place : (p : ℕ) (f : Found) → p < v .cells → FoundIn (kindOf v) b v p f → RankSearched b v p (rankFrom f)
   rank-place p f h s =
@@ -46,7 +46,7 @@ module _ (b : List ℕ) (v : View) where
             (sym
             (rank-among (emptyOf b) p (wordsOf b) (omega arith)
             ∙ rw (← n .stored) (rank-found p (v .cells) 0 0 (positionsOf b) (n .holds .rising))
-            ∙ ap (λ (k : ℕ). pick (among p (positionsOf b)) (given k) empty) (zero-add (countBelow p (positionsOf b)))));
+            ∙ ap (λ (k : ℕ). pick (among p (positionsOf b)) (given k) (empty k)) (zero-add (countBelow p (positionsOf b)))));
         free = free-place f (s .free);
       }
 

@@ -14,9 +14,9 @@ use Rattle.format.specs.Opened.{Free, FreeWord}
 use Rattle.parts.specs.declared.Found.{Found}
 use Rattle.parts.specs.Holds.{ViewOf}
 
--- the answer of a place: a rank, or "empty"
+-- the answer of a place: a rank, or "empty" with the stored cells below
 abbrev pub rankFrom : Found → Answer
-rankFrom f = pick (f .here) (given (f .below)) empty
+rankFrom f = pick (f .here) (given (f .below)) (empty (f .below))
 
 -- the answer of a number that was found for a position: 8 past the cells
 abbrev pub positionFrom : ℕ → ℕ → Answer

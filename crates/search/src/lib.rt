@@ -19,17 +19,17 @@ ghost use Rattle.format.specs.Accepted.{positionsOf};
 ghost use Rattle.parts.specs.Holds.{ViewOf};
 ghost use Rattle.search.specs.Searched.{rankFrom, positionFrom, CellSearched, RankSearched, PositionSearched};
 
-// A place as an answer: a rank, or "empty".
+// A place as an answer: a rank, or "empty" with the number of stored cells before.
 pub fn rank_answer(found: Found) -> RankAnswer
     ensures { λ r. ⌜ rankSays r ≡ rankFrom found ⌝ }
 {
     if found.here {
         return RankAnswer::Rank(Rank(found.below));
     }
-    RankAnswer::Empty
+    RankAnswer::Empty(Rank(found.below))
 }
 
-// The rank at a position, or empty.
+// The rank at a position, or "empty" with the number of stored cells before it.
 pub fn rank_in(file: &[u8], v: View, p: Position) -> RankAnswer
     ensures { λ r. ⌜ RankSearched (now (file .entry)) v (p .0) (rankSays r) ⌝ }
 {

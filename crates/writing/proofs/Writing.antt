@@ -50,12 +50,12 @@ use Rattle.recode.proofs.Recoding.{after-is, recodes}
 -- the case of an answer, and its value
 abbrev sort : Answer → ℕ
 sort (refused n) = 0
-sort empty = 1
+sort (empty n) = 1
 sort (given x) = 2
 
 abbrev value : Answer → ℕ
 value (refused n) = 0
-value empty = 0
+value (empty n) = n
 value (given x) = x
 
 module _ (b : List ℕ) (v : View) (o : ViewOf b v) (p w : ℕ) where
@@ -69,7 +69,7 @@ module _ (b : List ℕ) (v : View) (o : ViewOf b v) (p w : ℕ) where
     inside : p < length ws
     inside = let n = seen b v o .words-size in omega arith
 
-    says : (a : Answer) → RankSearched b v p a → a ≡ pick (eqb (getD ws p 0) E) empty (given (rankAt E ws p))
+    says : (a : Answer) → RankSearched b v p a → a ≡ pick (eqb (getD ws p 0) E) (empty (rankAt E ws p)) (given (rankAt E ws p))
     unfolding rankIn
     says a s = s .right o ∙ rw (lt-ltb p (length ws) inside)
 
@@ -83,14 +83,14 @@ module _ (b : List ℕ) (v : View) (o : ViewOf b v) (p w : ℕ) where
     -- the else arm knows the tag alone
     pub empty-there : (a : RankAnswer) → OneOf (1 ∷ (2 ∷ [])) (tagOf the-type a) → RankSearched b v p (rankSays a) → getD ws p 0 ≡ E
     empty-there (ra.Rank r) h s = absurd (⊎-elim (λ z. omega arith) (λ z. omega arith) h)
-    empty-there ra.Empty h s =
-        cases (eqb (getD ws p 0) E) (λ t. eqb-true (getD ws p 0) E t) (λ t. absurd (let q : empty ≡ given (rankAt E ws p) = says empty s ∙ rw t in let e : 1 ≡ 2 = ap sort q in omega arith))
+    empty-there (ra.Empty n) h s =
+        cases (eqb (getD ws p 0) E) (λ t. eqb-true (getD ws p 0) E t) (λ t. absurd (let q : empty (n .0) ≡ given (rankAt E ws p) = says (empty (n .0)) s ∙ rw t in let e : 1 ≡ 2 = ap sort q in omega arith))
     empty-there (ra.Refused n) h s =
         cases (eqb (getD ws p 0) E) (λ t. eqb-true (getD ws p 0) E t) (λ t. absurd (let q : refused n ≡ given (rankAt E ws p) = says (refused n) s ∙ rw t in let e : 0 ≡ 2 = ap sort q in omega arith))
 
     pub stored-there : (r : ℕ) → RankSearched b v p (given r) → (getD ws p 0 ≡ E → ⊥) × (r ≡ rankAt E ws p)
     stored-there r s =
-        cases (eqb (getD ws p 0) E) (λ t. absurd (let q : given r ≡ empty = says (given r) s ∙ rw t in let e : 2 ≡ 1 = ap sort q in omega arith))
+        cases (eqb (getD ws p 0) E) (λ t. absurd (let q : given r ≡ empty (rankAt E ws p) = says (given r) s ∙ rw t in let e : 2 ≡ 1 = ap sort q in omega arith))
         (λ t. let q : given r ≡ given (rankAt E ws p) = says (given r) s ∙ rw t in (eqb-false (getD ws p 0) E t, ap value q))
 
     -- an empty cell: a new rank, or nothing new

@@ -9,8 +9,11 @@ use Rattle.c_values.proofs.code.rank_code.Tie as tie
 returns : tie.Need-returns
 returns c = c .code-and-value .ensures ∙ ap (λ (a : RankAnswer). coded (rankSays a)) (sym (c .before .before .a .given .1))
 
+returns-2 : tie.Need-returns-2
+returns-2 c = c .code-and-value2 .ensures ∙ ap (λ (a : RankAnswer). coded (rankSays a)) (sym (c .before .before .a2 .given .1))
+
 returns-3 : tie.Need-returns-3
-returns-3 c = c .code-and-value3 .ensures ∙ ap (λ (a : RankAnswer). coded (rankSays a)) (sym (c .before .before .a2 .given .1))
+returns-3 c = c .code-and-value3 .ensures ∙ ap (λ (a : RankAnswer). coded (rankSays a)) (sym (c .before .before .a3 .given .1))
 
 pub rank-code-spec : {M : Type 1} → statement M
 rank-code-spec =
@@ -23,5 +26,5 @@ rank-code-spec =
     (λ c. search needs)
     (λ c κs. search needs)
     returns
-    (λ c. search needs)
+    returns-2
     returns-3)
