@@ -1,6 +1,6 @@
 //! The calls, each over whole files.
 
-use crate::check::check;
+use crate::check::{check, Ranked};
 use crate::layout::{fitting, put_out};
 use crate::picture::{Dimensions, Position, Rank, Setting};
 use crate::refusal::Refusal;
@@ -55,8 +55,9 @@ pub fn cell(file: &[u8], position: Position) -> Result<u32, Refusal> {
     check(file)?.cell(position)
 }
 
-/// The rank at a position, or nothing for an empty cell. Tests 1 to 6, 8.
-pub fn rank(file: &[u8], position: Position) -> Result<Option<Rank>, Refusal> {
+/// The rank at a position, or for an empty cell the number of stored cells before it. Tests 1 to 6,
+/// 8.
+pub fn rank(file: &[u8], position: Position) -> Result<Ranked, Refusal> {
     check(file)?.rank(position)
 }
 

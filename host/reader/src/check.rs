@@ -22,6 +22,15 @@ pub struct Parsed {
     pub length: usize,
 }
 
+/// What the rank lookup finds at a position.
+#[derive(Clone, Copy, Debug, PartialEq, Eq)]
+pub enum Ranked {
+    /// The cell is stored, and has this rank.
+    Stored(Rank),
+    /// The cell is empty, and so many stored cells come before it.
+    Empty(u32),
+}
+
 /// The complete check of a file: what it says, or the first of 1 to 6 that applies.
 pub fn check(bytes: &[u8]) -> Result<Parsed, Refusal> {
     let header = Header::read(bytes)?;
@@ -64,11 +73,16 @@ impl Parsed {
         word.copied().ok_or(Refusal::Beyond)
     }
 
-    /// The rank at a position, nothing for an empty cell, or 8.
-    pub fn rank(&self, position: Position) -> Result<Option<Rank>, Refusal> {
-        self.cell(position)?;
-        let found = self.positions.binary_search(&position.0);
-        Ok(found.ok().map(|rank| Rank(rank as u32)))
+    /// The rank at a position, for an empty cell the number of stored cells before it, or 8.
+    pub fn rank(&self, position: Position) -> Result<Ranked, Refusal> {
+        let word = self.cell(position)?;
+        // The positions rise, so this counts the lower ones.
+        let before = self.positions.partition_point(|&p| p < position.0) as u32;
+        Ok(if word == self.picture.empty {
+            Ranked::Empty(before)
+        } else {
+            Ranked::Stored(Rank(before))
+        })
     }
 
     /// The position of a rank, or 8.

@@ -1,4 +1,5 @@
-//! A plain second reading of the radar picture archive.
+//! A plain second reading of the radar picture archive: document 01, with the requests S-7 (kind
+//! 6) and S-9 (the number of stored cells before an empty cell) of document 02.
 //!
 //! Every call works on the whole picture: a file is decoded to words, the words are laid out again,
 //! and a lookup looks into the words or into the list of stored positions. Nothing is searched in
@@ -27,7 +28,7 @@ mod tests;
 pub use calls::{
     box_words, cell, change, expand, make, position, rank, rank_range, shorter, write,
 };
-pub use check::{check, Parsed};
+pub use check::{check, Parsed, Ranked};
 pub use coordinates::{coordinates_position, position_coordinates};
 pub use lister::{list, LONGEST_LISTED};
 pub use picture::{Dimensions, Picture, Position, Rank, Setting, MOST_CELLS};

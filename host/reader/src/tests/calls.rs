@@ -24,7 +24,8 @@ fn words_0_are_stored_where_the_empty_word_is_another() {
         assert_eq!(says.stored(), 3);
         assert_eq!(says.cell(Position(1)), Ok(0));
         assert_eq!(says.cell(Position(0)), Ok(9));
-        assert_eq!(says.rank(Position(4)), Ok(Some(Rank(1))));
+        assert_eq!(says.rank(Position(4)), Ok(Ranked::Stored(Rank(1))));
+        assert_eq!(says.rank(Position(3)), Ok(Ranked::Empty(1)));
         assert_eq!(expand(&file, 6), Ok(words.to_vec()));
     }
 }

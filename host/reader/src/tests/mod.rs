@@ -1,5 +1,6 @@
 //! Tests by the papers' own numbers, with files put together by hand.
 
+mod before;
 mod calls;
 mod header;
 mod lister;
@@ -12,7 +13,7 @@ mod sample;
 mod table;
 mod whole;
 
-use crate::{make, number, Parsed, Refusal, Setting};
+use crate::{make, number, Parsed, Rank, Ranked, Refusal, Setting};
 
 /// The sample picture; its empty word is 0.
 const SAMPLE: [u32; 12] = [0, 0, 7, 9, 0, 5, 0, 0, 0, 0, 300, 0];
@@ -134,4 +135,15 @@ fn checked(file: &[u8]) -> u32 {
 /// What an accepted file says.
 fn parsed(file: &[u8]) -> Parsed {
     crate::check(file).unwrap()
+}
+
+/// What the rank lookup finds at a position, by counting the words before it.
+fn counted(empty: u32, words: &[u32], at: usize) -> Ranked {
+    let stored = words[..at].iter().filter(|&&word| word != empty);
+    let before = stored.count() as u32;
+    if words[at] == empty {
+        Ranked::Empty(before)
+    } else {
+        Ranked::Stored(Rank(before))
+    }
 }

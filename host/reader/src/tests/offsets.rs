@@ -131,7 +131,7 @@ fn a_difference_of_the_widest_fits_and_one_more_is_a_jump() {
 fn rank_0_has_a_jump_at_position_0_too() {
     let file = line(JUMPS, &[7, 7, 0]).unwrap();
     assert_eq!(file, raw(JUMPS, 3, singles(&[0]), bytes(&[0, 1]), &[7, 7]));
-    assert_eq!(rank(&file, Position(0)), Ok(Some(Rank(0))));
+    assert_eq!(rank(&file, Position(0)), Ok(Ranked::Stored(Rank(0))));
 }
 
 #[test]

@@ -141,27 +141,36 @@ fn changes_between_kinds_4_and_6() {
     assert_eq!(unfit, Err(Refusal::Unfit));
 }
 
-/// The rank at a position by the pointers, as source document 004 walks from the last jump that
-/// has one and doesn't lie beyond the position.
-fn by_pointers(file: &[u8], position: u32) -> Option<Rank> {
+/// What the rank lookup finds at a position by the pointers, as source document 004 walks from the
+/// last jump that has one and doesn't lie beyond the position. The walk ends at the first stored
+/// cell that doesn't lie before the position, or past the last one; its rank counts those before.
+fn by_pointers(file: &[u8], position: u32) -> Ranked {
     let step = file[3] as usize;
     let parts = read(file);
     let pointed_jumps = parts.jumps.iter().step_by(step);
     let before = pointed_jumps.filter(|&&jump| jump <= position).count();
-    let mut jump = before.checked_sub(1)? * step;
+    if before == 0 {
+        return Ranked::Empty(0);
+    }
+    let mut jump = (before - 1) * step;
     let mut rank = parts.pointers[jump / step] as usize;
     let mut at = parts.jumps[jump];
     while at < position {
         rank += 1;
-        let difference = *parts.differences.get(rank)?;
-        if difference == 0 {
-            jump += 1;
-            at = parts.jumps[jump];
-        } else {
-            at += difference;
+        match parts.differences.get(rank) {
+            None => return Ranked::Empty(rank as u32),
+            Some(0) => {
+                jump += 1;
+                at = parts.jumps[jump];
+            }
+            Some(difference) => at += difference,
         }
     }
-    (at == position).then_some(Rank(rank as u32))
+    if at == position {
+        Ranked::Stored(Rank(rank as u32))
+    } else {
+        Ranked::Empty(rank as u32)
+    }
 }
 
 /// Positions with gaps of 1, 255 and 256 cells and more between them.
@@ -188,7 +197,7 @@ fn the_pointers_lead_to_the_ranks() {
             for at in PLACES.iter().flat_map(|&place| [place, place + 1]) {
                 let found = by_pointers(&file, at as u32);
                 assert_eq!(says.rank(Position(at as u32)), Ok(found));
-                assert_eq!(found.is_some(), words[at] != 0);
+                assert_eq!(found, counted(0, &words, at));
             }
         }
     }
@@ -198,9 +207,9 @@ fn the_pointers_lead_to_the_ranks() {
 fn lookups_and_parts_of_the_sample() {
     for (width, step, words_at) in [(1, 1, 64), (1, 2, 64), (2, 1, 68), (2, 255, 68)] {
         let file = sample(Setting::new(6, width, step));
-        assert_eq!(rank(&file, Position(5)), Ok(Some(Rank(2))));
-        assert_eq!(rank(&file, Position(6)), Ok(None));
-        assert_eq!(rank(&file, Position(11)), Ok(None));
+        assert_eq!(rank(&file, Position(5)), Ok(Ranked::Stored(Rank(2))));
+        assert_eq!(rank(&file, Position(6)), Ok(Ranked::Empty(3)));
+        assert_eq!(rank(&file, Position(11)), Ok(Ranked::Empty(4)));
         assert_eq!(position(&file, Rank(3)), Ok(Position(10)));
         assert_eq!(position(&file, Rank(4)), Err(Refusal::Beyond));
         assert_eq!(cell(&file, Position(10)), Ok(300));

@@ -97,7 +97,7 @@ fn without_stored_cells_there_are_no_pointers() {
         let file = line(setting, &[0; 12]).unwrap();
         assert_eq!(file.len(), 52);
         assert_eq!(file, raw(setting, 12, none(), none(), &[]));
-        assert_eq!(rank(&file, Position(11)), Ok(None));
+        assert_eq!(rank(&file, Position(11)), Ok(Ranked::Empty(0)));
         assert_eq!(position(&file, Rank(0)), Err(Refusal::Beyond));
     }
 }

@@ -49,7 +49,7 @@ fn a_first_run_may_have_no_empty_cells_but_no_later_one() {
     let file = line(RUNS, &[7, 7, 0, 7]).unwrap();
     let wanted = raw(RUNS, 4, pairs(&[(1, 0), (3, 1)]), none(), &[7, 7, 7]);
     assert_eq!(file, wanted);
-    assert_eq!(rank(&file, Position(0)), Ok(Some(Rank(0))));
+    assert_eq!(rank(&file, Position(0)), Ok(Ranked::Stored(Rank(0))));
     assert_eq!(kind_1(&[(3, 2), (5, 2)], 4), 6);
     assert_eq!(kind_1(&[(1, 0), (3, 0)], 4), 6);
     assert_eq!(kind_1(&[(1, 0), (4, 1)], 4), 0);
@@ -95,7 +95,7 @@ fn without_stored_cells_there_are_no_runs() {
         let file = line(setting, &[0; 5]).unwrap();
         assert_eq!(file.len(), 52);
         for at in 0..5 {
-            assert_eq!(rank(&file, Position(at)), Ok(None));
+            assert_eq!(rank(&file, Position(at)), Ok(Ranked::Empty(0)));
             assert_eq!(cell(&file, Position(at)), Ok(0));
         }
         assert_eq!(rank(&file, Position(5)), Err(Refusal::Beyond));
@@ -130,8 +130,9 @@ fn sums_restart_in_each_page_at_every_level() {
     assert_eq!(upper, [(8, 4), (10, 5), (4, 2), (8, 4), (2, 1)]);
 }
 
-/// The rank at a position by a descent over the entries, as the paper walks it.
-fn descend(file: &[u8], step: usize, position: u32) -> Option<u32> {
+/// What the rank lookup finds at a position by a descent over the entries, as the paper walks it.
+/// The entries to the left say how many stored cells come before.
+fn descend(file: &[u8], step: usize, position: u32) -> Ranked {
     let (upper, level_0) = entries(file);
     let mut sizes = vec![level_0.len()];
     while sizes[sizes.len() - 1] > step {
@@ -142,27 +143,35 @@ fn descend(file: &[u8], step: usize, position: u32) -> Option<u32> {
     for (depth, &size) in sizes.iter().rev().enumerate() {
         let from = page * step;
         let level = &all[start + from..start + size.min(from + step)];
-        let at = level.iter().position(|entry| entry.0 > rest)?;
+        let Some(at) = level.iter().position(|entry| entry.0 > rest) else {
+            // The cell comes after the last run, so the top page counts all stored cells.
+            assert_eq!(depth, 0);
+            let last = level.last().map_or((0, 0), |&last| last);
+            return Ranked::Empty(last.0 - last.1);
+        };
         let left = if at == 0 { (0, 0) } else { level[at - 1] };
         rest -= left.0;
         stored += left.0 - left.1;
         if depth + 1 == sizes.len() {
             let empties = level[at].1 - left.1;
-            return rest.checked_sub(empties).map(|past| stored + past);
+            return match rest.checked_sub(empties) {
+                Some(past) => Ranked::Stored(Rank(stored + past)),
+                None => Ranked::Empty(stored),
+            };
         }
         page = from + at;
         start += size;
     }
-    None
+    unreachable!("the last level answers")
 }
 
 #[test]
 fn a_descent_stops_at_an_entry_greater_than_the_position() {
     let file = sample(PAGES);
     // Position 4 equals the first entry's cells, 6 the first page's: each begins the next run.
-    assert_eq!(rank(&file, Position(4)), Ok(None));
-    assert_eq!(rank(&file, Position(5)), Ok(Some(Rank(2))));
-    assert_eq!(rank(&file, Position(6)), Ok(None));
+    assert_eq!(rank(&file, Position(4)), Ok(Ranked::Empty(2)));
+    assert_eq!(rank(&file, Position(5)), Ok(Ranked::Stored(Rank(2))));
+    assert_eq!(rank(&file, Position(6)), Ok(Ranked::Empty(3)));
     for count in [1, 2, 3, 5, 9, 20] {
         let mut words = alternating(count);
         words.insert(count, 1);
@@ -170,8 +179,9 @@ fn a_descent_stops_at_an_entry_greater_than_the_position() {
         for step in [2, 3, 4] {
             let file = line(Setting::new(5, 0, step), &words).unwrap();
             for at in 0..words.len() as u32 {
-                let found = rank(&file, Position(at)).unwrap().map(|rank| rank.0);
-                assert_eq!(descend(&file, step as usize, at), found);
+                let found = descend(&file, step as usize, at);
+                assert_eq!(rank(&file, Position(at)), Ok(found));
+                assert_eq!(found, counted(0, &words, at as usize));
             }
         }
     }

@@ -52,15 +52,17 @@ fn m5_paged_runs() {
 #[test]
 fn m6_rank_at_5() {
     for setting in sample_settings() {
-        assert_eq!(rank(&sample(setting), Position(5)), Ok(Some(Rank(2))));
+        let found = rank(&sample(setting), Position(5));
+        assert_eq!(found, Ok(Ranked::Stored(Rank(2))));
     }
 }
 
 #[test]
 fn m7_empty_at_6_and_11() {
     for setting in sample_settings() {
-        assert_eq!(rank(&sample(setting), Position(6)), Ok(None));
-        assert_eq!(rank(&sample(setting), Position(11)), Ok(None));
+        let file = sample(setting);
+        assert_eq!(rank(&file, Position(6)), Ok(Ranked::Empty(3)));
+        assert_eq!(rank(&file, Position(11)), Ok(Ranked::Empty(4)));
     }
 }
 

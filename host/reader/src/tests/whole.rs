@@ -5,7 +5,7 @@ use crate::*;
 use std::collections::HashSet;
 
 /// Settings of every kind whose pages, groups and widths small pictures can fill.
-fn settings() -> [Setting; 16] {
+pub(super) fn settings() -> [Setting; 16] {
     [
         (1, 0, 0),
         (2, 0, 0),
@@ -28,7 +28,7 @@ fn settings() -> [Setting; 16] {
 }
 
 /// Every picture of so many cells with words 0 and 7.
-fn pictures(cells: usize) -> Vec<Vec<u32>> {
+pub(super) fn pictures(cells: usize) -> Vec<Vec<u32>> {
     (0..1usize << cells)
         .map(|bits| (0..cells).map(|at| 7 * (bits >> at & 1) as u32).collect())
         .collect()
@@ -40,7 +40,10 @@ fn lookups_are_right(file: &[u8], words: &[u32]) {
     let mut stored = 0;
     for (at, &word) in (0..).zip(words) {
         assert_eq!(says.cell(Position(at)), Ok(word));
-        let wanted = (word != 0).then_some(Rank(stored));
+        let wanted = match word {
+            0 => Ranked::Empty(stored),
+            _ => Ranked::Stored(Rank(stored)),
+        };
         assert_eq!(says.rank(Position(at)), Ok(wanted));
         if word != 0 {
             assert_eq!(says.position(Rank(stored)), Ok(Position(at)));
