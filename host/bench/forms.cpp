@@ -97,7 +97,9 @@ template <bool by_rank, bool counted, bool calls> static u64 search(const u8 *fi
 
 template <bool counted, bool calls> static u64 rank(const u8 *file, size_t length, u32 p) {
   const u64 found = search<false, counted, calls>(file, length, p);
-  return found != NOWHERE && found % 2 ? p - found / 2 : EMPTY;
+  // An empty cell has the number of stored cells before it: N after the last run.
+  if (found == NOWHERE) return EMPTY + number(file + 24);
+  return (found % 2 ? 0 : EMPTY) + (p - found / 2);
 }
 
 template <bool counted, bool calls> static u64 position(const u8 *file, size_t length, u32 r) {

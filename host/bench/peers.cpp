@@ -1,6 +1,6 @@
 // The engine beside other stores of positions, of Debian's packages libroaring-dev and libsdsl-dev, on the yardstick's three pictures.
 //   peers    prints lines of five fields with tabs between: texture, store, ns for the rank at a position, ns for the position of a rank,
-//            bytes without the words
+//            bytes without the words. The rank of an empty cell is the number of stored cells before it, told apart from a stored cell's.
 // Each store is asked the same; where an answer differs from the engine's the program ends with 1. The yardstick's bench.cpp is included for its pictures; -I names
 // its folder.
 #define main bench_main
@@ -13,12 +13,13 @@
 
 static const u32 EXTENTS[4] = {16, 1024, 1024, 1};
 static const Setting TIMED[] = {{1, 0, 0}, {2, 0, 0}, {3, 2, 16}, {4, 1, 0}, {5, 0, 16}, {6, 1, 16}};
-static const u32 NONE = 0xffffffff;
+static const u32 NONE = 0xffffffff, EMPTY = 0x80000000;
 
 // What is asked: positions, of which half are stored, and ranks.
 struct Questions { vector<u32> positions, ranks; };
 
-// A store: the rank at a position or NONE, the position of a rank, its bytes, and how many questions it is asked.
+// A store: the rank at a position, for an empty cell EMPTY and the number of stored cells before it; the position of a rank; its bytes, and how many questions
+// it is asked.
 struct Store {
   string name;
   function<u32(u32)> rank, position;
@@ -58,7 +59,7 @@ static void report(const char *texture, const Store &s, const Questions &q, cons
   u64 ranks = 0, positions = 0;
   for (size_t i = 0; i < s.asked; i++) {
     const auto at = lower_bound(stored.begin(), stored.end(), q.positions[i]);
-    ranks += at != stored.end() && *at == q.positions[i] ? u32(at - stored.begin()) : NONE;
+    ranks += u32(at - stored.begin()) + (at != stored.end() && *at == q.positions[i] ? 0 : EMPTY);
     positions += stored[q.ranks[i]];
   }
   const double rank = time_of(s.rank, q.positions, s.asked, ranks, s.name + ", rank");
@@ -74,19 +75,20 @@ static Store engine(Setting s, const vector<u32> &words, size_t stored, vector<u
   if (ra_check(file.data(), file.size())) fail("check");
   const u8 *f = file.data();
   const size_t n = file.size();
-  const auto rank = [f, n](u32 p) { const u64 a = ra_opened_rank(f, n, p); return RA_CODE(a) == 0 ? u32(RA_VALUE(a)) : NONE; };
+  const auto rank = [f, n](u32 p) { const u64 a = ra_opened_rank(f, n, p); return RA_VALUE(a) + (RA_CODE(a) == 0 ? 0 : EMPTY); };
   const auto position = [f, n](u32 r) { return u32(RA_VALUE(ra_opened_position(f, n, r))); };
   return {"kind " + label(s), rank, position, n - 52 - 4 * stored, s.kind == 4 || s.kind == 6 ? size_t(64) : size_t(1) << 16};
 }
 
 static Store roaring(const roaring_bitmap_t *b) {
-  const auto rank = [b](u32 p) { return roaring_bitmap_contains(b, p) ? u32(roaring_bitmap_rank(b, p) - 1) : NONE; };
+  const auto rank = [b](u32 p) { const u32 through = u32(roaring_bitmap_rank(b, p)); return roaring_bitmap_contains(b, p) ? through - 1 : through + EMPTY; };
   const auto position = [b](u32 r) { u32 p = NONE; return roaring_bitmap_select(b, r, &p) ? p : NONE; };
   return {"Roaring", rank, position, roaring_bitmap_portable_size_in_bytes(b), size_t(1) << 16};
 }
 
 template <class V, class R, class S> static Store succinct(const char *name, const V &v, const R &rank, const S &select) {
-  const auto at = [&v, &rank](u32 p) { return v[p] ? u32(rank(p)) : NONE; };
+  // An sd_vector ends after its last one.
+  const auto at = [&v, &rank](u32 p) { return p < v.size() ? u32(rank(p)) + (v[p] ? 0 : EMPTY) : u32(rank(v.size())) + EMPTY; };
   const auto position = [&select](u32 r) { return u32(select(r + 1)); };
   return {name, at, position, sdsl::size_in_bytes(v) + sdsl::size_in_bytes(rank) + sdsl::size_in_bytes(select), size_t(1) << 16};
 }

@@ -5,7 +5,20 @@
 
 #include <string.h>
 
-/* The calls on bytes that may be refused: one number for all, and lookups without a check that end in range. */
+/* The ranks of the first cells of an accepted file against its words. */
+static void ranks_as_words(const uint8_t *file, size_t len)
+{
+    uint32_t before = 0;
+    for (uint32_t n = 0; n < 13 && RA_CODE(ra_cell(file, len, n)) == 0; n++) {
+        int stored = RA_VALUE(ra_cell(file, len, n)) != field(file, 20);
+        uint64_t wanted = stored ? given(before) : empty(before);
+        EQUAL(ra_rank(file, len, n), wanted);
+        EQUAL(ra_opened_rank(file, len, n), wanted);
+        before += (uint32_t)stored;
+    }
+}
+
+/* The calls on bytes: refused ones have one number for all, and lookups without a check end in range, "empty" with any number. */
 static void any_bytes(const uint8_t *file, size_t len)
 {
     static const uint32_t zero[4] = {0};
@@ -22,6 +35,8 @@ static void any_bytes(const uint8_t *file, size_t len)
         EQUAL(ra_box(file, len, zero, 4, zero, 4, words, 12), number);
         EQUAL(ra_ranks(file, len, 0, 0), refused(number));
         EQUAL(ra_shorter(file, len, file, len), refused(number));
+    } else {
+        ranks_as_words(file, len);
     }
     for (uint32_t n = 0; n < 13; n++) {
         uint64_t cell = ra_opened_cell(file, len, n), rank = ra_opened_rank(file, len, n), at = ra_opened_position(file, len, n);

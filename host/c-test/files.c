@@ -44,8 +44,8 @@ void reads_as(const uint8_t *file, size_t len, const uint32_t *words, uint32_t c
         EQUAL(ra_cell(file, len, p), given(words[p]));
         EQUAL(ra_opened_cell(file, len, p), given(words[p]));
         if (words[p] == 0) {
-            IS_EMPTY(ra_rank(file, len, p));
-            IS_EMPTY(ra_opened_rank(file, len, p));
+            EQUAL(ra_rank(file, len, p), empty(rank));
+            EQUAL(ra_opened_rank(file, len, p), empty(rank));
             continue;
         }
         EQUAL(ra_rank(file, len, p), given(rank));

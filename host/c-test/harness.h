@@ -21,10 +21,10 @@ void equal(uint64_t got, uint64_t wanted, const char *what, const char *file, in
 /* Prints the counts; gives the program's status. */
 int report(void);
 
-/* A lookup's answers. */
+/* A lookup's answers; an empty cell's has the number of stored cells before it. */
 static inline uint64_t given(uint32_t value) { return value; }
 static inline uint64_t refused(uint32_t number) { return (uint64_t)number << 32; }
-#define IS_EMPTY(answer) EQUAL(RA_CODE(answer), RA_EMPTY)
+static inline uint64_t empty(uint32_t before) { return (uint64_t)RA_EMPTY << 32 | before; }
 
 /* The side at which a buffer meets the page without access. */
 enum side { AT_END, AT_START };

@@ -8,12 +8,12 @@
 #define TEXT_OF(number) #number
 #define TEXT(number) TEXT_OF(number)
 
-/* The version in one piece is its three numbers. */
+/* The version in one piece is its three numbers; the last request has the number of stored cells before an empty cell. */
 void version_macros(void)
 {
     HOLDS(strcmp(RA_VERSION, TEXT(RA_VERSION_MAJOR) "." TEXT(RA_VERSION_MINOR) "." TEXT(RA_VERSION_PATCH)) == 0);
-#if RA_VERSION_MAJOR < 1
-    HOLDS(!"the version's numbers can be tested by the preprocessor");
+#if RA_VERSION_MAJOR < 1 || RA_REQUEST < 9
+    HOLDS(!"the version's numbers and the request can be tested by the preprocessor");
 #endif
 }
 
@@ -36,6 +36,9 @@ void numbers_by_their_words(void)
     EQUAL(ra_write(file, len, 0, 1, other, 200), 0);
     EQUAL(RA_CODE(ra_shorter(file, len, other, field(other, 48))), RA_OTHER);
     EQUAL(RA_CODE(ra_rank(file, len, 0)), RA_EMPTY);
+    EQUAL(RA_VALUE(ra_rank(file, len, 0)), 0);
+    EQUAL(RA_CODE(ra_rank(file, len, 6)), RA_EMPTY);
+    EQUAL(RA_VALUE(ra_rank(file, len, 6)), 3);
     set_field(file, 52, 12);
     EQUAL(ra_check(file, len), RA_BODY);
 }

@@ -14,6 +14,7 @@ int main(void)
     places_of_info();
     longest_file();
     sample_files();
+    sample_empty_cells();
     sample_full();
     sample_bounds();
     refusals_of_make();

@@ -23,6 +23,31 @@ void sample_files(void)
     }
 }
 
+/* An empty cell of a line of 12 words, and the number of stored cells before it, in every kind. */
+static void empty_cell(const uint32_t words[12], uint32_t p, uint32_t before)
+{
+    for (int i = 0; i < KINDS; i++) {
+        uint8_t file[200];
+        EQUAL(make_line(SETTINGS[i], words, 12, file, 200), 0);
+        EQUAL(ra_rank(file, field(file, 48), p), empty(before));
+        EQUAL(ra_opened_rank(file, field(file, 48), p), empty(before));
+    }
+}
+
+/* M7 with its numbers and its neighbours, a line without stored cells, and one whose last cell alone is empty. */
+void sample_empty_cells(void)
+{
+    static const uint32_t none[12] = {0}, all_but_last[12] = {1, 2, 3, 4, 5, 6, 7, 8, 9, 10, 11, 0};
+    empty_cell(SAMPLE, 0, 0);
+    empty_cell(SAMPLE, 4, 2);
+    empty_cell(SAMPLE, 6, 3);
+    empty_cell(SAMPLE, 9, 3);
+    empty_cell(SAMPLE, 11, 4);
+    empty_cell(none, 0, 0);
+    empty_cell(none, 11, 0);
+    empty_cell(all_but_last, 11, 11);
+}
+
 /* M10. */
 void sample_full(void)
 {

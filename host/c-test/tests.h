@@ -11,6 +11,7 @@ void longest_file(void);
 
 /* sample.c */
 void sample_files(void);
+void sample_empty_cells(void);
 void sample_full(void);
 void sample_bounds(void);
 

@@ -73,8 +73,9 @@ class Comparison:
         if any(lookup("position", data, rank) != file.positions[rank] for rank in ranks):
             return False
         for position in {file.positions[rank] for rank in ranks} | {0, file.cells // 2, file.cells - 1}:
-            rank = file.positions.index(position) if position in file.positions else None
-            if lookup("rank", data, position) != rank or lookup("cell", data, position) != words[position]:
+            before = file.before(position)
+            found = before if position in file.positions else ("empty", before)
+            if lookup("rank", data, position) != found or lookup("cell", data, position) != words[position]:
                 return False
         return True
 

@@ -57,11 +57,11 @@ class Engine:
         return file[:int.from_bytes(file[48:52], "little")].tobytes()
 
     def lookup(self, name, data, number):
-        """What cell, rank or position gives on an accepted file: its value, or None where the cell is empty."""
+        """What cell, rank or position gives on an accepted file: its value; for an empty cell "empty" and the number of stored cells before it."""
         code, value = divmod(getattr(self.library, "ra_" + name)(data, len(data), number), 2 ** 32)
         if code not in (0, 255):
             raise ValueError("ra_%s gives %d" % (name, code))
-        return value if code == 0 else None
+        return value if code == 0 else ("empty", value)
 
     def expand(self, data, cells):
         """All words of an accepted file."""

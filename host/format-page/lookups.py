@@ -20,27 +20,32 @@ def coordinates(page):
                 each((back0, back1, back2, back3) == (c0, c1, c2, c3), "coordinates of", place)
 
 
+def found_at(stored, p):
+    """What a search finds at a position: a rank, or an empty cell and the number of stored cells before it."""
+    return "rank" if p in stored else "empty", sum(position < p for position in stored)
+
+
 def lookups(page):
     """the page's searches and readings of runs, taken by the word"""
-    def rank_by_runs(runs, p):
+    def rank_by_runs(runs, N, p):
         for j, (L, V) in enumerate(runs):
             if p <= L:
                 left = runs[j - 1] if j else (-1, 0)
-                return p - V if left[0] + V - left[1] < p else None
-        return None
+                return ("rank", p - V) if left[0] + V - left[1] < p else ("empty", left[0] + 1 - left[1])
+        return "empty", N
 
-    def rank_by_levels(levels, b, p):
+    def rank_by_levels(levels, b, N, p):
         q, u, i = p, 0, 0
         for level in reversed(levels):
             page_at = i * b
             found = [j for j in range(page_at, min(page_at + b, len(level))) if level[j][0] > q]
             if not found:
-                return None
+                return "empty", N
             i = found[0]
             left = level[i - 1] if i > page_at else (0, 0)
             q, u = q - left[0], u + left[1]
         e = levels[0][i][1] - left[1]
-        return None if q < e else p - (u + e)
+        return ("empty", p - (u + q)) if q < e else ("rank", p - (u + e))
 
     def read_level0(level, b):
         positions, last, empties = [], -1, 0
@@ -56,12 +61,12 @@ def lookups(page):
         for mask in range(2048):
             words = [mask >> p & 1 for p in range(11)]
             at = [p for p in range(11) if words[p]]
-            ranks = [at.index(p) if words[p] else None for p in range(11)]
+            wanted = [found_at(at, p) for p in range(11)]
             runs = runs_of(words, 0)
-            in_runs([rank_by_runs(runs, p) for p in range(11)] == ranks, words)
+            in_runs([rank_by_runs(runs, len(at), p) for p in range(11)] == wanted, words)
             for b in (2, 3):
                 levels = levels_of(runs, b)
-                in_levels([rank_by_levels(levels, b, p) for p in range(11)] == ranks, "b", b, words)
+                in_levels([rank_by_levels(levels, b, len(at), p) for p in range(11)] == wanted, "b", b, words)
                 reading(read_level0(levels[0], b) == at, "b", b, words)
 
 
@@ -75,7 +80,7 @@ def pointed_lookups(page):
     def rank_at(p, n, jumps, pointers, differences):
         j = bisect.bisect_right(jumps, p) - 1
         if j < 0:
-            return None
+            return "empty", 0
         rank = pointers[j // n]
         for _ in range(j % n):
             rank = differences.index(0, rank + 1)
@@ -83,7 +88,9 @@ def pointed_lookups(page):
         while position < p and rank + 1 < len(differences) and differences[rank + 1] != 0:
             rank += 1
             position += differences[rank]
-        return rank if position == p else None
+        if position == p:
+            return "rank", rank
+        return "empty", rank if position > p else rank + 1
 
     def position_of(rank, n, jumps, pointers, differences):
         k = bisect.bisect_right(pointers, rank) - 1
@@ -106,7 +113,7 @@ def pointed_lookups(page):
                 for n in (1, 2, 3, 255):
                     jumps, pointers, differences = parts(file_of(words, (6, 1, n)))
                     for p in sorted({p + more for p in [0] + stored for more in (-1, 0, 1)} - {-1}):
-                        rank = stored.index(p) if p in stored else None
-                        ranked(rank_at(p, n, jumps, pointers, differences) == rank, stored, "step", n, "position", p)
+                        found = rank_at(p, n, jumps, pointers, differences)
+                        ranked(found == found_at(stored, p), stored, "step", n, "position", p)
                     for rank, p in enumerate(stored):
                         placed(position_of(rank, n, jumps, pointers, differences) == p, stored, "step", n, "rank", rank)

@@ -39,4 +39,5 @@ def sample_files(page):
         expect(page.words(data) == SAMPLE, "m%d: words" % k)
         file = page.open(data)
         expect(file.positions == [2, 3, 5, 10] and file.words == STORED, "m%d: positions and stored words" % k)
+        expect([file.before(p) for p in range(12)] == [0, 0, 0, 1, 2, 2, 3, 3, 3, 3, 3, 4], "m%d: stored cells before" % k)
         expect(file_of(SAMPLE, SETTINGS[k - 1]) == data, "m%d: made again" % k)

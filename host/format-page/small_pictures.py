@@ -62,3 +62,6 @@ def all_patterns(page):
                     words = [p + 1 if mask >> p & 1 else 0 for p in range(cells)]
                     data = file_of(words, setting)
                     each(page.number(data) == 0 and page.words(data) == words, words)
+                    file = page.open(data)
+                    before = [sum(word > 0 for word in words[:p]) for p in range(cells)]
+                    each([file.before(p) for p in range(cells)] == before, words, "stored cells before")

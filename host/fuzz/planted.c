@@ -117,7 +117,12 @@ uint32_t __wrap_ra_check(const uint8_t *file, size_t len) {
     return number;
 }
 
-/* The rank one too high in the last page of a kind 5 file that has three levels. */
+/* "Empty" with a number. */
+static uint64_t empty_with(uint32_t number) {
+    return (uint64_t)RA_EMPTY << 32 | number;
+}
+
+/* The rank one too high in the last page of a kind 5 file that has three levels; 0 for every empty cell. */
 uint64_t __wrap_ra_rank(const uint8_t *file, size_t len, uint32_t position) {
     uint64_t answer = __real_ra_rank(file, len, position);
     if (planted("rank-off-by-one") && RA_CODE(answer) == 0 && file[0] == 5) {
@@ -125,6 +130,9 @@ uint64_t __wrap_ra_rank(const uint8_t *file, size_t len, uint32_t position) {
         if (level > step * step && RA_VALUE(answer) + 1 == field(file, 24)) {
             return answer + 1;
         }
+    }
+    if (planted("rank-empty-with-0") && RA_CODE(answer) == RA_EMPTY) {
+        return empty_with(0);
     }
     return answer;
 }
@@ -138,11 +146,14 @@ uint64_t __wrap_ra_position(const uint8_t *file, size_t len, uint32_t rank) {
     return answer;
 }
 
-/* N itself as a rank, over bytes that are no file. */
+/* N itself as a rank, over bytes that are no file; N for every empty cell. */
 uint64_t __wrap_ra_opened_rank(const uint8_t *file, size_t len, uint32_t position) {
     uint64_t answer = __real_ra_opened_rank(file, len, position);
     if (planted("opened-rank-out-of-range") && RA_CODE(answer) == 0 && __real_ra_check(file, len) == 6) {
         return field(file, 24);
+    }
+    if (planted("opened-rank-empty-with-n") && RA_CODE(answer) == RA_EMPTY) {
+        return empty_with(field(file, 24));
     }
     return answer;
 }

@@ -2,7 +2,7 @@
 # ~/.local/share/bash-completion/completions/radar-archive.
 
 _radar_archive() {
-    local commands="check info list cell rank position box expand make set change shorter diff best manifest completion man help"
+    local commands="check info list cell rank position count box expand make set change shorter diff best manifest completion man help"
     local word=${COMP_WORDS[COMP_CWORD]}
     local before=${COMP_WORDS[COMP_CWORD - 1]}
     local options=
@@ -29,7 +29,7 @@ _radar_archive() {
             COMPREPLY=($(compgen -W "1 2" -- "$word"))
             return
             ;;
-        --at | --low | --high | --rank | --dims | --empty | --step | --max-length | --name | --jobs | -j)
+        --at | --low | --high | --from | --to | --rank | --dims | --empty | --step | --max-length | --name | --jobs | -j)
             # A number, a place or a pattern: no file names here.
             compopt +o default 2>/dev/null
             return
@@ -51,6 +51,7 @@ _radar_archive() {
         cell) options="--at --hex --json" ;;
         rank) options="--at --json" ;;
         position) options="--rank --json" ;;
+        count) options="--from --to --json" ;;
         box) options="--low --high --hex --json --output -o --force -f" ;;
         expand) options="--output -o --force -f" ;;
         make) options="--list --dims --empty --kind --width --step --output -o --force -f --max-length" ;;

@@ -28,6 +28,7 @@ complete -c radar-archive -n __radar_archive_no_command -a list -d 'all stored c
 complete -c radar-archive -n __radar_archive_no_command -a cell -d 'the word at a place, or at each of many'
 complete -c radar-archive -n __radar_archive_no_command -a rank -d 'the rank of the cell at a place, or at each of many'
 complete -c radar-archive -n __radar_archive_no_command -a position -d 'the position of a rank'
+complete -c radar-archive -n __radar_archive_no_command -a count -d 'the number of stored cells from one place to another'
 complete -c radar-archive -n __radar_archive_no_command -a box -d 'the words of a box'
 complete -c radar-archive -n __radar_archive_no_command -a expand -d 'all words, raw'
 complete -c radar-archive -n __radar_archive_no_command -a make -d 'the file of raw words, or of what list prints'
@@ -42,15 +43,15 @@ complete -c radar-archive -n __radar_archive_no_command -a man -d 'the man page'
 complete -c radar-archive -n __radar_archive_no_command -a help -d 'the help of a command'
 
 # The operands.
-__radar_archive_offer 'check info list cell rank position box expand make set change shorter diff best' -F
+__radar_archive_offer 'check info list cell rank position count box expand make set change shorter diff best' -F
 __radar_archive_offer manifest -a '(__fish_complete_directories)'
 complete -c radar-archive -n '__radar_archive_command manifest; and test (count (commandline -opc)) -eq 2' -a 'write verify'
 __radar_archive_offer completion -a 'bash zsh fish'
-__radar_archive_offer help -a 'check info list cell rank position box expand make set change shorter diff best manifest completion man help'
+__radar_archive_offer help -a 'check info list cell rank position count box expand make set change shorter diff best manifest completion man help'
 
 # The options.
-__radar_archive_offer 'check info list cell rank position box expand make set change shorter diff best manifest completion man help' -s h -l help -d 'show the help'
-__radar_archive_offer 'check info cell rank position box shorter diff manifest' -l json -d 'put JSON'
+__radar_archive_offer 'check info list cell rank position count box expand make set change shorter diff best manifest completion man help' -s h -l help -d 'show the help'
+__radar_archive_offer 'check info cell rank position count box shorter diff manifest' -l json -d 'put JSON'
 __radar_archive_offer 'check change best manifest' -s q -l quiet -d 'tell only what is not accepted, not unchanged, or failed'
 __radar_archive_offer diff -s q -l quiet -d 'print nothing'
 __radar_archive_offer 'check change best manifest' -l all -d 'take names that begin with a dot, too'
@@ -62,6 +63,8 @@ __radar_archive_offer 'cell box diff' -l hex -d 'words in hexadecimal'
 __radar_archive_offer 'cell rank set' -x -l at -d 'the place, as 3,17,200 or @3163336'
 __radar_archive_offer box -x -l low -d 'the low corner, as 3,16,198'
 __radar_archive_offer box -x -l high -d 'the high corner, which belongs to the box'
+__radar_archive_offer count -x -l from -d 'the first cell that counts, as 350,0'
+__radar_archive_offer count -x -l to -d 'the last cell that counts, as 359,511'
 __radar_archive_offer position -x -l rank -d 'the rank'
 __radar_archive_offer set -x -l word -a empty -d 'the word'
 __radar_archive_offer make -r -F -l list -d 'the text that list prints'

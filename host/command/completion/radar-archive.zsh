@@ -10,6 +10,7 @@ _radar-archive_commands() {
         'cell:the word at a place, or at each of many'
         'rank:the rank of the cell at a place, or at each of many'
         'position:the position of a rank'
+        'count:the number of stored cells from one place to another'
         'box:the words of a box'
         'expand:all words, raw'
         'make:the file of raw words, or of what list prints'
@@ -50,6 +51,8 @@ _radar-archive_command() { # NAMES -- OPERANDS
         --at       '--at=[the place]:place, as 3,17,200 or @3163336: '
         --low      '--low=[the low corner]:place, as 3,17,200 or @3163336: '
         --high     '--high=[the high corner, which belongs to the box]:place, as 3,17,200 or @3163336: '
+        --from     '--from=[the first cell that counts]:place, as 3,17,200 or @3163336: '
+        --to       '--to=[the last cell that counts]:place, as 3,17,200 or @3163336: '
         --rank     '--rank=[the rank]:rank: '
         --word     '--word=[the word]:word:(empty)'
         --list     '--list=[the text that list prints]:file:_files'
@@ -87,6 +90,7 @@ _radar-archive() {
         cell) options=(--at --hex --json) ;;
         rank) options=(--at --json) ;;
         position) options=(--rank --json) ;;
+        count) options=(--from --to --json) ;;
         box) options=(--low --high --hex --json -o --output -f --force) ;;
         expand) options=(-o --output -f --force) ;;
         make) options=(--list --dims --empty --kind --width --step -o --output -f --force --max-length) ;;

@@ -6,6 +6,7 @@ mod cell;
 mod change;
 mod check;
 mod completion;
+mod count;
 mod diff;
 mod expand;
 mod help;
@@ -40,13 +41,14 @@ use crate::output::Results;
 use crate::{shown, version};
 
 /// All commands, in the order of the program's help.
-pub static ALL: [&Command; 18] = [
+pub static ALL: [&Command; 19] = [
     &check::COMMAND,
     &info::COMMAND,
     &list::COMMAND,
     &cell::COMMAND,
     &rank::COMMAND,
     &position::COMMAND,
+    &count::COMMAND,
     &box_words::COMMAND,
     &expand::COMMAND,
     &make::COMMAND,

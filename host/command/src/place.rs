@@ -102,6 +102,14 @@ fn coordinates_of(position: u32, dimensions: Dimensions) -> Result<Coordinates, 
         .map_err(|refusal| Outside::Refused(refusal, refused::position(position, cells)))
 }
 
+/// The coordinates of a position as a place is written.
+pub fn written(position: Position, dimensions: Dimensions) -> String {
+    match dimensions.coordinates(position) {
+        Ok(coordinates) => numbers::joined(&coordinates, ","),
+        Err(_) => format!("@{}", position.0),
+    }
+}
+
 /// A number of things.
 fn counted(number: usize, thing: &str) -> String {
     match number {

@@ -1,9 +1,9 @@
 //! Refusals in plain English of the values that were handed to a call.
 
-use radar_archive::{Dimensions, Fault, Kind, Refusal, Setting, MOST_CELLS};
+use radar_archive::{Dimensions, Fault, Kind, Position, Refusal, Setting, MOST_CELLS};
 
 use crate::json::Object;
-use crate::numbers;
+use crate::{numbers, place};
 
 /// Why a kind that was asked for by its number is refused with 2, and what to do.
 pub fn kind(number: u32) -> String {
@@ -122,6 +122,25 @@ pub fn corners(low: &[u32], high: &[u32]) -> String {
     format!(
         "the {ordinal} coordinate of --low is {low}, above that of --high, {high}; exchange them"
     )
+}
+
+/// Why a count with both ends inside is refused with 8.
+///
+/// ```
+/// # use command::refused;
+/// # use radar_archive::{Dimensions, Position, Refusal};
+/// assert_eq!(
+///     refused::ends(Position(6), Position(3), Dimensions::of(&[3, 4])?),
+///     "--from 1,2 (@6) comes after --to 0,3 (@3) in row order; exchange them"
+/// );
+/// # Ok::<(), Refusal>(())
+/// ```
+pub fn ends(from: Position, to: Position, dimensions: Dimensions) -> String {
+    let [from, to] = [from, to].map(|end| match place::written(end, dimensions) {
+        at if dimensions.count() == 1 => at,
+        at => format!("{at} (@{})", end.0),
+    });
+    format!("--from {from} comes after --to {to} in row order; exchange them")
 }
 
 /// Why a file is refused with 10.

@@ -46,11 +46,15 @@ fn a_plane_in_every_kind() {
         folder.run("rank p.radar --at 2,2").printed("2\n").quiet();
         folder
             .run("rank p.radar --at 2,1")
-            .printed("empty\n")
+            .printed("empty, 2 stored before\n")
             .quiet();
         folder
             .run("position p.radar --rank 2")
             .printed("10 2,2\n")
+            .quiet();
+        folder
+            .run("count p.radar --from 0,2 --to 2,2")
+            .printed("2\n")
             .quiet();
         folder
             .run("box p.radar --low 0,1 --high 2,2")
@@ -198,7 +202,13 @@ fn an_empty_word_that_is_not_zero() {
     );
     folder.run("list p").printed("4 6 2\n0 1 0\n1 3 4\n");
     folder.run("cell p --at 0,0").printed("9\n");
-    folder.run("rank p --at 0,0").printed("empty\n");
+    folder
+        .run("rank p --at 0,0")
+        .printed("empty, 0 stored before\n");
+    folder
+        .run("rank p --at 1,2")
+        .printed("empty, 2 stored before\n");
+    folder.run("count p --from 0,0 --to 0,2").printed("1\n");
     folder.run("set p --at 0,1 --word empty -o q").printed("");
     folder.run("list q").printed("4 6 1\n0 3 4\n");
     folder.run("set p --at 0,0 --word 0 -o r").printed("");

@@ -4,6 +4,7 @@ mod support;
 
 use std::fs::File;
 use std::os::unix::fs::{symlink, FileExt};
+use support::files::Picture;
 use support::options::{COMMANDS, OTHERS};
 use support::Folder;
 
@@ -18,7 +19,7 @@ fn examples(folder: &Folder, call: &str) -> Vec<String> {
     lines.map(|line| line.trim_start().to_string()).collect()
 }
 
-/// A folder with `scan.raw` and `scan.radar`, a picture of 16 x 1024 x 1024 cells.
+/// A folder with `scan.raw` and `scan.radar`, a picture of 16 x 1024 x 1024 cells, and `sweep.radar`, one of 360 bearings by 512 ranges.
 fn scan() -> Folder {
     let folder = Folder::new();
     let raw = File::create(folder.path("scan.raw")).expect("scan.raw");
@@ -30,16 +31,19 @@ fn scan() -> Folder {
     folder
         .run("make --dims 16x1024x1024 --kind runs scan.raw -o scan.radar")
         .printed("");
+    let sweep = Picture::scattered(&[360, 512], 0, 50);
+    folder.write("sweep.radar", &sweep.file([4, 1, 0]));
     folder
 }
 
-/// A folder with what the examples name: the two files of the scan, and a folder `archive` of picture files.
+/// A folder with what the examples name: the two files of the scan, the sweep, and a folder `archive` of picture files.
 fn beside(scan: &Folder) -> Folder {
     let folder = Folder::new();
     folder.folder("archive/older");
     for name in ["scan.radar", "archive/one.radar", "archive/older/two.radar"] {
         folder.write(name, &scan.read("scan.radar"));
     }
+    folder.write("sweep.radar", &scan.read("sweep.radar"));
     symlink(scan.path("scan.raw"), folder.path("scan.raw")).expect("a link");
     folder
 }

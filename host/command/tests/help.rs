@@ -165,6 +165,7 @@ fn the_completion_completes_commands() {
     let folder = Folder::new();
     assert_eq!(completed(&folder, "radar-archive ch"), ["change", "check"]);
     assert_eq!(completed(&folder, "radar-archive sh"), ["shorter"]);
+    assert_eq!(completed(&folder, "radar-archive cou"), ["count"]);
     let acts = completed(&folder, "radar-archive manifest ''");
     assert_eq!(acts, ["verify", "write"]);
     assert_eq!(

@@ -54,8 +54,10 @@ fn the_lookups() {
     let cases = [
         ("cell m2.radar --at 10", "{\"word\":300}"),
         ("cell m2.radar --at 0", "{\"word\":0}"),
-        ("rank m2.radar --at 10", "{\"rank\":3}"),
-        ("rank m2.radar --at 9", "{\"rank\":null}"),
+        ("rank m2.radar --at 10", "{\"rank\":3,\"before\":3}"),
+        ("rank m2.radar --at 9", "{\"rank\":null,\"before\":3}"),
+        ("count m2.radar --from 3 --to 9", "{\"count\":2}"),
+        ("count plane --from 0,3 --to 2,3", "{\"count\":3}"),
         (
             "position m2.radar --rank 3",
             "{\"position\":10,\"coordinates\":[10]}",
@@ -111,6 +113,7 @@ fn a_refusal_with_json_is_told_on_standard_error() {
         "cell m2.radar --at 12",
         "rank m2.radar --at 12",
         "position m2.radar --rank 4",
+        "count m2.radar --from 4 --to 3",
     ] {
         let run = folder.run(&format!("{call} --json"));
         run.refused(8);
@@ -121,11 +124,12 @@ fn a_refusal_with_json_is_told_on_standard_error() {
 }
 
 /// A call of each command that has `--json`, but for `check`; the file comes last.
-const CALLS: [&str; 7] = [
+const CALLS: [&str; 8] = [
     "info --json",
     "cell --json --at 0",
     "rank --json --at 0",
     "position --json --rank 0",
+    "count --json --from 0 --to 1",
     "box --json --low 0 --high 1",
     "shorter --json m1.radar",
     "diff --json m1.radar",
@@ -149,7 +153,14 @@ fn a_refused_file() {
 #[test]
 fn a_refused_place() {
     let folder = Folder::with_samples();
-    for call in ["cell --at 12", "rank --at 12", "position --rank 4"] {
+    for call in [
+        "cell --at 12",
+        "rank --at 12",
+        "position --rank 4",
+        "count --from 0 --to 12",
+        "count --from 12 --to 0",
+        "count --from 4 --to 3",
+    ] {
         let run = folder.run(&format!("{call} --json m2.radar"));
         let message = run.refused(8);
         let lines = run.json_lines();

@@ -45,6 +45,7 @@ fn a_longer_file_is_refused_without_reading_it() {
         "cell --at 0",
         "rank --at 0",
         "position --rank 0",
+        "count --from 0 --to 1",
         "box --low 0 --high 1",
         "expand -o new",
         "set --at 0 --word 1 -o new",
@@ -64,7 +65,7 @@ fn a_longer_file_is_refused_without_reading_it() {
     }
     assert_eq!(folder.names(), names);
     let time = begin.elapsed();
-    assert!(time < Duration::from_secs(15), "{time:?} for 22 calls");
+    assert!(time < Duration::from_secs(15), "{time:?} for 24 calls");
 }
 
 #[test]

@@ -108,10 +108,12 @@ fn hexadecimal_wherever_a_number_stands() {
 }
 
 /// Calls with a number, for which `N` stands.
-const WITH_A_NUMBER: [&str; 9] = [
+const WITH_A_NUMBER: [&str; 11] = [
     "cell m2.radar --at @N",
     "cell m2.radar --at N",
     "position m2.radar --rank N",
+    "count m2.radar --from N --to 11",
+    "count m2.radar --from 0 --to @N",
     "make --dims 12 --empty N --kind 1 raw -o new",
     "make --dims 12 --kind N raw -o new",
     "set m2.radar --at 2 --word N -o new",

@@ -172,14 +172,7 @@ fn words_and_ranks_in_the_order_of_the_places() {
                 false => format!("{}\n", at.join(",")),
             };
             words += &format!("{}\n", picture.words[position]);
-            let stored = |word: &&u32| **word != picture.empty;
-            ranks += &match stored(&&picture.words[position]) {
-                true => format!(
-                    "{}\n",
-                    picture.words[..position].iter().filter(stored).count()
-                ),
-                false => "empty\n".to_string(),
-            };
+            ranks += &picture.rank_line(position);
         }
         for setting in ALL_KINDS {
             folder.write("p", &picture.file(setting));
@@ -207,8 +200,8 @@ fn hexadecimal_words_and_objects() {
         ),
         (
             "rank",
-            "{\"position\":10,\"coordinates\":[2,2],\"rank\":3}",
-            "{\"position\":0,\"coordinates\":[0,0],\"rank\":null}",
+            "{\"position\":10,\"coordinates\":[2,2],\"rank\":3,\"before\":3}",
+            "{\"position\":0,\"coordinates\":[0,0],\"rank\":null,\"before\":0}",
         ),
     ];
     for (command, first, second) in cases {

@@ -92,8 +92,12 @@ fn places_and_writes() {
         .printed("1\n300\n0\n300\n");
     folder
         .run_on(b"0\n2\n1\n210002\n", "rank p --at -")
-        .printed("0\n1\nempty\n7\n");
+        .printed("0\n1\nempty, 1 stored before\n7\n");
     folder.run("rank p --at 210000").printed("6\n");
+    folder
+        .run("rank p --at 279999")
+        .printed("empty, 8 stored before\n");
+    folder.run("count p --from 3 --to 210001").printed("5\n");
     folder.run("position p --rank 5").printed("140002 140002\n");
     // The pointers of all later jumps move by one rank.
     folder.run("set p --at 9 --word 7 -o q").quiet();

@@ -6,12 +6,13 @@ use support::files::{damaged, one_of_each, raw, with_byte, Picture, SAMPLE};
 use support::{Folder, WORDS};
 
 /// The commands that read one picture file; `F` stands for it.
-const READERS: [&str; 11] = [
+const READERS: [&str; 12] = [
     "info F",
     "list F",
     "cell F --at @0",
     "rank F --at 0",
     "position F --rank 0",
+    "count F --from 0 --to 1",
     "box F --low 0 --high 1",
     "box F --low 0 --high 1 -o new",
     "expand F -o new",

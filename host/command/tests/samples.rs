@@ -80,22 +80,60 @@ fn cell_gives_every_word() {
     }
 }
 
+/// What `rank` finds at each position: the cell is stored or empty, and so many stored cells come before it.
+const RANKS: [(bool, u32); 12] = [
+    (false, 0),
+    (false, 0),
+    (true, 0),
+    (true, 1),
+    (false, 2),
+    (true, 2),
+    (false, 3),
+    (false, 3),
+    (false, 3),
+    (false, 3),
+    (true, 3),
+    (false, 4),
+];
+
 #[test]
-fn rank_gives_every_rank() {
+fn rank_gives_every_rank_and_the_number_before_every_empty_cell() {
     let folder = Folder::with_samples();
-    let ranks = [
-        (2, "0"),
-        (3, "1"),
-        (5, "2"),
-        (6, "empty"),
-        (10, "3"),
-        (11, "empty"),
-    ];
     for (name, _) in samples() {
-        for (position, rank) in ranks {
+        let (mut places, mut lines) = (String::new(), String::new());
+        for (position, (stored, before)) in RANKS.into_iter().enumerate() {
+            let line = match stored {
+                true => format!("{before}\n"),
+                false => format!("empty, {before} stored before\n"),
+            };
             let run = folder.run(&format!("rank {name} --at {position}"));
-            run.printed(&format!("{rank}\n")).quiet();
+            run.printed(&line).quiet();
+            places += &format!("@{position}\n");
+            lines += &line;
         }
+        let run = folder.run_on(places.as_bytes(), &format!("rank {name} --at -"));
+        run.printed(&lines).quiet();
+    }
+}
+
+#[test]
+fn rank_with_json_always_has_the_number_before() {
+    let folder = Folder::with_samples();
+    for (name, _) in samples() {
+        let (mut places, mut lines) = (String::new(), String::new());
+        for (position, (stored, before)) in RANKS.into_iter().enumerate() {
+            let rank = match stored {
+                true => before.to_string(),
+                false => "null".to_string(),
+            };
+            let members = format!("\"rank\":{rank},\"before\":{before}}}\n");
+            let run = folder.run(&format!("rank {name} --json --at {position}"));
+            run.printed(&format!("{{{members}")).quiet();
+            places += &format!("{position}\n");
+            lines += &format!("{{\"position\":{position},\"coordinates\":[{position}],{members}");
+        }
+        let run = folder.run_on(places.as_bytes(), &format!("rank {name} --json --at -"));
+        run.printed(&lines).quiet();
     }
 }
 

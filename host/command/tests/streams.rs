@@ -23,6 +23,8 @@ fn the_input_from_standard_input() {
         .run_on(&m3, "position - --rank 3")
         .printed("10 10\n")
         .quiet();
+    let counted = folder.run_on(&m3, "count - --from 2 --to 9");
+    counted.printed("3\n").quiet();
     folder
         .run_on(&m3, "box - --low 2 --high 3")
         .printed("7 9\n")
@@ -223,6 +225,7 @@ fn a_full_standard_output_is_said() {
         "cell m1.radar --at 2",
         "rank m1.radar --at 2",
         "position m1.radar --rank 0",
+        "count m1.radar --from 0 --to 5",
         "box m1.radar --low 0 --high 1",
         "expand m1.radar -o -",
         "make --dims 12 --kind 1 raw -o -",

@@ -8,13 +8,14 @@ use support::options::{COMMANDS, OTHERS};
 use support::Folder;
 
 /// A complete call of each command on files that `folder` has; `new` stands for nothing yet.
-const CALLS: [&str; 14] = [
+const CALLS: [&str; 15] = [
     "check m1.radar",
     "info m1.radar",
     "list m1.radar",
     "cell m1.radar --at 2",
     "rank m1.radar --at 2",
     "position m1.radar --rank 0",
+    "count m1.radar --from 2 --to 5",
     "box m1.radar --low 0 --high 1 -o new",
     "expand m1.radar -o new",
     "make --dims 12 --kind 1 raw -o new",
@@ -53,6 +54,7 @@ fn an_unknown_command() {
         ("chang", Some("change")),
         ("chnage", Some("change")),
         ("inf", Some("info")),
+        ("conut", Some("count")),
         ("lst", Some("list")),
         ("Check", Some("check")),
         ("shortr", Some("shorter")),
@@ -212,6 +214,8 @@ fn another_number_of_coordinates_than_the_picture_has() {
         "set m1.radar --at 1,0,0,0 --word 1 -o new",
         "box m1.radar --low 0,0 --high 1",
         "box m1.radar --low 0 --high 1,0",
+        "count m1.radar --from 0,0 --to 1",
+        "count m1.radar --from 0 --to 1,0",
         "cell m1.radar --at 0,0,0,0,0",
     ];
     for call in calls {

@@ -62,8 +62,8 @@ fn it_prints_what_it_says() {
 fn it_shows_the_commands() {
     let steps = steps();
     let commands = [
-        "check", "info", "list", "cell", "make", "set", "change", "shorter", "best", "diff",
-        "expand", "manifest",
+        "check", "info", "list", "cell", "rank", "count", "make", "set", "change", "shorter",
+        "best", "diff", "expand", "manifest",
     ];
     for command in commands {
         let call = format!("radar-archive {command} ");

@@ -2,7 +2,7 @@
 """Checks 1,000 recordings and counts their echoes by scan, with dask.
 
 Each recording is a picture of 6 scans, 16 bearings and 32 ranges, made here in a temporary folder; one of them is damaged. Every file is checked
-completely when it is opened. An echo is a stored cell, and its scan is its first coordinate: position divided by the cells of a scan.
+completely when it is opened. An echo is a stored cell; those of a scan are counted from its first cell to its last, whether or not these are stored.
 """
 import tempfile
 from pathlib import Path
@@ -46,7 +46,7 @@ def count(paths):
     for path in paths:
         try:
             with radar_archive.open(path) as archive:
-                echoes += np.bincount(archive.positions // (archive.cells // archive.shape[0]), minlength=SHAPE[0])
+                echoes += [archive.count((scan, 0, 0), (scan, SHAPE[1] - 1, SHAPE[2] - 1)) for scan in range(SHAPE[0])]
         except radar_archive.Refused as refused:
             refusals.append(str(refused))
     return echoes, refusals

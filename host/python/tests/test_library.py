@@ -5,6 +5,7 @@ import re
 import shutil
 import tempfile
 import unittest
+import unittest.mock
 from pathlib import Path
 
 from support import PACKAGE, ROOT, python
@@ -50,6 +51,18 @@ class Finding(unittest.TestCase):
     def test_another_library(self):
         last = self.missing(**{VARIABLE: python("-c", "import _ctypes; print(_ctypes.__file__)").stdout.strip()})
         self.assertIn("it is not the library of the radar archive", last)
+
+    def test_older_library(self):
+        """One that says "empty" without the number of stored cells before is refused."""
+        for number, refused in ((0, True), (2, True), (1, False)):
+            older = unittest.mock.Mock()
+            older.ra_opened_rank.return_value = 255 << 32 | number
+            with unittest.mock.patch("radar_archive.engine._loaded", lambda _: older):
+                if refused:
+                    with self.assertRaisesRegex(LibraryNotFound, "older than 1.2.0"):
+                        engine.__wrapped__()
+                else:
+                    self.assertIs(engine.__wrapped__(), older)
 
     def test_no_library(self):
         text = self.folder / "text.so"

@@ -63,7 +63,8 @@ class Opening(unittest.TestCase):
         self.assertEqual(archive.shape, (12,))
         calls = [
             lambda: archive.words, lambda: archive[0], lambda: archive[2:3], lambda: archive[2:2], lambda: archive.cell(0),
-            lambda: archive.rank(0), lambda: archive.position(0), lambda: archive.positions, lambda: archive.stored_words,
+            lambda: archive.rank(0), lambda: archive.before(0), lambda: archive.count(0, 1),
+            lambda: archive.position(0), lambda: archive.positions, lambda: archive.stored_words,
             lambda: bytes(archive), lambda: list(archive), lambda: archive.write(0, 1), lambda: archive.change(kind=1),
             lambda: archive.shorter(archive), lambda: archive.save(self.path.with_name("b")),
         ]  # fmt: skip

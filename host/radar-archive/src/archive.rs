@@ -9,7 +9,7 @@ use crate::buffers::accepted;
 use crate::diagnosis::{self, Fault};
 use crate::header::Header;
 use crate::stored::StoredCells;
-use crate::{calls, Dimensions, Picture, Position, Rank, Refusal, Setting};
+use crate::{calls, Dimensions, Picture, Position, Rank, Ranked, Refusal, Setting};
 
 /// An accepted file, opened, with its bytes: owned (`Archive<Vec<u8>>`), borrowed (`Archive<&[u8]>`, which is `Copy`), or behind anything
 /// else that gives the same bytes each time, such as an `Arc<[u8]>`.
@@ -18,7 +18,7 @@ use crate::{calls, Dimensions, Picture, Position, Rank, Refusal, Setting};
 /// [`position`](Archive::position) search without repeating it. The other calls check again as part of the engine's call.
 ///
 /// ```
-/// use radar_archive::{Archive, Dimensions, Picture, Position, Rank, Setting};
+/// use radar_archive::{Archive, Dimensions, Picture, Position, Rank, Ranked, Setting};
 ///
 /// let mut picture = Picture::all_empty(Dimensions::of(&[3, 4])?, 0)?;
 /// picture.words[6] = 41;
@@ -26,8 +26,8 @@ use crate::{calls, Dimensions, Picture, Position, Rank, Refusal, Setting};
 ///
 /// let archive = Archive::open(file)?;
 /// assert_eq!(archive.cell(Position(6)), Ok(41));
-/// assert_eq!(archive.rank(Position(6)), Ok(Some(Rank(0))));
-/// assert_eq!(archive.rank(Position(7)), Ok(None));
+/// assert_eq!(archive.rank(Position(6)), Ok(Ranked::Stored(Rank(0))));
+/// assert_eq!(archive.rank(Position(7)), Ok(Ranked::Empty(1)));
 /// assert_eq!(archive.position(Rank(0)), Ok(Position(6)));
 ///
 /// let written = archive.write(Position(7), 42)?;
@@ -130,9 +130,32 @@ impl<B: AsRef<[u8]>> Archive<B> {
         calls::opened_cell(self.bytes(), position)
     }
 
-    /// The rank at a position, nothing for an empty cell, or 8.
-    pub fn rank(&self, position: Position) -> Result<Option<Rank>, Refusal> {
+    /// The rank at a position, for an empty cell the number of stored cells before it, or 8.
+    pub fn rank(&self, position: Position) -> Result<Ranked, Refusal> {
         calls::opened_rank(self.bytes(), position)
+    }
+
+    /// The number of stored cells from one position to another in row order, both inclusive, or 8, also where the first comes after the
+    /// second.
+    ///
+    /// ```
+    /// # use radar_archive::{Archive, Dimensions, Picture, Position, Refusal, Setting};
+    /// let words = vec![0, 0, 7, 9, 0, 5, 0, 0, 0, 0, 300, 0];
+    /// let picture = Picture { dimensions: Dimensions::of(&[12])?, empty: 0, words };
+    /// let archive = Archive::open(picture.make(Setting::positions())?)?;
+    /// assert_eq!(archive.count(Position(3), Position(5)), Ok(2));
+    /// assert_eq!(archive.count(Position(6), Position(9)), Ok(0));
+    /// assert_eq!(archive.count(Position(0), Position(11)), Ok(4));
+    /// assert_eq!(archive.count(Position(5), Position(4)), Err(Refusal::Beyond));
+    /// assert_eq!(archive.count(Position(5), Position(12)), Err(Refusal::Beyond));
+    /// # Ok::<(), Refusal>(())
+    /// ```
+    pub fn count(&self, from: Position, to: Position) -> Result<u32, Refusal> {
+        let (first, last) = (self.rank(from)?, self.rank(to)?);
+        if to < from {
+            return Err(Refusal::Beyond);
+        }
+        Ok(last.through() - first.before())
     }
 
     /// The position of a rank, or 8.

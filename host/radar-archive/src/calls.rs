@@ -6,7 +6,7 @@
 //! three numbers: kind, width, step.
 //!
 //! ```
-//! use radar_archive::{calls, Position, Rank, Refusal, Setting};
+//! use radar_archive::{calls, Position, Rank, Ranked, Refusal, Setting};
 //!
 //! let words = [0, 0, 7, 9, 0, 5, 0, 0, 0, 0, 300, 0];
 //! let mut destination = [0; 100];
@@ -15,8 +15,8 @@
 //! assert_eq!(length, 84);
 //! assert_eq!(calls::check(file), Ok(()));
 //! assert_eq!(calls::cell(file, Position(10)), Ok(300));
-//! assert_eq!(calls::rank(file, Position(5)), Ok(Some(Rank(2))));
-//! assert_eq!(calls::rank(file, Position(6)), Ok(None));
+//! assert_eq!(calls::rank(file, Position(5)), Ok(Ranked::Stored(Rank(2))));
+//! assert_eq!(calls::rank(file, Position(6)), Ok(Ranked::Empty(3)));
 //! assert_eq!(calls::position(file, Rank(3)), Ok(Position(10)));
 //! assert_eq!(calls::position(file, Rank(4)), Err(Refusal::Beyond));
 //! assert_eq!(calls::change(file, [7, 0, 0], &mut [0; 100]), Err(Refusal::Kind));
@@ -24,7 +24,7 @@
 //! ```
 
 use crate::header;
-use crate::{ffi, Position, Rank, Refusal};
+use crate::{ffi, Position, Rank, Ranked, Refusal};
 
 /// The code of a lookup's answer that says the cell is empty.
 const EMPTY: u32 = 255;
@@ -45,21 +45,23 @@ fn plain(number: u32) -> Result<(), Refusal> {
     }
 }
 
-/// A lookup's answer, nothing for an empty cell.
-fn looked_up(answer: u64) -> Result<Option<u32>, Refusal> {
+/// The answer of a rank lookup.
+fn ranked(answer: u64) -> Result<Ranked, Refusal> {
     let value = answer as u32;
     match (answer >> 32) as u32 {
-        0 => Ok(Some(value)),
-        EMPTY => Ok(None),
+        0 => Ok(Ranked::Stored(Rank(value))),
+        EMPTY => Ok(Ranked::Empty(value)),
         number => Err(refusal(number)),
     }
 }
 
-/// The answer of a lookup that is never empty.
+/// The answer of any other lookup, which is never "empty".
 fn given(answer: u64) -> Result<u32, Refusal> {
-    match looked_up(answer)? {
-        Some(value) => Ok(value),
-        None => panic!("the engine answered that the cell is empty where there is always a value"),
+    match ranked(answer)? {
+        Ranked::Stored(Rank(value)) => Ok(value),
+        Ranked::Empty(_) => {
+            panic!("the engine answered that the cell is empty where there is always a value")
+        }
     }
 }
 
@@ -126,9 +128,9 @@ pub fn cell(file: &[u8], position: Position) -> Result<u32, Refusal> {
     given(ffi::cell(file, position.0))
 }
 
-/// The rank at a position, nothing for an empty cell. Tests 1 to 6, 8.
-pub fn rank(file: &[u8], position: Position) -> Result<Option<Rank>, Refusal> {
-    Ok(looked_up(ffi::rank(file, position.0))?.map(Rank))
+/// The rank at a position, for an empty cell the number of stored cells before it. Tests 1 to 6, 8.
+pub fn rank(file: &[u8], position: Position) -> Result<Ranked, Refusal> {
+    ranked(ffi::rank(file, position.0))
 }
 
 /// The position of a rank. Tests 1 to 6, 8.
@@ -187,10 +189,10 @@ pub fn opened_cell(file: &[u8], position: Position) -> Result<u32, Refusal> {
     given(ffi::opened_cell(file, position.0))
 }
 
-/// The rank at a position by the header's own counts, nothing checked: as [`rank`] on an accepted file; 8, nothing, or a rank below the
-/// N that the header claims on other bytes.
-pub fn opened_rank(file: &[u8], position: Position) -> Result<Option<Rank>, Refusal> {
-    Ok(looked_up(ffi::opened_rank(file, position.0))?.map(Rank))
+/// The rank at a position by the header's own counts, nothing checked: as [`rank`] on an accepted file; on other bytes 8, an empty cell
+/// with any number, or a rank below the N that the header claims.
+pub fn opened_rank(file: &[u8], position: Position) -> Result<Ranked, Refusal> {
+    ranked(ffi::opened_rank(file, position.0))
 }
 
 /// The position of a rank by the header's own counts, nothing checked: as [`position`] on an accepted file; 8, or a position below the

@@ -11,7 +11,7 @@
 //! allocator.
 //!
 //! ```
-//! use radar_archive::{Archive, Dimensions, Picture, Position, Rank, Setting};
+//! use radar_archive::{Archive, Dimensions, Picture, Position, Rank, Ranked, Setting};
 //!
 //! let picture = Picture {
 //!     dimensions: Dimensions::of(&[12])?,
@@ -22,8 +22,9 @@
 //! assert_eq!(file.len(), 80);
 //!
 //! let archive = Archive::open(file)?;
-//! assert_eq!(archive.rank(Position(5)), Ok(Some(Rank(2))));
-//! assert_eq!(archive.rank(Position(6)), Ok(None));
+//! assert_eq!(archive.rank(Position(5)), Ok(Ranked::Stored(Rank(2))));
+//! assert_eq!(archive.rank(Position(6)), Ok(Ranked::Empty(3)));
+//! assert_eq!(archive.count(Position(3), Position(6)), Ok(2));
 //! assert_eq!(archive.expand(), picture.words);
 //! # Ok::<(), radar_archive::Refusal>(())
 //! ```
@@ -45,6 +46,7 @@ mod kind;
 mod layout;
 mod lengths;
 mod picture;
+mod ranked;
 mod refusal;
 mod setting;
 mod stored;
@@ -55,6 +57,7 @@ pub use dimensions::{Coordinates, Dimensions};
 pub use kind::{Kind, UnknownKind};
 pub use lengths::{Lengths, Offer};
 pub use picture::{Picture, Position, Rank, MOST_CELLS};
+pub use ranked::Ranked;
 pub use refusal::Refusal;
 pub use setting::Setting;
 pub use stored::StoredCells;

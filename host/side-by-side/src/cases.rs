@@ -1,5 +1,6 @@
 //! The cases of one picture: every call on its files, on damaged ones and on wrong arguments.
 
+use radar_archive::Archive;
 use reader::Parsed;
 
 use crate::arguments::{any_position, any_rank, corner, wrong_extents};
@@ -113,6 +114,7 @@ fn file_cases(sides: &mut Sides, sketch: &Sketch, file: &[u8]) {
     for _ in 0..3 {
         read_parts(sides, sketch, file, &checked, says);
     }
+    counts(sides, file, says);
     for _ in 0..if large { 2 } else { 4 } {
         write_and_change(sides, sketch, file, says);
     }
@@ -147,6 +149,22 @@ fn read_parts(
         std::mem::swap(&mut from, &mut to);
     }
     sides.ranks(file, checked, from, to);
+}
+
+/// The stored cells between some pairs of positions, of which some lie outside or in the wrong order.
+fn counts(sides: &mut Sides, file: &[u8], says: &Parsed) {
+    let archive = match Archive::open(file) {
+        Ok(archive) => archive,
+        Err(fault) => panic!("a made file is refused: {fault}"),
+    };
+    for _ in 0..6 {
+        let random = &mut sides.random;
+        let (mut from, mut to) = (any_position(says, random), any_position(says, random));
+        if from > to && !random.once_in(4) {
+            std::mem::swap(&mut from, &mut to);
+        }
+        sides.count(&archive, says, from, to);
+    }
 }
 
 /// A write and a change, each sometimes wrong.

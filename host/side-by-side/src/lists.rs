@@ -1,6 +1,6 @@
 //! Lists of writes and changes, held step by step to a table.
 
-use radar_archive::{calls, Position};
+use radar_archive::{calls, Archive, Position, Rank, Ranked};
 
 use crate::random::Random;
 use crate::settings::{self, Setting};
@@ -125,7 +125,7 @@ fn step(
 
 /// The lookups and expand on the list's file, against the table's words alone.
 fn answers_as_the_table(file: &[u8], table: &Table, empty: u32, random: &mut Random) {
-    let archive = match radar_archive::Archive::open(file) {
+    let archive = match Archive::open(file) {
         Ok(archive) => archive,
         Err(refusal) => panic!("the last file of a list is refused: {refusal}"),
     };
@@ -139,12 +139,14 @@ fn answers_as_the_table(file: &[u8], table: &Table, empty: u32, random: &mut Ran
     for _ in 0..cells.min(100) {
         let at = random.below(cells) as u32;
         assert_eq!(archive.cell(Position(at)), Ok(table.words[at as usize]));
-        let rank = stored
-            .binary_search(&at)
-            .ok()
-            .map(|rank| radar_archive::Rank(rank as u32));
-        assert_eq!(archive.rank(Position(at)), Ok(rank));
+        let wanted = match stored.binary_search(&at) {
+            Ok(rank) => Ranked::Stored(Rank(rank as u32)),
+            Err(before) => Ranked::Empty(before as u32),
+        };
+        assert_eq!(archive.rank(Position(at)), Ok(wanted));
+        assert_eq!(calls::rank(file, Position(at)), Ok(wanted));
     }
+    counts_as_the_table(&archive, table, empty, random);
     for ((rank, position, word), (index, &at)) in archive.stored_cells().zip((0..).zip(&stored)) {
         assert_eq!(
             (rank.0, position.0, word),
@@ -152,4 +154,17 @@ fn answers_as_the_table(file: &[u8], table: &Table, empty: u32, random: &mut Ran
         );
     }
     assert_eq!(archive.stored_cells().len(), stored.len());
+}
+
+/// The stored cells between some pairs of positions, against the table's words alone.
+fn counts_as_the_table(archive: &Archive<&[u8]>, table: &Table, empty: u32, random: &mut Random) {
+    let cells = table.words.len();
+    for _ in 0..10 {
+        let (one, two) = (random.below(cells), random.below(cells));
+        let (from, to) = (one.min(two), one.max(two));
+        let words = table.words[from..=to].iter();
+        let wanted = words.filter(|&&word| word != empty).count() as u32;
+        let counted = archive.count(Position(from as u32), Position(to as u32));
+        assert_eq!(counted, Ok(wanted), "{from} to {to}");
+    }
 }

@@ -1,10 +1,10 @@
 //! The calls that look something up, on both sides.
 
-use radar_archive::{calls, Position, Rank};
+use radar_archive::{calls, Archive, Position, Rank, Ranked};
 use reader::Parsed;
 
 use crate::forge::field;
-use crate::sides::{number, read, shown, told, Sides};
+use crate::sides::{agree, number, read, shown, told, Sides};
 use crate::tally::EMPTY;
 
 impl Sides {
@@ -18,14 +18,30 @@ impl Sides {
         });
     }
 
-    /// Rank at a position.
+    /// Rank at a position, or the stored cells before an empty cell.
     pub fn rank(&mut self, file: &[u8], parsed: &Result<Parsed, u32>, position: u32) {
-        let wanted = parsed.as_ref().map_err(|&number| number);
-        let wanted = wanted.and_then(|says| ranked(says, position));
         let engine = told(calls::rank(file, Position(position)));
-        self.same("rank", flat(engine), wanted, || {
+        let parsed = parsed.as_ref().map_err(|&number| number);
+        self.same_rank("rank", engine, parsed, position, || {
             format!("at {position} of {}", shown(file))
         });
+    }
+
+    /// Compares one answer of the rank lookup, the number that comes with "empty" too, and counts it.
+    fn same_rank(
+        &mut self,
+        call: &'static str,
+        engine: Result<Ranked, u32>,
+        parsed: Result<&Parsed, u32>,
+        position: u32,
+        what: impl Fn() -> String,
+    ) {
+        let wanted = parsed.and_then(|says| ranked(says, position));
+        agree(call, &engine, &wanted, what);
+        self.tally.answer(call, code(&engine));
+        if let (Ok(Ranked::Empty(before)), Ok(says)) = (engine, parsed) {
+            self.tally.empty_cell(call, before, says.stored() as u32);
+        }
     }
 
     /// Position of a rank.
@@ -51,13 +67,13 @@ impl Sides {
             what,
         );
         let engine = told(calls::opened_rank(file, Position(position)));
-        self.same("opened_rank", flat(engine), ranked(says, position), what);
+        self.same_rank("opened_rank", engine, Ok(says), position, what);
         let engine = told(calls::opened_position(file, Rank(rank))).map(|p| p.0);
         let wanted = read(says.position(reader::Rank(rank))).map(|p| p.0);
         self.same("opened_position", engine, wanted, what);
     }
 
-    /// The three lookups over bytes that are refused: each ends with an answer in range.
+    /// The three lookups over bytes that are refused: each ends with an answer in range. The number that comes with "empty" is free.
     pub fn opened_over_any(&mut self, file: &[u8], position: u32, rank: u32) {
         let what = || format!("position {position}, rank {rank} of {}", shown(file));
         let (stored, cells) = claimed(file);
@@ -65,13 +81,14 @@ impl Sides {
         let right = matches!(answer, Err(8)) || answer.is_ok() && file.len() >= 52;
         assert!(right, "opened_cell: {answer:?}; {}", what());
         self.tally.answer("opened_cell", answer.err().unwrap_or(0));
-        let answer = flat(told(calls::opened_rank(file, Position(position))));
+        let answer = told(calls::opened_rank(file, Position(position)));
         let right = match answer {
-            Ok(rank) => rank < stored,
-            Err(number) => number == 8 || number == EMPTY && file.len() >= 52,
+            Ok(Ranked::Stored(Rank(rank))) => rank < stored,
+            Ok(Ranked::Empty(_)) => file.len() >= 52,
+            Err(number) => number == 8,
         };
         assert!(right, "opened_rank: {answer:?}; {}", what());
-        self.tally.answer("opened_rank", answer.err().unwrap_or(0));
+        self.tally.answer("opened_rank", code(&answer));
         let answer = told(calls::opened_position(file, Rank(rank))).map(|p| p.0);
         let right = match answer {
             Ok(position) => u128::from(position) < cells,
@@ -80,6 +97,14 @@ impl Sides {
         assert!(right, "opened_position: {answer:?}; {}", what());
         self.tally
             .answer("opened_position", answer.err().unwrap_or(0));
+    }
+
+    /// The stored cells from one position to another of an opened file that is accepted.
+    pub fn count(&mut self, archive: &Archive<&[u8]>, says: &Parsed, from: u32, to: u32) {
+        let engine = told(archive.count(Position(from), Position(to)));
+        self.same("count", engine, counted(says, from, to), || {
+            format!("{from} to {to} of {}", shown(archive.bytes()))
+        });
     }
 
     /// Box, with destinations of several lengths.
@@ -155,18 +180,33 @@ fn claimed(file: &[u8]) -> (u32, u128) {
     (field(file, 24), extents.iter().product())
 }
 
-/// The reader's rank, with the code of an empty cell as a number.
-fn ranked(says: &Parsed, position: u32) -> Result<u32, u32> {
-    match read(says.rank(reader::Position(position)))? {
-        Some(rank) => Ok(rank.0),
-        None => Err(EMPTY),
+/// The reader's rank, or the stored cells before an empty cell.
+fn ranked(says: &Parsed, position: u32) -> Result<Ranked, u32> {
+    let found = read(says.rank(reader::Position(position)))?;
+    Ok(match found {
+        reader::Ranked::Stored(rank) => Ranked::Stored(Rank(rank.0)),
+        reader::Ranked::Empty(before) => Ranked::Empty(before),
+    })
+}
+
+/// The number of an answer of the rank lookup, for an empty cell its code.
+fn code(answer: &Result<Ranked, u32>) -> u32 {
+    match *answer {
+        Ok(Ranked::Stored(_)) => 0,
+        Ok(Ranked::Empty(_)) => EMPTY,
+        Err(number) => number,
     }
 }
 
-/// The engine's rank, with the code of an empty cell as a number.
-fn flat(answer: Result<Option<Rank>, u32>) -> Result<u32, u32> {
-    match answer? {
-        Some(rank) => Ok(rank.0),
-        None => Err(EMPTY),
+/// The words from one position to another that are not E, or 8.
+fn counted(says: &Parsed, from: u32, to: u32) -> Result<u32, u32> {
+    if to < from {
+        return Err(8);
     }
+    let words = says.picture.words.get(from as usize..=to as usize);
+    let stored = words
+        .ok_or(8u32)?
+        .iter()
+        .filter(|&&word| word != says.picture.empty);
+    Ok(stored.count() as u32)
 }

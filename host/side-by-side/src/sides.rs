@@ -87,6 +87,20 @@ pub(crate) fn shown(file: &[u8]) -> String {
     format!("{} bytes {:?}", file.len(), &file[..file.len().min(400)])
 }
 
+/// Ends the case with a message where the engine's answer is not the reader's.
+pub(crate) fn agree<T: PartialEq + std::fmt::Debug>(
+    call: &str,
+    engine: &T,
+    wanted: &T,
+    what: impl Fn() -> String,
+) {
+    assert!(
+        engine == wanted,
+        "{call}: the engine says {engine:?}, the reader {wanted:?}; {}",
+        what()
+    );
+}
+
 impl Sides {
     /// Both sides from a seed.
     pub fn new(seed: u64) -> Sides {
@@ -104,11 +118,7 @@ impl Sides {
         wanted: Result<T, u32>,
         what: impl Fn() -> String,
     ) {
-        assert!(
-            engine == wanted,
-            "{call}: the engine says {engine:?}, the reader {wanted:?}; {}",
-            what()
-        );
+        agree(call, &engine, &wanted, what);
         let number = engine.err().unwrap_or(0);
         self.tally.answer(call, number);
     }

@@ -9,7 +9,7 @@ use crate::settings::{self, Setting};
 pub const EMPTY: u32 = 255;
 
 /// Every call with the numbers it may give; 0 is accepted.
-const CALLS: [(&str, &[u32]); 19] = [
+const CALLS: [(&str, &[u32]); 20] = [
     ("check", &[0, 1, 2, 3, 4, 5, 6]),
     ("info", &[0, 1, 2, 3, 4, 5, 6, 10]),
     ("make", &[0, 2, 3, 4, 7, 9, 10]),
@@ -27,11 +27,20 @@ const CALLS: [(&str, &[u32]); 19] = [
     ("opened_cell", &[0, 8]),
     ("opened_rank", &[0, 8, EMPTY]),
     ("opened_position", &[0, 8]),
+    ("count", &[0, 8]),
     ("write in a list", &[0, 8, 9, 10]),
     ("change in a list", &[0, 2, 3, 9, 10]),
 ];
 
-/// How often each number of each call has to be met.
+/// Where an empty cell lies, which says whether the number of stored cells before it is 0, N, both or neither.
+const EMPTY_CELLS: [&str; 4] = [
+    "before the first",
+    "between",
+    "after the last",
+    "none stored",
+];
+
+/// How often each number of each call has to be met, and each place of an empty cell.
 pub const LEAST: u64 = 20;
 
 /// Counts of what a run has met.
@@ -39,6 +48,8 @@ pub const LEAST: u64 = 20;
 pub struct Tally {
     /// For each call and number, the cases.
     answers: BTreeMap<(&'static str, u32), u64>,
+    /// For each rank lookup and place of an empty cell in an accepted file, the cells.
+    empty_cells: BTreeMap<(&'static str, &'static str), u64>,
     /// For each place of a file, the damaged or forged files.
     damage: BTreeMap<String, u64>,
     /// For each texture, the pictures.
@@ -55,6 +66,18 @@ impl Tally {
     /// Counts a call's number.
     pub fn answer(&mut self, call: &'static str, number: u32) {
         *self.answers.entry((call, number)).or_default() += 1;
+    }
+
+    /// Counts an empty cell of an accepted file by the stored cells before it and in all.
+    pub fn empty_cell(&mut self, call: &'static str, before: u32, stored: u32) {
+        let place = match (before == 0, before == stored) {
+            (true, false) => 0,
+            (false, false) => 1,
+            (false, true) => 2,
+            (true, true) => 3,
+        };
+        let key = (call, EMPTY_CELLS[place]);
+        *self.empty_cells.entry(key).or_default() += 1;
     }
 
     /// Counts a damaged file.
@@ -87,6 +110,9 @@ impl Tally {
         for (&key, &count) in &other.answers {
             *self.answers.entry(key).or_default() += count;
         }
+        for (&key, &count) in &other.empty_cells {
+            *self.empty_cells.entry(key).or_default() += count;
+        }
         for (key, &count) in &other.damage {
             *self.damage.entry(key.clone()).or_default() += count;
         }
@@ -104,8 +130,8 @@ impl Tally {
         met.map(|(_, count)| count).sum()
     }
 
-    /// What has to be met and was not, or not often enough.
-    pub fn missing(&self) -> Vec<String> {
+    /// The answers that have to be met and were not, or not often enough, and those that may never be.
+    fn missing_answers(&self) -> Vec<String> {
         let mut missing = Vec::new();
         for (call, numbers) in CALLS {
             for &number in numbers {
@@ -123,6 +149,22 @@ impl Tally {
                 missing.push(format!("{call} gave {number}, which it never may"));
             }
         }
+        for call in ["rank", "opened_rank"] {
+            for place in EMPTY_CELLS {
+                let met = self.empty_cells.get(&(call, place)).copied().unwrap_or(0);
+                if met < LEAST {
+                    missing.push(format!(
+                        "{call} met an empty cell, {place}, only {met} times"
+                    ));
+                }
+            }
+        }
+        missing
+    }
+
+    /// What has to be met and was not, or not often enough.
+    pub fn missing(&self) -> Vec<String> {
+        let mut missing = self.missing_answers();
         for place in crate::forge::places() {
             if !self.damage.contains_key(&place) {
                 missing.push(format!("no file was damaged at {place}"));
@@ -148,6 +190,11 @@ impl Tally {
     pub fn text(&self) -> String {
         let mut text = self.table();
         // Writing to a string can't fail.
+        let _ = writeln!(
+            text,
+            "empty cells by the stored ones: {:?}",
+            self.empty_cells
+        );
         let _ = writeln!(
             text,
             "settings made: {} of {}",

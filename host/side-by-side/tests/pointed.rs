@@ -37,8 +37,8 @@ fn calls_on(sides: &mut Sides, file: &[u8], stored: &[usize]) {
         let position = position as u32;
         for beside in [position, position + 1, position.saturating_sub(1)] {
             sides.opened(file, says, beside, rank);
+            sides.rank(file, &checked, beside);
         }
-        sides.rank(file, &checked, position);
         sides.position(file, &checked, rank);
         for word in [0, 9] {
             sides.write(file, position, word);

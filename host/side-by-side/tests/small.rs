@@ -3,7 +3,7 @@
 mod common;
 
 use common::*;
-use radar_archive::calls;
+use radar_archive::{calls, Archive};
 use side_by_side::settings;
 use side_by_side::sides::{parsed, Sides};
 
@@ -119,6 +119,7 @@ fn coordinates(extents: [u32; 4], position: u32) -> [u32; 4] {
 /// Every call on a small file, with every argument that lies inside and the next ones that don't.
 fn every_call(sides: &mut Sides, file: &[u8], dimensions: u32, extents: [u32; 4]) {
     let checked = parsed(file);
+    let (says, archive) = (checked.as_ref().unwrap(), Archive::open(file).unwrap());
     let cells: u32 = extents.iter().product();
     for position in 0..=cells {
         sides.cell(file, &checked, position);
@@ -130,6 +131,7 @@ fn every_call(sides: &mut Sides, file: &[u8], dimensions: u32, extents: [u32; 4]
         }
         for to in 0..=cells + 1 {
             sides.ranks(file, &checked, position, to);
+            sides.count(&archive, says, position, to);
         }
     }
     for setting in SPREAD {

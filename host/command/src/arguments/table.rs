@@ -115,6 +115,10 @@ impl Opt {
     pub const LOW: Opt = Opt::with("low", "PLACE");
     /// `--high`.
     pub const HIGH: Opt = Opt::with("high", "PLACE");
+    /// `--from`.
+    pub const FROM: Opt = Opt::with("from", "PLACE");
+    /// `--to`.
+    pub const TO: Opt = Opt::with("to", "PLACE");
     /// `--rank`.
     pub const RANK: Opt = Opt::with("rank", "RANK");
     /// `--word`.

@@ -18,7 +18,7 @@ fn run(given: &Given) -> Result<u8, Failure> {
     let lookup = Lookup {
         find: |archive, position| archive.cell(position),
         text,
-        member,
+        members,
     };
     lookup.run(given)
 }
@@ -28,6 +28,6 @@ fn text(line: &mut Vec<u8>, word: u32, hex: bool) {
     put(line, word);
 }
 
-fn member(object: &mut Object, word: u32) {
+fn members(object: &mut Object, word: u32) {
     object.number("word", word.into());
 }

@@ -18,8 +18,8 @@ pub(super) struct Lookup<T> {
     pub(super) find: fn(&Archive<&[u8]>, Position) -> Result<T, Refusal>,
     /// Puts it as text, words with `--hex` in hexadecimal.
     pub(super) text: fn(&mut Vec<u8>, T, bool),
-    /// Puts it as a member of an object.
-    pub(super) member: fn(&mut Object, T),
+    /// Puts it as members of an object.
+    pub(super) members: fn(&mut Object, T),
 }
 
 impl<T> Lookup<T> {
@@ -31,7 +31,7 @@ impl<T> Lookup<T> {
         let place = given.place(&Opt::AT)?;
         let file = Input::picture(&given.operands[0])?;
         let archive = file.open()?;
-        let position = place_in(given, &file, &archive, &place)?;
+        let position = place_in(given, &Opt::AT, &file, &archive, &place)?;
         let found = self.found(&file, &archive, position)?;
         put_line(&self.line(given, Object::new(), found))
     }
@@ -49,10 +49,10 @@ impl<T> Lookup<T> {
         })
     }
 
-    /// The line of what is found; with `--json` the last member of an object.
+    /// The line of what is found; with `--json` the last members of an object.
     fn line(&self, given: &Given, mut object: Object, found: T) -> Vec<u8> {
         if given.has(&Opt::JSON) {
-            (self.member)(&mut object, found);
+            (self.members)(&mut object, found);
             return object.line();
         }
         let mut line = Vec::new();
@@ -62,16 +62,17 @@ impl<T> Lookup<T> {
     }
 }
 
-/// The position of a place in a file's picture.
+/// The position in a file's picture of the place that an option has.
 pub(super) fn place_in(
     given: &Given,
+    option: &Opt,
     file: &Input,
     archive: &Archive<&[u8]>,
     place: &Place,
 ) -> Result<Position, Failure> {
     place
         .position(archive.dimensions())
-        .map_err(|outside| given.outside(&Opt::AT, &file.path, outside))
+        .map_err(|outside| given.outside(option, &file.path, outside))
 }
 
 /// An object that begins with a position of a picture and its coordinates.

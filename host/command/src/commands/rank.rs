@@ -1,6 +1,6 @@
 //! `rank`: the rank at a place, or at each of many.
 
-use radar_archive::Rank;
+use radar_archive::{Rank, Ranked};
 
 use crate::arguments::{Command, Given, Operands, Opt};
 use crate::commands::lookup::Lookup;
@@ -20,18 +20,25 @@ fn run(given: &Given) -> Result<u8, Failure> {
     let lookup = Lookup {
         find: |archive, position| archive.rank(position),
         text,
-        member,
+        members,
     };
     lookup.run(given)
 }
 
-fn text(line: &mut Vec<u8>, rank: Option<Rank>, _: bool) {
-    match rank {
-        Some(Rank(rank)) => numbers::put(line, rank),
-        None => line.extend_from_slice(b"empty"),
+fn text(line: &mut Vec<u8>, found: Ranked, _: bool) {
+    match found {
+        Ranked::Stored(Rank(rank)) => numbers::put(line, rank),
+        Ranked::Empty(before) => {
+            line.extend_from_slice(b"empty, ");
+            numbers::put(line, before);
+            line.extend_from_slice(b" stored before");
+        }
     }
 }
 
-fn member(object: &mut Object, rank: Option<Rank>) {
-    object.number_or_null("rank", rank.map(|Rank(rank)| rank as usize));
+fn members(object: &mut Object, found: Ranked) {
+    let rank = found.rank().map(|Rank(rank)| rank as usize);
+    object
+        .number_or_null("rank", rank)
+        .number("before", found.before().into());
 }

@@ -30,7 +30,7 @@ fn run(given: &Given) -> Result<u8, Failure> {
     let output = put_out::output(given)?;
     let file = Input::picture(&given.operands[0])?;
     let archive = file.open()?;
-    let position = place_in(given, &file, &archive, &place)?;
+    let position = place_in(given, &Opt::AT, &file, &archive, &place)?;
     let word = word.in_picture(archive.empty());
     let stored = archive
         .stored_count()

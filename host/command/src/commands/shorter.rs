@@ -7,9 +7,8 @@ use crate::commands::lookup::put_line;
 use crate::failure::{Failure, DONE};
 use crate::input::Input;
 use crate::json::Object;
-use crate::numbers;
 use crate::output::Results;
-use crate::shown;
+use crate::{numbers, place, shown};
 
 pub(super) static COMMAND: Command = Command {
     name: "shorter",
@@ -71,7 +70,7 @@ fn difference(a: &Archive<&[u8]>, b: &Archive<&[u8]>) -> String {
     {
         Some(at) => {
             let (word, other) = (words[at], others[at]);
-            let place = place(a.dimensions(), at as u32);
+            let place = place::written(Position(at as u32), a.dimensions());
             format!("the words at {place} are {word} and {other}")
         }
         None => "the pictures differ".to_string(),
@@ -81,12 +80,4 @@ fn difference(a: &Archive<&[u8]>, b: &Archive<&[u8]>) -> String {
 /// Extents as `--dims` takes them.
 fn extents(dimensions: Dimensions) -> String {
     numbers::joined(dimensions.extents(), "x")
-}
-
-/// The coordinates of a position.
-fn place(dimensions: Dimensions, position: u32) -> String {
-    match dimensions.coordinates(Position(position)) {
-        Ok(coordinates) => numbers::joined(&coordinates, ","),
-        Err(_) => format!("@{position}"),
-    }
 }

@@ -100,6 +100,16 @@ impl Picture {
         )
     }
 
+    /// What `rank` prints of a position.
+    pub fn rank_line(&self, position: usize) -> String {
+        let stored = |word: &&u32| **word != self.empty;
+        let before = self.words[..position].iter().filter(stored).count();
+        match stored(&&self.words[position]) {
+            true => format!("{before}\n"),
+            false => format!("empty, {before} stored before\n"),
+        }
+    }
+
     /// The words, lowest byte first.
     pub fn raw(&self) -> Vec<u8> {
         raw(&self.words)

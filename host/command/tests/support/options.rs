@@ -4,7 +4,7 @@
 pub type Command = (&'static str, &'static [&'static str]);
 
 /// The commands on files.
-pub const COMMANDS: [Command; 15] = [
+pub const COMMANDS: [Command; 16] = [
     (
         "check",
         &[
@@ -24,6 +24,7 @@ pub const COMMANDS: [Command; 15] = [
     ("cell", &["--at", "--hex", "--json"]),
     ("rank", &["--at", "--json"]),
     ("position", &["--rank", "--json"]),
+    ("count", &["--from", "--to", "--json"]),
     (
         "box",
         &[

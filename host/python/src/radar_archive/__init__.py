@@ -26,7 +26,7 @@ from radar_archive.opening import Bytes, mapped
 from radar_archive.refusal import Beyond, Refused
 from radar_archive.setting import LONGEST_FILE, MOST_CELLS, Kind, KindLike, Setting
 
-__version__ = "1.1.0"
+__version__ = "1.2.0"
 __all__ = [
     "LONGEST_FILE",
     "MOST_CELLS",

@@ -1,5 +1,4 @@
 """An opened file."""
-import ctypes
 import os
 from collections.abc import Iterator, Sequence
 from typing import Any, SupportsIndex
@@ -8,14 +7,14 @@ import numpy as np
 from numpy.typing import DTypeLike, NDArray
 
 from radar_archive import places, saving
+from radar_archive.accepted import AcceptedFile
 from radar_archive.engine import engine
-from radar_archive.header import Dimensions, Header
 from radar_archive.indexing import Axis, axes, has_ellipsis, shape_of
 from radar_archive.making import put_out
 from radar_archive.numbers import lent, whole, word_of
-from radar_archive.opening import Bytes, bytes_of
-from radar_archive.refusal import accept, given, refusal, value
-from radar_archive.setting import HEADER_LENGTH, Kind, KindLike, Setting, explain_setting, longest_file, setting_numbers
+from radar_archive.opening import bytes_of
+from radar_archive.refusal import accept, given, ranked, refusal
+from radar_archive.setting import HEADER_LENGTH, Kind, KindLike, explain_setting, longest_file, setting_numbers
 
 #: A position, or as many coordinates as the picture has dimensions.
 Place = SupportsIndex | Sequence[SupportsIndex]
@@ -24,7 +23,7 @@ Place = SupportsIndex | Sequence[SupportsIndex]
 _CHUNK = 65_536
 
 
-class Archive:
+class Archive(AcceptedFile):
     """An accepted file, opened. `open`, `make` and `best` give one; the file is checked completely, and a refused one is a `Refused`.
 
     >>> from radar_archive import make
@@ -33,88 +32,18 @@ class Archive:
     <Archive 3x4, kind 2 positions, 4 of 12 cells stored, 84 bytes>
     >>> a[0, 1:]
     array([0, 7, 9], dtype=uint32)
-    >>> a.cell((2, 2)), a.rank((2, 2)), a.rank(11)
-    (300, 3, None)
+    >>> a.cell((2, 2)), a.rank((2, 2)), a.rank(11), a.before(11)
+    (300, 3, None, 4)
     >>> list(a)
     [(2, 7), (3, 9), (5, 5), (10, 300)]
 
     `len(a)` is the number of stored cells, as iteration gives them; the first extent is `a.shape[0]`.
     """
 
-    __slots__ = ("_file", "_lent", "_header", "_dimensions", "__weakref__")
+    __slots__ = ()
 
     #: The type of a word, as numpy has it.
     dtype = np.dtype(np.uint32)
-
-    def __init__(self, data: Bytes, name: str | None = None) -> None:
-        file = bytes_of(data)
-        lent_file = (file.ctypes.data_as(ctypes.c_void_p), file.size)
-        number = engine().ra_check(*lent_file)
-        if number:
-            raise refusal(number, None, name)
-        self._file: NDArray[np.uint8] = file
-        self._lent: tuple[ctypes.c_void_p, int] | None = lent_file
-        self._header = Header.of(file)
-        self._dimensions = Dimensions.of(self._header.shape)
-
-    def close(self) -> None:
-        """Gives a mapped file back before the archive goes; arrays that refer to it keep it until they go. Nothing can be asked afterwards
-        but what the header says."""
-        self._lent = None
-        self._file = np.empty(0, np.uint8)
-
-    def __enter__(self) -> "Archive":
-        return self
-
-    def __exit__(self, *_: object) -> None:
-        self.close()
-
-    def _lend(self) -> tuple[ctypes.c_void_p, int]:
-        """The file as it is lent: pointer and length. The pointer keeps the file until the call is done, also if it is closed meanwhile."""
-        if self._lent is None:
-            raise ValueError("the archive is closed")
-        return self._lent
-
-    def _bytes(self) -> NDArray[np.uint8]:
-        """The bytes of the file."""
-        file = self._file
-        self._lend()  # after the line above: close() takes the pointer away before the bytes
-        return file
-
-    @property
-    def shape(self) -> tuple[int, ...]:
-        """The extents of the picture."""
-        return self._header.shape
-
-    @property
-    def ndim(self) -> int:
-        """The number of dimensions."""
-        return len(self._header.shape)
-
-    @property
-    def setting(self) -> Setting:
-        """Kind, width and step."""
-        return self._header.setting
-
-    @property
-    def kind(self) -> Kind:
-        """The header kind."""
-        return self._header.setting.kind
-
-    @property
-    def empty(self) -> int:
-        """The empty word."""
-        return self._header.empty
-
-    @property
-    def cells(self) -> int:
-        """The number of cells."""
-        return self._header.cells
-
-    @property
-    def stored(self) -> int:
-        """The number of stored cells."""
-        return self._header.stored
 
     def __len__(self) -> int:
         return self._header.stored
@@ -191,8 +120,40 @@ class Archive:
 
     def rank(self, at: Place) -> int | None:
         """The rank at a position or at coordinates, or None for an empty cell. Refuses with 8."""
-        position = self._position_of(at)
-        return value(engine().ra_opened_rank(*self._lend(), position), lambda _: places.position(at, self.cells))
+        before, stored = self._ranked(at, self._position_of(at))
+        return before if stored else None
+
+    def before(self, at: Place) -> int:
+        """The number of stored cells before a position or coordinates: the rank where the cell is stored. Refuses with 8.
+
+        >>> from radar_archive import make
+        >>> a = make([0, 0, 7, 9, 0, 5, 0, 0, 0, 0, 300, 0], kind="runs")
+        >>> a.before(5), a.before(6), a.before(11)
+        (2, 3, 4)
+        """
+        return self._ranked(at, self._position_of(at))[0]
+
+    def count(self, first: Place, last: Place) -> int:
+        """The number of stored cells from one place to another in row order, both inclusive. Refuses with 8, also a first place after the last.
+
+        >>> from radar_archive import make
+        >>> a = make([[0, 0, 7, 9], [0, 5, 0, 0], [0, 0, 300, 0]], kind="runs")
+        >>> a.count(3, 5), a.count((0, 3), (1, 1)), a.count((1, 2), (2, 1))
+        (2, 2, 0)
+        >>> a.count((1, 1), 3)
+        Traceback (most recent call last):
+        radar_archive.refusal.Beyond: refused, 8 beyond: (1, 1) comes after position 3 in row order; exchange them
+        """
+        begin, end = self._position_of(first), self._position_of(last)
+        before, _ = self._ranked(first, begin)
+        before_last, stored = self._ranked(last, end)
+        if begin > end:
+            raise refusal(8, places.order(first, last))
+        return before_last + stored - before
+
+    def _ranked(self, at: Place, position: int) -> tuple[int, bool]:
+        """The number of stored cells before a place, whose position is given, and whether its cell is stored."""
+        return ranked(engine().ra_opened_rank(*self._lend(), position), lambda _: places.position(at, self.cells))
 
     def position(self, rank: SupportsIndex) -> int:
         """The position of a rank. Refuses with 8."""

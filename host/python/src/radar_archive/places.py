@@ -1,5 +1,8 @@
 """Why a place in a picture is refused with 8."""
 from collections.abc import Sequence
+from typing import Any
+
+import numpy as np
 
 
 def position(at: object, cells: int) -> str:
@@ -21,3 +24,13 @@ def coordinates(at: Sequence[int], shape: tuple[int, ...]) -> str:
         return f"({given}) has {len(at)} coordinates; the picture {extents} has {len(shape)} dimensions"
     axis = next(axis for axis, extent in enumerate(shape) if not 0 <= at[axis] < extent)
     return f"({given}) is outside the picture {extents}: coordinate {axis} is 0 to {shape[axis] - 1}"
+
+
+def order(first: Any, last: Any) -> str:
+    """A first place after the last, each as it was given."""
+    return f"{_named(first)} comes after {_named(last)} in row order; exchange them"
+
+
+def _named(at: Any) -> str:
+    """A position, or coordinates."""
+    return f"({', '.join(map(str, at))})" if np.ndim(at) else f"position {at}"

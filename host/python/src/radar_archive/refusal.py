@@ -51,7 +51,7 @@ class Refused(ValueError):
 
 
 class Beyond(Refused, IndexError):
-    """The refusal 8: a position, rank, coordinate or index lies outside. It is an IndexError too."""
+    """The refusal 8: a position, rank, coordinate or index lies outside, or the first of two places comes after the last. It is an IndexError too."""
 
 
 def refusal(number: int, sentence: str | None = None, name: str | None = None) -> Refused:
@@ -67,18 +67,18 @@ def accept(number: int, explain: Explain | None = None) -> None:
         raise refusal(number, explain(number) if explain else None)
 
 
-def value(answer: int, explain: Explain | None = None) -> int | None:
-    """The value of a lookup's answer, or None for an empty cell."""
-    code = answer >> 32
+def ranked(answer: int, explain: Explain | None = None) -> tuple[int, bool]:
+    """The answer of a rank lookup: the number of stored cells before the cell, and whether the cell is stored."""
+    code, before = answer >> 32, answer & 0xFFFFFFFF
     if code == EMPTY:
-        return None
+        return before, False
     accept(code, explain)
-    return answer & 0xFFFFFFFF
+    return before, True
 
 
 def given(answer: int, explain: Explain | None = None) -> int:
     """The value of an answer that is never empty."""
-    found = value(answer, explain)
-    if found is None:
+    value, stored = ranked(answer, explain)
+    if not stored:
         raise RuntimeError("the library answers empty where it has to give a number")
-    return found
+    return value

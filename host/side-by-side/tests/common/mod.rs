@@ -1,7 +1,7 @@
 //! Files put together by hand, and both sides' answers on them.
 #![allow(dead_code)]
 
-use radar_archive::{calls, Position, Rank, Refusal};
+use radar_archive::{calls, Position, Rank, Ranked, Refusal};
 use side_by_side::sides::Sides;
 
 /// The sample picture; its empty word is 0.
@@ -131,7 +131,11 @@ pub fn reads_as(file: &[u8], words: &[u32], empty: u32) {
 fn reads_inside(file: &[u8], words: &[u32], empty: u32) -> u32 {
     let mut rank = 0;
     for (at, &word) in (0..).zip(words) {
-        let wanted = (word != empty).then_some(Rank(rank));
+        let wanted = if word == empty {
+            Ranked::Empty(rank)
+        } else {
+            Ranked::Stored(Rank(rank))
+        };
         for (cell, found) in [
             (
                 calls::cell(file, Position(at)),

@@ -1,6 +1,6 @@
 //! Calls.
 
-use radar_archive::{calls, Refusal};
+use radar_archive::{calls, Position, Ranked, Refusal};
 use side_by_side::sides::Sides;
 
 use crate::common::*;
@@ -22,6 +22,36 @@ fn e_among_the_stored_words_is_6_and_a_stored_0_is_not() {
         // A written E is no stored word.
         let emptied = sides.write(&file, 5, 9).unwrap();
         assert_eq!(field(&emptied, 24), 5);
+    }
+}
+
+/// The words of a line, and some of its empty cells: position, and the stored cells before it.
+type Line<'a> = (&'a [u32], &'a [(u32, u32)]);
+
+#[test]
+fn an_empty_cell_gives_the_stored_cells_before_it() {
+    let all_but_the_last = [&[7; 11][..], &[0]].concat();
+    let lines: [Line; 4] = [
+        // 0 before the first stored cell, N after the last.
+        (&SAMPLE, &[(0, 0), (1, 0), (4, 2), (6, 3), (9, 3), (11, 4)]),
+        (&[0; 12], &[(0, 0), (11, 0)]),
+        (&all_but_the_last, &[(11, 11)]),
+        (&[0, 7], &[(0, 0)]),
+    ];
+    for (words, cells) in lines {
+        for numbers in SAMPLE_SETTINGS {
+            let file = line(numbers, words).unwrap();
+            for &(at, before) in cells {
+                let wanted = Ok(Ranked::Empty(before));
+                assert_eq!(calls::rank(&file, Position(at)), wanted, "{numbers:?} {at}");
+                assert_eq!(
+                    calls::opened_rank(&file, Position(at)),
+                    wanted,
+                    "{numbers:?} {at}"
+                );
+            }
+            reads_as(&file, words, 0);
+        }
     }
 }
 

@@ -1,5 +1,5 @@
 //! What follows from the documents and is easily got wrong: one test for each line of part B of the readings that document 01 or S-7 of
-//! document 02 bears. (Its lines on kinds 7 and 8, permits, the search and the summary belong to later requests.)
+//! document 02 bears, and one for S-9. (The lines on kinds 7 and 8, permits, the search and the summary belong to later requests.)
 
 mod calls;
 #[path = "../common/mod.rs"]

@@ -1,6 +1,6 @@
 //! Kinds 1 and 5.
 
-use radar_archive::{calls, Position, Rank};
+use radar_archive::{calls, Position, Rank, Ranked};
 
 use crate::common::*;
 use crate::{RUNS, WORDS};
@@ -137,17 +137,17 @@ fn sums_restart_in_each_page_at_every_level() {
 fn a_descent_stops_at_an_entry_greater_than_the_position() {
     let file = sample([5, 0, 2]);
     // Entries of the levels are 4, 6 and 11: the positions at and beside each.
-    for (at, rank) in [
-        (3, Some(1)),
-        (4, None),
-        (5, Some(2)),
-        (6, None),
-        (7, None),
-        (10, Some(3)),
-        (11, None),
+    for (at, ranked) in [
+        (3, Ranked::Stored(Rank(1))),
+        (4, Ranked::Empty(2)),
+        (5, Ranked::Stored(Rank(2))),
+        (6, Ranked::Empty(3)),
+        (7, Ranked::Empty(3)),
+        (10, Ranked::Stored(Rank(3))),
+        (11, Ranked::Empty(4)),
     ] {
-        assert_eq!(calls::rank(&file, Position(at)), Ok(rank.map(Rank)));
-        assert_eq!(calls::opened_rank(&file, Position(at)), Ok(rank.map(Rank)));
+        assert_eq!(calls::rank(&file, Position(at)), Ok(ranked));
+        assert_eq!(calls::opened_rank(&file, Position(at)), Ok(ranked));
     }
     for step in 2..=4 {
         for bits in 0..1u32 << 9 {
