@@ -3,13 +3,13 @@ use Prim.Native.Nat.{ℕ, zero, suc, _+_, _-_, _*_, _≤_, _<_}
 use mathlib.Core.Path.{_≡_, refl, sym, _∙_}
 use mathlib.Core.Bool.{Bool, true, false}
 use mathlib.Core.List.{List, [], _∷_}
-use native.Mathlib.Nat.{le-refl, one-le-mul, mul-assoc, mul-one, le-mul-of-pos-right}
+use native.Mathlib.Nat.{le-refl, one-le-mul, mul-assoc, mul-one, mul-zero, zero-mul, le-mul-of-pos-right}
 use native.Mathlib.Numerals.{add-one}
 use native.Mathlib.Omega.{arith}
 use lib.ListN.{length, take, drop, getD, drop-of-length-le}
 use lib.Seq.{drop-cons}
 use lib.Dec.{leb, eqb}
-use borrow.Author.Tests.{eqb-true, ne-eqb, leb-true, leb-false, le-leb, lt-leb}
+use borrow.Author.Tests.{eqb-true, eqb-false, ne-eqb, leb-true, leb-false, le-leb, lt-leb}
 use Rattle.format.specs.declared.Dimensions.{Dimensions}
 use Rattle.format.specs.Tools.{pick, both, within, every}
 use Rattle.format.specs.Picture.{mostDimensions, mostCells, product, cells, dimensionsAllowed}
@@ -108,8 +108,15 @@ zero-refused : (n : ℕ) → extentAllowed n 0 ≡ false
 zero-refused zero = refl
 zero-refused (suc n) = refl
 
+count-nought : (n : ℕ) (es : List ℕ) → countFrom n 0 es ≡ 0
+unfolding countFrom
+count-nought n [] = refl
+count-nought n (e ∷ es) =
+    let later = count-nought (n - 1) es in
+    cases (extentAllowed n e) (λ a. rw (a, zero-mul e) later) (λ a. rw a)
+
 -- an extent of a dimension, of which n are left, and one past them
-pub dimension-allowed : (n e : ℕ) → 0 < n → (e ≡ 0 → ⊥) → extentAllowed n e ≡ true
+dimension-allowed : (n e : ℕ) → 0 < n → (e ≡ 0 → ⊥) → extentAllowed n e ≡ true
 dimension-allowed zero e h k = absurd (omega arith)
 dimension-allowed (suc n) e h k = le-leb 1 e (omega (arith, k))
 
@@ -132,8 +139,15 @@ module _ (m c i : ℕ) (es : List ℕ) where
   unfolding countFrom
   count-refused h a = rw (drop-cons es i 0 h, a)
 
-  pub count-zero : i < length es → getD es i 0 ≡ 0 → countFrom (m - i) c (drop i es) ≡ 0
-  count-zero h z = count-refused h (rw z (zero-refused (m - i)))
+  -- an extent of a dimension: 0 is not allowed, and makes the product 0
+  pub count-dimension : i < length es → 0 < m - i → c * getD es i 0 ≤ mostCells
+      → countFrom (m - i) c (drop i es) ≡ countFrom (m - (i + 1)) (c * getD es i 0) (drop (i + 1) es)
+  count-dimension h d l =
+      cases (eqb (getD es i 0) 0)
+      (λ t.
+      let z = eqb-true (getD es i 0) 0 t in
+      count-refused h (rw z (zero-refused (m - i))) ∙ sym (rw (z, mul-zero c) (count-nought (m - (i + 1)) (drop (i + 1) es))))
+      (λ t. count-step h (dimension-allowed (m - i) (getD es i 0) d (eqb-false (getD es i 0) 0 t)) l)
 
   pub count-past : i < length es → mostCells < c * getD es i 0 → countFrom (m - i) c (drop i es) ≡ 0
   unfolding countFrom

@@ -6,7 +6,7 @@ ghost use Prim.Native.Nat.{_≤_};
 ghost use Rattle.format.specs.Tools.{pick};
 ghost use Rattle.format.specs.Picture.{cells, dimensionsAllowed};
 
-// The number of cells, or 0 where the dimensions are not allowed. It stops as soon as the product passes the most.
+// The number of cells, or 0 where the dimensions are not allowed. It stops as soon as the product passes the most; an extent of 0 makes the product 0.
 pub fn cell_count(d: Dimensions) -> u32
     ensures { λ r. ⌜ (r ≡ pick (dimensionsAllowed d) (cells d) 0) × (r ≤ 16777216) ⌝ }
 {
@@ -21,9 +21,6 @@ pub fn cell_count(d: Dimensions) -> u32
     let mut i: usize = 0;
     while i < DIMS {
         let e = extents[i];
-        if e == 0 {
-            return 0;
-        }
         if dimensions <= i {
             if e != 1 {
                 return 0;

@@ -1,8 +1,7 @@
 -- The loop's invariant: the product so far, continued over the extents that are left, gives the whole. Assumes nothing.
 use mathlib.Core.Path.{_≡_, sym, ap, _∙_}
-use mathlib.Core.Bool.{true}
 use mathlib.Core.Logic.{⊎-elim}
-use Prim.Native.Nat.{ℕ, _-_, _*_, _≤_}
+use Prim.Native.Nat.{ℕ, _+_, _-_, _*_, _≤_}
 use mir.Val.{Fits}
 use mir.Syntax.{w32}
 use native.Mathlib.Nat.{mul-le-mul}
@@ -12,9 +11,9 @@ use borrow.Author.Needs.{needs}
 use borrow.Author.Tests.{le-leb, lt-leb}
 use Rattle.format.specs.Tools.{pick}
 use Rattle.format.specs.Picture.{cells, dimensionsAllowed, mostDimensions}
-use Rattle.header.specs.CellCount.{extentAllowed, countFrom}
-use Rattle.header.proofs.CellCount.{count-cells, count-outside, dimension-allowed, past-allowed, past-refused}
-use Rattle.header.proofs.CellCount.{count-step, count-refused, count-zero, count-past, count-end}
+use Rattle.header.specs.CellCount.{countFrom}
+use Rattle.header.proofs.CellCount.{count-cells, count-outside, past-allowed, past-refused}
+use Rattle.header.proofs.CellCount.{count-step, count-refused, count-dimension, count-past, count-end}
 use Rattle.header.proofs.extents.cell_count.Statement.{statement}
 use Rattle.header.proofs.extents.cell_count.Tie as tie
 
@@ -64,32 +63,27 @@ array-read-e c = search needs
 
 returns-3 : tie.Need-returns-3 Inv-loop μ-loop
 returns-3 c =
-    let f = four (c .before .before .before .before .before .before) in
-    (whole (c .before) 0 (count-zero _ _ _ _ (omega arith) (c .if3 .taken)), omega arith)
-
-returns-4 : tie.Need-returns-4 Inv-loop μ-loop
-returns-4 c =
-    let s = c .before .before .before .before .before .before .before .before in
+    let s = c .before .before .before .before .before .before .before in
     let f = four s in
-    let none : s .args .d .count - c .before .before .before .before .loop .i ≡ 0 = omega arith in
-    (whole (c .before .before .before) 0 (count-refused _ _ _ _ (omega arith) (past-refused _ _ none (c .if5 .taken))), omega arith)
+    let none : s .args .d .count - c .before .before .before .loop .i ≡ 0 = omega arith in
+    (whole (c .before .before) 0 (count-refused _ _ _ _ (omega arith) (past-refused _ _ none (c .if4 .taken))), omega arith)
 
 cast-cells : tie.Need-cast-cells Inv-loop μ-loop
 cast-cells c = search needs
 
 mul-cells : tie.Need-mul-cells Inv-loop μ-loop
 mul-cells c =
-    let l = c .before .before .before .loop in
-    let e = getD (c .before .before .before .before .before .before .before .args .d .extents) (l .i) 0 in
+    let l = c .before .before .loop in
+    let e = getD (c .before .before .before .before .before .before .args .d .extents) (l .i) 0 in
     let fits : Fits w32 e = search needs in
     let small : e ≤ 4294967295 = omega arith in
     let most : l .cells * e ≤ 16777216 * 4294967295 = mul-le-mul (l .inv .1) small in
     record { fits = omega arith }
 
-returns-5 : tie.Need-returns-5 Inv-loop μ-loop
-returns-5 c =
-    let f = four (c .before .before .before .before .before .before .before .before) in
-    (whole (c .before .before .before) 0 (count-past _ _ _ _ (omega arith) (omega arith)), omega arith)
+returns-4 : tie.Need-returns-4 Inv-loop μ-loop
+returns-4 c =
+    let f = four (c .before .before .before .before .before .before .before) in
+    (whole (c .before .before) 0 (count-past _ _ _ _ (omega arith) (omega arith)), omega arith)
 
 add-i : tie.Need-add-i Inv-loop μ-loop
 add-i c = search needs
@@ -99,24 +93,24 @@ loop-less c = search needs
 
 loop-again : tie.Need-loop-again Inv-loop μ-loop
 loop-again c =
-    let l = c .before .before .before .before .loop in
-    let s = c .before .before .before .before .before .before .before .before in
+    let l = c .before .before .before .loop in
+    let s = c .before .before .before .before .before .before .before in
     let e = s .args .d .extents in
     let f = four s in
-    let n = s .args .d .count - l .i in
+    let m = s .args .d .count in
     let small : l .cells * getD e (l .i) 0 ≤ 16777216 = omega arith in
-    let ok : extentAllowed n (getD e (l .i) 0) ≡ true =
+    let step : countFrom (m - l .i) (l .cells) (drop (l .i) e) ≡ countFrom (m - (l .i + 1)) (l .cells * getD e (l .i) 0) (drop (l .i + 1) e) =
     ⊎-elim
-    (λ w. past-allowed n (getD e (l .i) 0) (omega (arith, w .0 .taken)) (w .1 .left))
-    (λ w. dimension-allowed n (getD e (l .i) 0) (omega (arith, w .left)) (c .before .before .if3 .left))
-    (c .before .if4 .came) in
-    (omega arith, small, sym (count-step (s .args .d .count) (l .cells) (l .i) e (omega arith) ok small) ∙ l .inv .2)
+    (λ w. count-step m (l .cells) (l .i) e (omega arith) (past-allowed (m - l .i) (getD e (l .i) 0) (omega (arith, w .0 .taken)) (w .1 .left)) small)
+    (λ w. count-dimension m (l .cells) (l .i) e (omega arith) (omega (arith, w .left)) small)
+    (c .before .if3 .came) in
+    (omega arith, small, sym step ∙ l .inv .2)
 
 cast-result : tie.Need-cast-result Inv-loop μ-loop
 cast-result c = search needs
 
-returns-6 : tie.Need-returns-6 Inv-loop μ-loop
-returns-6 c =
+returns-5 : tie.Need-returns-5 Inv-loop μ-loop
+returns-5 c =
     let l = c .before .loop in
     let s = c .before .before .before .before .before in
     let f = four s in (
@@ -138,12 +132,11 @@ cell-count-spec =
     mul-e
     array-read-e
     returns-3
-    returns-4
     cast-cells
     mul-cells
-    returns-5
+    returns-4
     add-i
     loop-less
     loop-again
     cast-result
-    returns-6)
+    returns-5)
