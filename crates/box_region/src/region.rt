@@ -4,7 +4,7 @@ ghost use Rattle.box_region.specs.Region.{Placed, SameCells};
 
 use format::Coordinates;
 
-#[derive(Drop)]
+#[derive(Clone, Copy)]
 pub struct Region {
     pub extents: Coordinates,
     pub low: Coordinates,

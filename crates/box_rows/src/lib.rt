@@ -18,7 +18,7 @@ use scatter::fill;
 use wire::get_u32;
 
 // How far a box is put out: the cursor, and the words that the destination has.
-#[derive(Drop)]
+#[derive(Clone, Copy)]
 pub struct Filled {
     pub cursor: Cursor,
     pub words: usize,

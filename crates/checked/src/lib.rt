@@ -16,7 +16,7 @@ use wire::get_u32;
 use words::words_right;
 
 // What a check finds: the number, and the header's numbers of a file that is accepted.
-#[derive(Drop)]
+#[derive(Clone, Copy)]
 pub struct Verdict {
     pub number: u32,
     pub view: View,

@@ -10,14 +10,14 @@ use wire::load_u32;
 pub const NO_TARGET: usize = 0xffff_ffff_ffff_ffff;
 
 // How far a search has come: the position of a rank, and the number of jumps that are taken up to it.
-#[derive(Drop)]
+#[derive(Clone, Copy)]
 pub struct Reached {
     pub position: usize,
     pub taken: usize,
 }
 
 // Where a walk stops: a rank, and what is reached there.
-#[derive(Drop)]
+#[derive(Clone, Copy)]
 pub struct Place {
     pub rank: usize,
     pub reached: Reached,

@@ -2,7 +2,7 @@
 pub mod words;
 
 // Which ranks of a file go into another: those before `before`, then, where `put`, a new one at `position`, then those from `after` on.
-#[derive(Drop)]
+#[derive(Clone, Copy)]
 pub struct Edit {
     pub before: u32,
     pub put: bool,

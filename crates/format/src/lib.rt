@@ -2,15 +2,15 @@
 pub mod signals;
 
 // A position in the picture: LP in source document 000.
-#[derive(Drop)]
+#[derive(Clone, Copy)]
 pub struct Position(pub u32);
 
 // A rank among the stored words: SP in source document 000.
-#[derive(Drop)]
+#[derive(Clone, Copy)]
 pub struct Rank(pub u32);
 
 // Kind, width and step.
-#[derive(Drop)]
+#[derive(Clone, Copy)]
 pub struct Setting {
     pub kind: u32,
     pub width: u32,
@@ -26,21 +26,21 @@ pub const DIMS: usize = 4;
 pub type Coordinates = [u32; DIMS];
 
 // The dimension count, and the extents: 1 past the count.
-#[derive(Drop)]
+#[derive(Clone, Copy)]
 pub struct Dimensions {
     pub count: u32,
     pub extents: Coordinates,
 }
 
 // Cell at a position.
-#[derive(Drop)]
+#[derive(Clone, Copy)]
 pub enum CellAnswer {
     Word(u32),
     Refused(u32),
 }
 
 // Rank at a position; at an empty cell the number of stored cells before it, which is the rank that a word written there would have.
-#[derive(Drop)]
+#[derive(Clone, Copy)]
 pub enum RankAnswer {
     Rank(Rank),
     Empty(Rank),
@@ -48,14 +48,14 @@ pub enum RankAnswer {
 }
 
 // Position of a rank, and position of coordinates.
-#[derive(Drop)]
+#[derive(Clone, Copy)]
 pub enum PositionAnswer {
     Position(Position),
     Refused(u32),
 }
 
 // Coordinates of a position.
-#[derive(Drop)]
+#[derive(Clone, Copy)]
 pub enum CoordinatesAnswer {
     Coordinates(Coordinates),
     Refused(u32),
@@ -63,7 +63,7 @@ pub enum CoordinatesAnswer {
 
 // The header's numbers: setting, cells, the empty word, the counts of stored words and of the entries of each part, and the offsets of first part,
 // second part and stored words. An opened file keeps them.
-#[derive(Drop)]
+#[derive(Clone, Copy)]
 pub struct View {
     pub kind: u32,
     pub width: u32,

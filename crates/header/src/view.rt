@@ -10,7 +10,7 @@ use format::{Dimensions, HEADER, Setting, View};
 use wire::{get_u8, get_u32};
 
 // N, the entry counts of the first and second part, and the offsets of first part, second part and stored words.
-#[derive(Drop)]
+#[derive(Clone, Copy)]
 struct Counts {
     words: u32,
     firsts: u32,

@@ -20,7 +20,7 @@ pub fn starts_right(file: &[u8], v: View) -> bool
 
 // How far a pass has come: the least position that a jump may have, which is past what a difference reaches from the position before; the
 // jumps that are left; and whether all was right.
-#[derive(Drop)]
+#[derive(Clone, Copy)]
 pub struct Passed {
     pub least: usize,
     pub left: usize,

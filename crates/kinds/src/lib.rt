@@ -9,7 +9,7 @@ pub mod steps;
 use parts::Sizes;
 
 // What is measured of a file before it is put out: whether each offset fits its width, and, where they do, the sizes.
-#[derive(Drop)]
+#[derive(Clone, Copy)]
 pub struct Measured {
     pub fits: bool,
     pub sizes: Sizes,

@@ -12,7 +12,7 @@ use wire::Pair;
 use wire::numbers::{index, lesser, long};
 
 // A level above so far: how many entries are left in the page, the entry before, and whether each entry is the sum that it should be.
-#[derive(Drop)]
+#[derive(Clone, Copy)]
 struct Compared {
     left: u32,
     sum: Pair,

@@ -12,7 +12,7 @@ use wire::numbers::{index, lesser};
 use wire::{Pair, get_pair};
 
 // The sums of a page so far, all cells and the empty ones among them, and how many entries are left in it.
-#[derive(Drop)]
+#[derive(Clone, Copy)]
 struct Sums {
     left: u32,
     cells: u32,

@@ -38,7 +38,7 @@ pub fn upper_count(b: u32, v: u32) -> u32
 }
 
 // How many levels there are, and how many entries they have together.
-#[derive(Drop)]
+#[derive(Clone, Copy)]
 pub struct Levels {
     pub count: usize,
     pub entries: usize,

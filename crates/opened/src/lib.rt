@@ -10,7 +10,7 @@ use format::signals::BEYOND;
 use format::{CellAnswer, Position, PositionAnswer, Rank, RankAnswer, View};
 
 // The bytes and the header's numbers of an accepted file; of a refused one no bytes, and all counts 0.
-#[derive(Drop)]
+#[derive(Clone, Copy)]
 pub struct Opened<'a> {
     pub bytes: &'a [u8],
     pub view: View,

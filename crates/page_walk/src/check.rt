@@ -10,7 +10,7 @@ use wire::{Pair, get_pair};
 
 // The pages of level 0 so far: how many begin with an entry that does not follow on the one before, whether each past the first begins with a run of its own,
 // and the sums of their last entries, all cells and the empty ones among them.
-#[derive(Drop)]
+#[derive(Clone, Copy)]
 struct Pages {
     falls: u32,
     right: bool,

@@ -65,7 +65,7 @@ fn past_there(file: &[u8], v: View, c: Cursor, k: u32) -> Cursor
 }
 
 // Where a walk into a buffer stands: the cursor, and how many elements are filled.
-#[derive(Drop)]
+#[derive(Clone, Copy)]
 struct Ahead {
     c: Cursor,
     filled: usize,

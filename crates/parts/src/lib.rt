@@ -5,21 +5,21 @@ pub mod search;
 pub mod walk;
 
 // Where a position stands among the stored ones: how many are below it, and whether it is one of them.
-#[derive(Drop)]
+#[derive(Clone, Copy)]
 pub struct Found {
     pub below: u32,
     pub here: bool,
 }
 
 // Where a rank stands, and how many ranks from it on stand at the cells that follow without a gap.
-#[derive(Drop)]
+#[derive(Clone, Copy)]
 pub struct RunPart {
     pub at: u64,
     pub cells: u32,
 }
 
 // Whether the entry counts are the kind's, and the bytes of each part by them.
-#[derive(Drop)]
+#[derive(Clone, Copy)]
 pub struct PartBytes {
     pub right: bool,
     pub first: usize,
@@ -27,7 +27,7 @@ pub struct PartBytes {
 }
 
 // A place in a walk along the stored positions of a file.
-#[derive(Drop)]
+#[derive(Clone, Copy)]
 pub struct Cursor {
     // the rank where it stands, and the position of that rank
     pub rank: u32,
@@ -45,7 +45,7 @@ pub struct Cursor {
 }
 
 // The encoder between two positions. The same state measures and writes.
-#[derive(Drop)]
+#[derive(Clone, Copy)]
 pub struct Encoder {
     // positions taken so far, and the last of them
     pub rank: u32,
@@ -65,7 +65,7 @@ pub struct Encoder {
 }
 
 // What the header counts: the stored words, the entries of each part, and the bytes of each part, `first` and `second`.
-#[derive(Drop)]
+#[derive(Clone, Copy)]
 pub struct Sizes {
     pub words: u32,
     pub firsts: u32,

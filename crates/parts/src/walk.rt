@@ -9,7 +9,7 @@ use std::num::wrapping_add_u32;
 use wire::{load_u8, load_u16};
 
 // Where a walk along the ranks of a file into an encoder stands.
-#[derive(Drop)]
+#[derive(Clone, Copy)]
 pub struct Walk {
     pub c: Cursor,
     pub e: Encoder,

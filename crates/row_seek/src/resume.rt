@@ -12,7 +12,7 @@ use kinds::steps::{start, stores_runs};
 use parts::Cursor;
 use parts::walk::{before_first, stretch};
 
-#[derive(Drop)]
+#[derive(Clone, Copy)]
 pub struct Sought {
     pub answer: RankAnswer,
     pub cursor: Cursor,

@@ -13,7 +13,7 @@ use parts::Cursor;
 use search::stored_position;
 
 // A rank that stands below a position, and a later one, or N, that does not; `at` is where the later one stands.
-#[derive(Drop)]
+#[derive(Clone, Copy)]
 pub struct Gap {
     pub low: u32,
     pub high: u32,

@@ -5,7 +5,7 @@ ghost use Rattle.format.specs.Stored.{stored};
 ghost use Rattle.format.specs.Runs.{runs};
 
 // How many cells are stored, and how many runs they make.
-#[derive(Drop)]
+#[derive(Clone, Copy)]
 pub struct Tally {
     pub stored: u32,
     pub runs: u32,

@@ -102,7 +102,7 @@ pub fn get_entry(s: &[u8], at: usize, width: u32) -> u32
 }
 
 // Two numbers of four bytes, one after the other.
-#[derive(Drop)]
+#[derive(Clone, Copy)]
 pub struct Pair {
     pub first: u32,
     pub second: u32,
