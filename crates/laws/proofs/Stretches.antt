@@ -1,6 +1,6 @@
 -- The runs in the words of document 01: the longest stretches of the picture's words. Assumes nothing.
 use Prim.Native.Nat.{ℕ, suc, ◌+◌, ◌-◌, ◌≤◌, ◌<◌}
-use mathlib.Core.Path.{◌≡◌, refl, sym, ap, ◌∙◌, subst₂}
+use mathlib.Core.Path.{◌≡◌, refl, sym, ap, ◌∙◌, subst, subst₂}
 use mathlib.Core.List.{List, [], ◌∷◌, ◌++◌, append_assoc}
 use native.Mathlib.Nat.{le_refl, zero-add, add-zero}
 use native.Mathlib.Omega.{arith}
@@ -183,6 +183,9 @@ unfolding empty_cells
 cells_apart E [] h = refl
 cells_apart E (x ∷ ss) h = rw (ne_eqb x E h.0) (cells_apart E ss h.1)
 
+over_same : (E : ℕ) {xs ys : List ℕ} (rs : List Run) → xs ≡ ys → EmptyUpTo E ys rs → EmptyUpTo E xs rs
+over_same E rs p h = subst (λ (x : List ℕ). EmptyUpTo E x rs) (sym p) h
+
 -- with the words `front` before
 up_to : (E : ℕ) (front : List ℕ) {at v : ℕ} {ws : List ℕ} {rs : List Run} → length front ≡ at → empty_cells E front ≡ v
     → Stretches E at v ws rs → EmptyUpTo E (front ++ ws) rs
@@ -193,7 +196,7 @@ up_to E front {at} {v} p q (run es ss rest e a n s t) =
     let l : length all ≡ at + length es + length ss = simp length-append (omega arith) in
     let m : suc (at + length es + length ss - 1) ≡ at + length es + length ss = omega arith in
     let k : empty_cells E all ≡ v + length es = simp cells-append (omega (arith, cells_empties E es e, cells_apart E ss a)) in
-    rw (w, m, take_at all rest (at + length es + length ss) l) (rw (length-append all rest) (omega arith), sym k, up_to E all l k t)
+    rw (w, m, take_at all rest (at + length es + length ss) l) (rw (length-append all rest) (omega arith), sym k, over_same E _ w (up_to E all l k t))
 
 pub empty_up_to : (E : ℕ) (ws : List ℕ) → EmptyUpTo E ws (runs (stored E ws))
 unfolding empty_cells

@@ -1,0 +1,24 @@
+use mathlib.Core.Path.{refl, ◌∙◌}
+use mathlib.Core.Logic.{⊎_elim}
+use native.Mathlib.Nat.{mul-le-mul_right}
+use native.Mathlib.Omega.{arith}
+use borrow.Author.Tests.{le-leb, lt-leb}
+use Rattle.format.specs.Jumps.{jumps_kind}
+use Rattle.jumps.proofs.Held.{widths}
+use Rattle.jumps.proofs.setting.part_bytes.Goals as goal
+
+pub overflow_mul-result-2 : goal.overflow_mul-result-2
+overflow_mul-result-2 c =
+        let m = mul-le-mul_right c.args.v.seconds (widths c.args.v.width c.args.v.step c.requires.0).1 in
+    record { fits = omega arith }
+
+pub returns : goal.returns
+unfolding jumps_kind
+returns c =
+    record {
+      right = ⊎_elim (λ w. rw (le-leb _ _ w.0.taken) w.1) (λ w. let q = lt-leb _ _ w.0.left in rw q (w.1 ∙ q)) c.if-v.branch;
+      first = λ e. refl;
+      overflow_mul-result-2 = λ e. refl;
+      first-most = omega arith;
+      second-most = let m = mul-le-mul_right c.args.v.seconds (widths c.args.v.width c.args.v.step c.requires.0).1 in omega arith;
+    }

@@ -1,0 +1,9 @@
+-- `past_page` meets its contract. Assumes nothing.
+use Rattle.page_walk.proofs.Along.{past_path}
+use Rattle.page_walk.proofs.check.past_page.Goals as goal
+
+-- `past_page` meets its contract. Assumes nothing.
+pub returns : goal.returns
+returns c =
+        let a = c.args in
+    past_path a.s a.x a.y _ c.fall.ensures.0

@@ -1,0 +1,11 @@
+-- `along_page` meets its contract. Each turn fills the cells of a run, and goes to the next entry of the page. Assumes nothing.
+use Rattle.std.proofs.Common.{◌-◌, length}
+use Rattle.page_walk.specs.Steps.{next_in, Filled}
+use Rattle.page_walk.proofs.steps.along_page.Given as goal
+
+-- `along_page` meets its contract. Each turn fills the cells of a run, and goes to the next entry of the page. Assumes nothing.
+abbrev pub invariant-loop-i : goal.invariant-loop-i
+invariant-loop-i l = Filled (next_in l.file l.second l.step) l.initial.c l.from l.i l.initial.out l.c l.out
+
+abbrev pub decreases-loop-i : goal.decreases-loop-i
+decreases-loop-i l = length l.initial.out - l.i

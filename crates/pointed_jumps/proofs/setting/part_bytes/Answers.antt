@@ -1,0 +1,40 @@
+-- The bytes of the parts, by the counts. Assumes nothing.
+use Prim.Native.Nat.{◌*◌, ◌≤◌}
+use mathlib.Core.Path.{refl, ◌∙◌}
+use mathlib.Core.Logic.{⊎_elim}
+use native.Mathlib.Nat.{mul-le-mul_right}
+use native.Mathlib.Omega.{arith}
+use borrow.Author.Tests.{le-leb, lt-leb}
+use Rattle.format.specs.PointedJumps.{pointed_kind}
+use Rattle.pointed_jumps.proofs.Held.{widths, steps}
+use Rattle.pointed_jumps.proofs.setting.part_bytes.Goals.{After-pointer_count-pointers}
+use Rattle.pointed_jumps.proofs.setting.part_bytes.Goals as goal
+
+-- The bytes of the parts, by the counts. Assumes nothing.
+pub pointer_count-pointers-requires : goal.pointer_count-pointers-requires
+pointer_count-pointers-requires c = (steps _ _ c.requires.0).0
+
+-- the bytes of the differences
+differences-most : (c : After-pointer_count-pointers) → let v = c.args.v in v.width * v.seconds ≤ 2 * v.seconds
+differences-most c = let v = c.args.v in mul-le-mul_right v.seconds (widths v.width v.step c.requires.0).1
+
+pub overflow_mul-result-2 : goal.overflow_mul-result-2
+overflow_mul-result-2 c = let m = differences-most (goal.at.overflow_mul-result-2 c).After-pointer_count-pointers in record { fits = omega arith }
+
+pub overflow_add-result : goal.overflow_add-result
+overflow_add-result c = let m = differences-most (goal.at.overflow_add-result c).After-pointer_count-pointers in let n = c.pointer_count-pointers.ensures.1 in record { fits = omega arith }
+
+pub returns : goal.returns
+unfolding pointed_kind
+returns c =
+    let v = c.args.v in
+    let m = differences-most (goal.at.returns c).After-pointer_count-pointers in
+    let n = c.pointer_count-pointers.ensures in
+    let n1 = n.1 in
+    record {
+      right = ⊎_elim (λ w. rw (le-leb _ _ w.0.taken) w.1) (λ w. let q = lt-leb _ _ w.0.left in rw q (w.1 ∙ q)) c.if-v.branch;
+      first = λ e. refl;
+      second = λ e. rw n.0;
+      first-most = omega arith;
+      second-most = omega arith;
+    }

@@ -1,0 +1,19 @@
+use mathlib.Core.Path.{sym}
+use Rattle.parts.proofs.Taken.{put-all-end}
+use Rattle.kinds.specs.Coding.{coder}
+use Rattle.rewrite.proofs.Stretch.{all_end}
+use Rattle.rewrite.proofs.walk.put_added.Goals as goal
+
+pub put_all-requires : goal.put_all-requires
+put_all-requires c =
+    let p = c.requires in
+    let t = c.if-x.true in
+    (p.0, rw t at p.1, rw t at p.2)
+
+pub returns-then-x : goal.returns-then-x
+returns-then-x c = rw c.if-x.true c.put_all.ensures
+
+pub returns : goal.returns
+returns c =
+    let a = c.args in
+    rw c.if-x.false (sym (all_end a.s a.e), sym (put-all-end (coder a.s) a.dst.now a.e))

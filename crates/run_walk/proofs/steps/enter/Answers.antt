@@ -1,0 +1,10 @@
+-- `runs::steps::enter` meets its contract. Assumes nothing.
+use Rattle.wire.specs.Wire.{add32}
+use Rattle.run_walk.specs.Steps.{entered}
+use Rattle.run_walk.proofs.steps.enter.Goals as goal
+
+-- `runs::steps::enter` meets its contract. Assumes nothing.
+pub returns : goal.returns
+unfolding entered add32
+returns c =
+        rw (c.wrapping_add_u32-3.ensures.value, c.wrapping_add_u32-2.ensures.value, c.wrapping_add_u32.ensures.value, c.load_pair-run.ensures)

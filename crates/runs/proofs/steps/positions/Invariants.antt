@@ -1,0 +1,12 @@
+-- `runs::steps::positions` meets its contract. Assumes nothing.
+use Rattle.std.proofs.Common.{◌≡◌, ◌-◌, ◌≤◌, length}
+use Rattle.parts.proofs.Batches.{Partly}
+use Rattle.run_walk.specs.Steps.{next}
+use Rattle.runs.proofs.steps.positions.Given as goal
+
+-- `runs::steps::positions` meets its contract. Assumes nothing.
+abbrev pub invariant-loop-i : goal.invariant-loop-i
+invariant-loop-i l = (l.i ≤ length l.initial.out) × (length l.out ≡ length l.initial.out) × Partly (next l.file l.v) l.initial.c (length l.initial.out) l.c l.out l.i
+
+abbrev pub decreases-loop-i : goal.decreases-loop-i
+decreases-loop-i l = length l.initial.out - l.i
