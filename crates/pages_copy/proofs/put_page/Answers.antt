@@ -62,7 +62,7 @@ fits-here c =
     let f = c.wrapping_sub_u32-first in
     let g = c.wrapping_sub_u32-second in
     page-fits a.file.now a.v a.c _ (runs_here (AT.Else-m-eq0 c)) x.result y.result x.ensures.0 y.ensures.0 a.step a.e c.requires.3 c.requires.4 (room-here (AT.Else-m-eq0 c))
-    (omega arith) a.dst.now a.left c.requires.5 c.requires.6 c.if-left-ranks.false f.result g.result f.ensures (omega arith) g.ensures (omega arith)
+    (omega arith) a.dst.now a.left c.requires.5 c.requires.6 c.if-left-ranks.false f.result g.result f.ensures.value (omega arith) g.ensures.value (omega arith)
 
 further-here : (c : After-wrapping_sub_u32-second)
     → let a = c.args in
@@ -83,7 +83,7 @@ further-here c =
     let f = c.wrapping_sub_u32-first in
     let g = c.wrapping_sub_u32-second in
     page-further a.file.now a.v a.c _ (runs_here (AT.Else-m-eq0 c)) x.result y.result x.ensures.0 y.ensures.0 a.step a.e c.requires.3 c.requires.4 (room-here (AT.Else-m-eq0 c))
-    (omega arith) a.dst.now a.left c.requires.5 c.requires.6 c.if-left-ranks.false f.result g.result f.ensures (omega arith) g.ensures (omega arith)
+    (omega arith) a.dst.now a.left c.requires.5 c.requires.6 c.if-left-ranks.false f.result g.result f.ensures.value (omega arith) g.ensures.value (omega arith)
 
 pub returns-then-m-eq0 : goal.returns-then-m-eq0
 returns-then-m-eq0 c = let a = c.args in none-further _ _ a.c a.e a.left a.dst.now

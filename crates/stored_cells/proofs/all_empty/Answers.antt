@@ -9,6 +9,7 @@ use lib.ListN.{length, get_or, take}
 use lib.Seq.{get_or-take, length-take-le}
 use Rattle.stored_cells.proofs.Stored.{not-all, all_yet, all_end}
 use Rattle.stored_cells.proofs.all_empty.Goals as goal
+use Rattle.stored_cells.proofs.all_empty.Goals.{else-words-from, then-words-from}
 
 pub loop-i-init : goal.loop-i-init
 loop-i-init c = (omega arith, rw add-zero)
@@ -25,10 +26,7 @@ loop-i-preserved c =
     let same : get_or xs (a.from + l.i) 0 ≡ get_or a.words.now (a.from + l.i) 0 = get_or-take end a.words.now (a.from + l.i) 0 (omega arith) in
     let next : a.from + (l.i + 1) ≡ suc (a.from + l.i) = omega arith in (
       omega arith,
-      ⊎_elim
-          (λ w. rw w.1 (not-all a.empty xs (a.from + l.i) (a.from + (l.i + 1)) l.same inside (λ e. w.0.taken (sym same ∙ e)) ∙ l.invariant.1))
-          (λ w. rw w.1 (all_yet a.empty xs (a.from + l.i) (a.from + (l.i + 1)) l.same inside (same ∙ w.0.left) next ∙ l.invariant.1))
-          c.if-words-from.branch,
+      elim c.if-words-from.branch [ then-words-from w ↦ rw w.same-is (not-all a.empty xs (a.from + l.i) (a.from + (l.i + 1)) l.same inside (λ e. w.if-words-from.true (sym same ∙ e)) ∙ l.invariant.1) | else-words-from w ↦ rw w.same-is (all_yet a.empty xs (a.from + l.i) (a.from + (l.i + 1)) l.same inside (same ∙ w.if-words-from.false) next ∙ l.invariant.1) ],
     )
 
 pub returns : goal.returns

@@ -19,8 +19,9 @@ few c = inside-product c.args.d c.args.p.0 c.requires
 -- the divisor is an extent
 pos : (c : In-loop-i) → 1 ≤ get_or c.args.d.extents (c.loop-i.i - 1) 0
 pos c =
-        let f = four (AT.Start c) in
-    extent_least (c.loop-i.i - 1) c.args.d.extents (omega arith) (omega (arith, few (AT.Start c)))
+    let f : length c.args.d.extents ≡ most_dimensions = search rules in
+    let g : c.args.p.0 < product c.args.d.extents = inside-product c.args.d c.args.p.0 c.requires in
+    extent_least (c.loop-i.i - 1) c.args.d.extents (omega arith) (omega arith)
 
 pub loop-i-init : goal.loop-i-init
 loop-i-init c =
@@ -51,3 +52,9 @@ returns c =
         let l = c.loop-i in
     let none : l.i ≡ 0 = omega arith in
     back_end l.rest c.args.p.0 c.args.d.extents l.at (l.invariant.1 ∙ sym (four (goal.at.returns c).Start)) (rw none at l.invariant.2) (rw none at l.invariant.3) (rw none at l.invariant.4) (few (goal.at.returns c).Start)
+
+pub nonzero_rem-at : goal.nonzero_rem-at
+nonzero_rem-at c = pos (goal.at.nonzero_rem-at c).In-loop-i
+
+pub nonzero_div-rest : goal.nonzero_div-rest
+nonzero_div-rest c = pos (goal.at.nonzero_div-rest c).In-loop-i

@@ -35,7 +35,7 @@ room : (c : Else-e-a)
     ≤ product c.args.d.extents
 room c =
         let l = c.loop-i in
-    let f = four (AT.Start c) in
+    let f : (length c.args.d.extents ≡ most_dimensions) × (length c.args.at ≡ most_dimensions) = (search rules, search rules) in
     room_turn l.i l.p c.args.d.extents c.args.at (omega arith) _ l.invariant.3 (below c)
 
 next : (c : Else-e-a)
@@ -43,8 +43,10 @@ next : (c : Else-e-a)
     + get_or c.args.at c.loop-i.i 0
     < 16777216
 next c =
-            let b = room-below _ (c.loop-i.i + 1) _ c.args.d.extents (product-some c.args.d (some (AT.Else-cell_count-eq0 c))) (room c) in
-    omega (arith, most (AT.Else-cell_count-eq0 c))
+    let s : count_of c.args.d ≡ 0 → ⊥ = λ z. c.if-cell_count-eq0.false (c.cell_count.ensures.0 ∙ z) in
+    let p : product c.args.d.extents ≡ c.cell_count.result = sym (count-product c.args.d s) ∙ sym c.cell_count.ensures.0 in
+    let b = room-below _ (c.loop-i.i + 1) _ c.args.d.extents (product-some c.args.d s) (room c) in
+    omega (arith, c.cell_count.ensures.1)
 
 pub returns-then-cell_count-eq0 : goal.returns-then-cell_count-eq0
 returns-then-cell_count-eq0 c = position_extent c.args.d c.args.at (sym c.cell_count.ensures.0 ∙ c.if-cell_count-eq0.true)

@@ -16,6 +16,7 @@ use Rattle.header.proofs.CellCount.{count-cells, count_outside, past-allowed, pa
 use Rattle.header.proofs.CellCount.{count-step, count-refused, count_dimension, count_past, count-end}
 use Rattle.header.proofs.extents.cell_count.Goals.{In-loop-i, Start}
 use Rattle.header.proofs.extents.cell_count.Goals as goal
+use Rattle.header.proofs.extents.cell_count.Goals.{else-dimensions-i, then-dimensions-i+else-e-ne1}
 
 -- an array of four
 four : (c : Start) → length c.args.d.extents ≡ most_dimensions
@@ -28,7 +29,8 @@ whole : (c : In-loop-i) (x : ℕ)
     ≡ x
     → x ≡ pick (dimensions_allowed c.args.d) (cells c.args.d) 0
 whole c x h =
-        sym h ∙ c.loop-i.invariant.2 ∙ count-cells c.args.d (omega arith) (omega arith) (four (AT.Start c))
+    let f : length c.args.d.extents ≡ most_dimensions = search rules in
+    sym h ∙ c.loop-i.invariant.2 ∙ count-cells c.args.d (omega arith) (omega arith) f
 
 pub returns-in_default : goal.returns-in_default
 returns-in_default c = (count_outside c.args.d (rw (lt-leb 1 c.args.d.count (omega arith))), omega arith)
@@ -72,10 +74,7 @@ loop-i-preserved c =
     let m = c.args.d.count in
     let small : l.cells * get_or e l.i 0 ≤ 16777216 = omega arith in
     let step : count_from (m - l.i) l.cells (drop l.i e) ≡ count_from (m - (l.i + 1)) (l.cells * get_or e l.i 0) (drop (l.i + 1) e) =
-    ⊎_elim
-    (λ w. count-step m l.cells l.i e (omega arith) (past-allowed (m - l.i) (get_or e l.i 0) (omega (arith, w.0.taken)) w.1.left) small)
-    (λ w. count_dimension m l.cells l.i e (omega arith) (omega (arith, w.left)) small)
-    c.if-dimensions-i.branch in
+    elim c.if-dimensions-i.branch [ then-dimensions-i+else-e-ne1 w ↦ count-step m l.cells l.i e (omega arith) (past-allowed (m - l.i) (get_or e l.i 0) (omega (arith, w.if-dimensions-i.true)) w.if-e-ne1.false) small | else-dimensions-i w ↦ count_dimension m l.cells l.i e (omega arith) (omega (arith, w.if-dimensions-i.false)) small ] in
     (omega arith, small, sym step ∙ l.invariant.2)
 
 pub returns : goal.returns

@@ -1,6 +1,7 @@
 use Rattle.std.proofs.Common.{refl, ⊎_elim, arith, eq-eqb, ne_eqb}
 use Rattle.format.specs.Positions.{positions_kind}
 use Rattle.positions.proofs.setting.part_bytes.Goals as goal
+use Rattle.positions.proofs.setting.part_bytes.Goals.{else-v, then-v}
 
 pub returns : goal.returns
 unfolding positions_kind
@@ -8,10 +9,7 @@ returns c =
     let v = c.args.v in
     record {
       right =
-          ⊎_elim
-          (λ w. rw (w.1, eq-eqb v.firsts v.words w.0.taken))
-          (λ w. rw (w.1, ne_eqb v.firsts v.words w.0.left))
-          c.if-v.branch;
+          elim c.if-v.branch [ then-v w ↦ rw (w.result-is, eq-eqb v.firsts v.words w.if-v.true) | else-v w ↦ rw (w.result-is, ne_eqb v.firsts v.words w.if-v.false) ];
       first = λ t. refl;
       second = λ t. refl;
       first-most = omega arith;

@@ -15,7 +15,7 @@ loop-i-preserved c =
       search rules,
       search rules,
       copied_on a.file.now a.from a.first a.second a.at a.dst.now l.i l.dst _ x.result f.result g.result l.invariant.2 x.ensures.0
-          f.ensures g.ensures c.put_pair.ensures,
+          f.ensures.value g.ensures.value c.put_pair.ensures,
     )
 
 pub returns : goal.returns

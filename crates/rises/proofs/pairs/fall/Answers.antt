@@ -7,11 +7,11 @@ returns-then-y-x c =
         let a = c.args in
     let x = c.wrapping_sub_u32-cells in
     let y = c.wrapping_sub_u32-empty in
-    (fallen-one _ _ (follows-not a.x a.y x.result y.result (omega arith) (omega arith) x.ensures y.ensures) c.if-y-x.true, omega arith)
+    (fallen-one _ _ (follows-not a.x a.y x.result y.result (omega arith) (omega arith) x.ensures.value y.ensures.value) c.if-y-x.true, omega arith)
 
 pub returns-else-y-x : goal.returns-else-y-x
 returns-else-y-x c =
         let a = c.args in
     let x = c.wrapping_sub_u32-cells in
     let y = c.wrapping_sub_u32-empty in
-    (fallen-none _ _ (follows-not a.x a.y x.result y.result (omega arith) (omega arith) x.ensures y.ensures) c.if-y-x.false, omega arith)
+    (fallen-none _ _ (follows-not a.x a.y x.result y.result (omega arith) (omega arith) x.ensures.value y.ensures.value) c.if-y-x.false, omega arith)
