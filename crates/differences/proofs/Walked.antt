@@ -46,17 +46,17 @@ module _ (w start second : ℕ) (b : List ℕ) where
     walked_next k s e f = rw (f, e, add-one k)
 
     -- rank by rank is all at once
-    pub at_once : (n : ℕ) (s : Reached) → walked w start second b r n s ≡ at_once w start second b r n s
+    pub at_once_lem : (n : ℕ) (s : Reached) → walked w start second b r n s ≡ at_once w start second b r n s
     unfolding walked stepped step_by zeros behind at_once
-    at_once zero s = rw (add-zero s.position, add-zero s.taken)
-    at_once (suc n) s =
+    at_once_lem zero s = rw (add-zero s.position, add-zero s.taken)
+    at_once_lem (suc n) s =
         let d = field w (second + w * (r + suc n)) b in
         let z = zeros w second b r n in
         cases (eqb d 0)
         (λ e.
         let f : s.taken + (z + 1) - 1 ≡ s.taken + z = omega arith in
-        rw (at_once n s, e, if_zero {X = ℕ} d 1 0 (eqb-true d 0 e), ne_eqb (z + 1) 0 (λ x. omega arith), f, add-zero, add_assoc))
-        (λ e. rw (at_once n s, e, if_more {X = ℕ} d 1 0 (eqb-false d 0 e), add-zero z, add_assoc))
+        rw (at_once_lem n s, e, if_zero {X = ℕ} d 1 0 (eqb-true d 0 e), ne_eqb (z + 1) 0 (λ x. omega arith), f, add-zero, add_assoc))
+        (λ e. rw (at_once_lem n s, e, if_more {X = ℕ} d 1 0 (eqb-false d 0 e), add-zero z, add_assoc))
 
     module _ (n : ℕ) (s : Reached) {z : ℕ} (e : z ≡ zeros w second b r n) where
       -- without a jump
@@ -65,7 +65,7 @@ module _ (w start second : ℕ) (b : List ℕ) where
       unfolding at_once
       by_behind h f =
           let o : zeros w second b r n ≡ 0 = sym e ∙ h in
-          rw (at_once n s, o, f, add-zero s.taken)
+          rw (at_once_lem n s, o, f, add-zero s.taken)
 
       pub by_sum : z ≡ 0 → {x : ℕ} → x ≡ total w second b r n
           → ◌≡◌ {A = Reached} (record { position = s.position + x; taken = s.taken }) (walked w start second b r n s)
@@ -75,7 +75,7 @@ module _ (w start second : ℕ) (b : List ℕ) where
       pub by_last_jump : (z ≡ 0 → ⊥) → {x : ℕ} → x ≡ behind w second b r n → {t : Reached}
           → t ≡ record { position = whole 4 (start + 4 * (s.taken + z - 1)) b + x; taken = s.taken + z } → t ≡ walked w start second b r n s
       unfolding at_once
-      by_last_jump h g f = f ∙ rw (at_once n s, g, ← e, ne_eqb z 0 h)
+      by_last_jump h g f = f ∙ rw (at_once_lem n s, g, ← e, ne_eqb z 0 h)
 
   -- a walk from where another stopped
   walked_on : (q r m : ℕ) (s : Reached) → walked w start second b (q + r) m (walked w start second b q r s) ≡ walked w start second b q (r + m) s

@@ -1,6 +1,6 @@
 -- The levels of pairs are those that the sizes cut from the list of all entries. Assumes nothing.
 use Prim.Native.Nat.{ℕ, zero, suc, ◌+◌, ◌^◌, ◌≤◌}
-use mathlib.Core.Path.{◌≡◌, refl, sym, ap, ap₂, ◌∙◌}
+use mathlib.Core.Path.{◌≡◌, refl, sym, subst, ap, ap₂, ◌∙◌}
 use mathlib.Core.List.{List, [], ◌∷◌, ◌++◌, append_assoc}
 use native.Mathlib.Nat.{pow-suc, one-le-pow, zero-lt-suc}
 use native.Mathlib.Omega.{arith}
@@ -64,7 +64,8 @@ cut-levels (suc n) b xs h =
     let up = lasts b (level b xs) in
     let i = cut-levels n b up h in
     let zs = up_to (length xs) b ∷ sizes_above n b (up_to (length xs) b) in
-    let sum : total zs (length zs) ≡ length (levels_above n b (level b up)) + up_to (length xs) b = rw u at i.sum in
+    let sum : total zs (length zs) ≡ length (levels_above n b (level b up)) + up_to (length xs) b
+    = subst (λ (k : ℕ). total (k ∷ sizes_above n b k) (suc (length (sizes_above n b k))) ≡ length (levels_above n b (level b up)) + k) u i.sum in
     let lists : (more : List Span) → cut zs (length zs) (levels_above n b (level b up) ++ (level b up ++ more)) ≡ levels n b up = rw u at i.lists in
     let size : length (levels_above n b (level b up) ++ level b up) ≡ total zs (length zs)
     = length-append (levels_above n b (level b up)) (level b up) ∙ rw (length-level b up, u) (sym sum) in

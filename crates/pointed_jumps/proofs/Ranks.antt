@@ -23,7 +23,7 @@ use Rattle.parts.proofs.Taking.{if_zero}
 use Rattle.differences.specs.declared.walk.Reached.{Reached}
 use Rattle.differences.specs.Walk.{walked, origin, zeros, at_once}
 use Rattle.differences.proofs.Sums.{entry_inside}
-use Rattle.differences.proofs.Walked.{at_once}
+use Rattle.differences.proofs.Walked.{at_once_lem}
 use Rattle.differences.proofs.JumpsAfter.{zeros_add}
 use Rattle.jump_walk.proofs.Found.{walk-position}
 use Rattle.pointed_jumps.proofs.Held.{Pointed}
@@ -146,7 +146,7 @@ module _ (b : List ℕ) (v : View) (ls : List ℕ) (h : Pointed b v ls) where
       let t = walked v.width v.start v.second b 0 r (origin v.start b) in
       let p : t.position ≡ get_or ls r 0 = walk-position b v v.width ls h.held refl r t a.rank refl in
       let n : t.taken ≡ 1 + zeros v.width v.second b 0 r
-      = ap (λ (x : Reached). x.taken) (at_once v.width v.start v.second b 0 r (origin v.start b)) ∙ unfold at_once in refl in
+      = ap (λ (x : Reached). x.taken) (at_once_lem v.width v.start v.second b 0 r (origin v.start b)) ∙ unfold at_once in refl in
       let c = a.count in
       let m : j + 1 ≡ t.taken = omega arith in
       ap₂ (λ x y. record { position = x; taken = y }) (a.position ∙ sym p) m

@@ -1,7 +1,7 @@
 -- `list` meets its contract. Assumes nothing.
 use Rattle.format.specs.Accepted.{Checked}
 use Rattle.listing.proofs.Listed.{text_long, text_refused, text_file, same_text}
-use Rattle.listing.proofs.list.Goals.{After-check-verdict, After-struct_known-1}
+use Rattle.listing.proofs.list.Goals.{After-check-verdict}
 use Rattle.listing.proofs.list.Goals as goal
 
 -- `list` meets its contract. Assumes nothing.
@@ -30,6 +30,6 @@ pub returns : goal.returns
 returns c =
     let a = c.args in
     let t
-    = text_file a.input.now c.if-input-gt65536.false _ (checked-as (goal.at.returns c).After-struct_known-1)
+    = text_file a.input.now c.if-input-gt65536.false _ (checked-as (goal.at.returns c).After-check-verdict)
     c.if-verdict-ne0.false in
     same_text _ _ a.out.now _ _ t c.offer_file.ensures

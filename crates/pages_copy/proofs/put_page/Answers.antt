@@ -34,7 +34,7 @@ apart-here : (c : After-get_pair-y)
     (y.first - x.first - (y.second - x.second))
 apart-here c =
     let a = c.args in
-    page_apart a.file.now a.v a.c c.runs_behind-m.result (runs_here (AT.Else-m-eq0 c)) c.get_pair-x.result c.get_pair-y.result
+    page_apart a.file.now a.v a.c c.runs_behind-m.result (runs_here (AT.Else-m-eq0 c)) c.before.get-pair.result c.get_pair-y.result
     c.get_pair-x.ensures.0 c.get_pair-y.ensures.0
 
 -- what the encoder is in its page

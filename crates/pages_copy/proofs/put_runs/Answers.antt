@@ -11,7 +11,7 @@ use Rattle.page_walk.proofs.Allowed.{page-step}
 use Rattle.page_walk.proofs.Walk.{next-along}
 use Rattle.page_entries.proofs.OneEntry.{keeps_pages}
 use Rattle.pages_copy.proofs.Turn.{reached_on, past-last, reached_last, some-last, same-last}
-use Rattle.pages_copy.proofs.put_runs.Goals.{After-along_run-last, After-put_page-arg-1, After-put_run-arg-1, After-stretch-k}
+use Rattle.pages_copy.proofs.put_runs.Goals.{After-along_run-last, After-put_run-arg-1, After-stretch-k}
 use Rattle.pages_copy.proofs.put_runs.Goals as goal
 
 pub loop-left-init : goal.loop-left-init
@@ -105,7 +105,7 @@ loop-left-preserved c =
         let a = c.args in
     let l = c.loop-left in
     let k = c.stretch-k.result in
-    let q = cells-here (goal.at.loop-left-preserved c).After-put_run-arg-1 in
+    let q = cells-here (goal.at.loop-left-preserved c).After-stretch-k in
     let r = c.along_run-last in
     let u = c.put_page-w in
     let b = a.file.now in
@@ -116,7 +116,7 @@ loop-left-preserved c =
     let i = q.most in
     let x = c.next-c.ensures in
     let n : u.result.c.rank - r.result.rank ≡ m = omega arith in
-    let w = written_then f (pages_coder a.step) (keeps_pages a.step) a.dst.now a.c a.e a.n _ _ _ _ (stretch-out (goal.at.loop-left-preserved c).After-put_page-arg-1) m o _ _ u.ensures.put in
+    let w = written_then f (pages_coder a.step) (keeps_pages a.step) a.dst.now a.c a.e a.n _ _ _ _ (stretch-out (goal.at.loop-left-preserved c).After-along_run-last) m o _ _ u.ensures.put in
     let t : f u.result.c ≡ stepped_as f l.c (k + m)
     = ap (λ (z : Walk). z.c) u.ensures.put.walk
     ∙ ap (λ (z : Cursor). stepped_as f z m) (past-last b a.v a.step l.c l.e k l.left q l.invariant.0.rest a.v.words l.invariant.1 r.result r.ensures)

@@ -1,7 +1,7 @@
 use mathlib.Core.Path.{◌≡◌, sym, ◌∙◌}
 use Rattle.format.specs.Accepted.{check_number}
 use Rattle.lent_parts.proofs.Choice.{first-number, second-number, other_picture, same_picture_lem}
-use Rattle.lent_parts.proofs.shorter.shorter_number.Goals.{After-same_picture-arg-2-1, After-struct_known-2-1, Else-one-ne0, Else-other-ne0}
+use Rattle.lent_parts.proofs.shorter.shorter_number.Goals.{Else-one-ne0, Else-other-ne0}
 use Rattle.lent_parts.proofs.shorter.shorter_number.Goals as goal
 
 pub returns-then-one-ne0 : goal.returns-then-one-ne0
@@ -28,10 +28,10 @@ pub returns-then-not-same_picture : goal.returns-then-not-same_picture
 returns-then-not-same_picture c =
     let a = c.args in
     let s = c.same_picture in
-    other_picture a.first.now a.second.now (first-right (goal.at.returns-then-not-same_picture c).After-struct_known-2-1) (second-right (goal.at.returns-then-not-same_picture c).After-same_picture-arg-2-1) s.result s.ensures (c.if-not-same_picture.true)
+    other_picture a.first.now a.second.now (first-right (goal.at.returns-then-not-same_picture c).Else-one-ne0) (second-right (goal.at.returns-then-not-same_picture c).Else-other-ne0) s.result s.ensures (c.if-not-same_picture.true)
 
 pub returns : goal.returns
 returns c =
     let a = c.args in
     let s = c.same_picture in
-    same_picture_lem a.first.now a.second.now (first-right (goal.at.returns c).After-struct_known-2-1) (second-right (goal.at.returns c).After-same_picture-arg-2-1) s.result s.ensures (c.if-not-same_picture.false)
+    same_picture_lem a.first.now a.second.now (first-right (goal.at.returns c).Else-one-ne0) (second-right (goal.at.returns c).Else-other-ne0) s.result s.ensures (c.if-not-same_picture.false)

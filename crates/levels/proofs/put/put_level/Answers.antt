@@ -5,7 +5,7 @@ use Rattle.format.specs.Runs.{Span}
 use Rattle.levels.specs.Levels.{span_of}
 use Rattle.levels.specs.LevelZero.{span_at, summed}
 use Rattle.levels.proofs.Filling.{filling_first, filling_end, cells_fit, empty_fit, filling_next}
-use Rattle.levels.proofs.put.put_level.Goals.{After-get_pair, After-lesser-size, In-loop-rest}
+use Rattle.levels.proofs.put.put_level.Goals.{After-get_pair}
 use Rattle.levels.proofs.put.put_level.Goals as goal
 
 pub loop-rest-init : goal.loop-rest-init
@@ -15,7 +15,7 @@ loop-rest-init c =
     filling_first a.dst.now a.step a.start a.below a.under p.0 p.1
 
 -- the size of the page
-page-size : (c : After-lesser-size) → c.lesser-size.result ≡ min c.args.step c.loop-rest.rest
+page-size : (c : After-get_pair) → c.lesser-size.result ≡ min c.args.step c.loop-rest.rest
 page-size c = c.lesser-size.ensures ∙ rw c.index-page.ensures.0
 
 -- its last entry
@@ -24,7 +24,7 @@ page-last : (c : After-get_pair) → let l = c.loop-rest in
     ≡ span_at l.dst (l.from + 8 * min c.args.step l.rest - 8)
 page-last c =
     let l = c.loop-rest in
-    ap span_of c.get_pair.ensures.0 ∙ ap (λ (n : ℕ). span_at l.dst (l.from + 8 * n - 8)) (page-size (AT.In-loop-rest c))
+    ap span_of c.get_pair.ensures.0 ∙ ap (λ (n : ℕ). span_at l.dst (l.from + 8 * n - 8)) (page-size c)
 
 pub add-s-requires : goal.add-s-requires
 add-s-requires c =
@@ -41,12 +41,11 @@ add-s-requires c =
 
 pub loop-rest-preserved : goal.loop-rest-preserved
 loop-rest-preserved c =
-        let r = m.before.before.before.before.before.before.before in
-    let a = r.args in
+            let a = c.args in
     let l = c.loop-rest in
     let t = c.loop-rest-test.true in
-    let h = r.requires.0.step-least in
-    let e = page-size (goal.at.loop-rest-preserved c).In-loop-rest in
+    let h = c.requires.0.step-least in
+    let e = page-size (goal.at.loop-rest-preserved c).After-get_pair in
     let q = c.add-s.ensures ∙ ap (summed a.step l.s) (page-last (goal.at.loop-rest-preserved c).After-get_pair) in
     rw (c.put_pair.ensures, e)
     (filling_next a.dst.now a.step a.start a.below a.under l.dst l.s l.at l.from l.rest l.invariant (omega arith) t _ q)

@@ -54,9 +54,8 @@ jump_after-rank-requires c = pointing_asks _ _ _ _ _ _ _ _ _ _ c.loop-k.invarian
 pub overflow_mul-k : goal.overflow_mul-k
 overflow_mul-k c =
     let h = c.loop-k-test.true in
-    let s = c.before.before.before.before.before.before.before.before.before.before.before.before.before.before.before in
-    let m = c.pointer_count-count.ensures.1 in
-    let g = given-of s in
+        let m = c.pointer_count-count.ensures.1 in
+    let g = given-of (goal.at.overflow_mul-k c).Start in
     let a = g.words in
     let b = g.most in
     omega arith
@@ -64,13 +63,12 @@ overflow_mul-k c =
 pub overflow_add-at : goal.overflow_add-at
 overflow_add-at c =
     let h = c.loop-k-test.true in
-    let s = c.before.before.before.before.before.before.before.before.before.before.before.before.before.before.before in
-    let m = c.pointer_count-count.ensures.1 in
-    let g = given-of s in
+        let m = c.pointer_count-count.ensures.1 in
+    let g = given-of (goal.at.overflow_add-at c).Start in
     let a = g.words in
     let b = g.most in
-    let t = s.requires.1 in
-    let k = mul-le-mul_right s.args.z.words g.stands.wide in
+    let t = c.requires.1 in
+    let k = mul-le-mul_right c.args.z.words g.stands.wide in
     let p = c.pointers_at-at.ensures in
     let i = c.struct_known-1.given in
     omega arith

@@ -5,7 +5,7 @@ use Rattle.format.specs.Picture.{most_dimensions}
 use Rattle.laws.proofs.Acceptance as laws
 use Rattle.reading.proofs.BoxAnswers.{box_refused, dimensions-right, box_beyond, allowed, counted, box_small, box_fills}
 use borrow.Author.Rules.{rules}
-use Rattle.reading.proofs.boxes.box_words.Goals.{After-read_dimensions-d, Else-found-ne0}
+use Rattle.reading.proofs.boxes.box_words.Goals.{Else-found-ne0}
 use Rattle.reading.proofs.boxes.box_words.Goals as goal
 
 -- none of 1 to 6 applies
@@ -45,10 +45,10 @@ put_box-requires c =
         let d = c.read_dimensions-d in
     let n = c.box_count-count in
     let some = c.if-count-eq0.false in
-    let e = counted a.file.now a.low a.high a.dst.now d.result n.result (accepted (goal.at.put_box-requires c).After-read_dimensions-d) d.ensures n.ensures.0 some in (
+    let e = counted a.file.now a.low a.high a.dst.now d.result n.result (accepted (goal.at.put_box-requires c).Else-found-ne0) d.ensures n.ensures.0 some in (
       c.check-found.ensures.view c.if-found-ne0.false,
       d.ensures,
-      allowed a.file.now a.low a.high a.dst.now d.result n.result (accepted (goal.at.put_box-requires c).After-read_dimensions-d) d.ensures n.ensures.0 some,
+      allowed a.file.now a.low a.high a.dst.now d.result n.result (accepted (goal.at.put_box-requires c).Else-found-ne0) d.ensures n.ensures.0 some,
       rw (← e) c.if-dst-count.false,
     )
 
@@ -57,5 +57,5 @@ returns c =
     let a = c.args in
     let d = c.read_dimensions-d in
     let n = c.box_count-count in
-    box_fills a.file.now a.low a.high a.dst.now d.result n.result (accepted (goal.at.returns c).After-read_dimensions-d) d.ensures n.ensures.0 c.if-count-eq0.false _
+    box_fills a.file.now a.low a.high a.dst.now d.result n.result (accepted (goal.at.returns c).Else-found-ne0) d.ensures n.ensures.0 c.if-count-eq0.false _
     c.if-dst-count.false c.put_box.ensures

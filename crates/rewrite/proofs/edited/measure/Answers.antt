@@ -9,7 +9,7 @@ use Rattle.layout.proofs.Measuring.{measures, bounded}
 use Rattle.parts.specs.declared.walk.Walk.{Walk}
 use Rattle.edits.specs.Edit.{edited}
 use Rattle.rewrite.proofs.Three.{allowed, ranks-there, cells-most, edit-rising, along-cursor, along_encoder, edit-along, edit-all, reached_first, reached_rest}
-use Rattle.rewrite.proofs.edited.measure.Goals.{After-measure_added-e, After-measure_ranks-all, After-measure_ranks-front, After-measured-arg-1}
+use Rattle.rewrite.proofs.edited.measure.Goals.{After-measure_ranks-all, After-measure_ranks-front}
 use Rattle.rewrite.proofs.edited.measure.Goals as goal
 
 -- the encoder and the cursor after the ranks before the edit
@@ -37,7 +37,7 @@ measure_added-e-requires c =
     let a = c.args in
     let p = c.requires in
     let t = edit-along a.file.now a.v p.0 a.x p.1 a.s 0 0 p.2 (omega arith) (omega arith) in
-    rw (front-encoder c) (p.2, t.middle)
+    rw (front-encoder (goal.at.measure_added-e-requires c).After-measure_ranks-front) (p.2, t.middle)
 
 pub overflow_sub-x : goal.overflow_sub-x
 overflow_sub-x c = omega (arith, c.requires.1.ordered)
@@ -56,7 +56,7 @@ measure_ranks-all-requires c =
     let a = c.args in
     let p = c.requires in
     let t = edit-along a.file.now a.v p.0 a.x p.1 a.s 0 0 p.2 (omega arith) (omega arith) in
-    rw (c.measure_added-e.ensures, c.skip-c.ensures, front-encoder (goal.at.measure_ranks-all-requires c).After-measure_added-e, front-cursor (goal.at.measure_ranks-all-requires c).After-measure_added-e) (allowed a.file.now a.v p.0, p.2, t.rest, p.0, reached_rest a.file.now a.v p.0 a.x p.1)
+    rw (c.measure_added-e.ensures, c.skip-c.ensures, front-encoder (goal.at.measure_ranks-all-requires c).After-measure_ranks-front, front-cursor (goal.at.measure_ranks-all-requires c).After-measure_ranks-front) (allowed a.file.now a.v p.0, p.2, t.rest, p.0, reached_rest a.file.now a.v p.0 a.x p.1)
 
 -- the encoder after all of them
 all-encoder : (c : After-measure_ranks-all)
@@ -66,19 +66,19 @@ all-encoder c =
     let p = c.requires in
     let t = edit-along a.file.now a.v p.0 a.x p.1 a.s 0 0 p.2 (omega arith) (omega arith) in
     ap (λ (w : Walk). w.e) c.measure_ranks-all.ensures ∙ along_encoder _ _ _ _ _ _
-    ∙ rw (c.measure_added-e.ensures, c.skip-c.ensures, front-encoder (AT.After-measure_added-e c), front-cursor (AT.After-measure_added-e c))
+    ∙ rw (c.measure_added-e.ensures, c.skip-c.ensures, front-encoder (AT.After-measure_ranks-front c), front-cursor (AT.After-measure_ranks-front c))
     (edit-all a.file.now a.v p.0 a.x p.1 a.s 0 0 t)
 
 pub measured-requires : goal.measured-requires
 measured-requires c =
     let a = c.args in
     let p = c.requires in
-    rw (all-encoder c)
+    rw (all-encoder (goal.at.measured-requires c).After-measure_ranks-all)
     (p.2, bounded a.s p.2 a.v.cells (edited a.x (positions_of a.file.now)) (cells-most a.file.now a.v p.0 a.x p.1) (edit-rising a.file.now a.v p.0 a.x p.1))
 
 pub returns : goal.returns
 returns c =
     let a = c.args in
     let p = c.requires in
-    rw (c.measured.ensures, all-encoder (goal.at.returns c).After-measured-arg-1)
+    rw (c.measured.ensures, all-encoder (goal.at.returns c).After-measure_ranks-all)
     (measures a.s p.2 a.v.cells (edited a.x (positions_of a.file.now)) (cells-most a.file.now a.v p.0 a.x p.1) (edit-rising a.file.now a.v p.0 a.x p.1))

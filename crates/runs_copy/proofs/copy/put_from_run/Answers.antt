@@ -62,15 +62,15 @@ left c =
 pub overflow_sub-end : goal.overflow_sub-end
 overflow_sub-end c =
     let r = rank_now (goal.at.overflow_sub-end c).After-slice_known-2-1 in
-    let f = (found (goal.at.overflow_sub-end c).After-put_whole-w).begins in
+    let f = (found (goal.at.overflow_sub-end c).After-run_with-j).begins in
     omega arith
 
 pub put_part-requires : goal.put_part-requires
 put_part-requires c =
         let a = c.args in
-        let g = rw (left (goal.at.put_part-requires c).After-slice_known-2-1) at (gone (goal.at.put_part-requires c).After-slice_known-2-1) in (
+        let g = rw (left (goal.at.put_part-requires c).After-put_whole-w) at (gone (goal.at.put_part-requires c).After-put_whole-w) in (
       c.requires.0,
-      last_part a.file.now a.v _ c.requires.1 a.c a.e c.requires.2 a.n c.run_with-j.result c.requires.3 (found (goal.at.put_part-requires c).After-put_whole-w) c.requires.4 _ c.put_whole-w.ensures.0,
+      last_part a.file.now a.v _ c.requires.1 a.c a.e c.requires.2 a.n c.run_with-j.result c.requires.3 (found (goal.at.put_part-requires c).After-run_with-j) c.requires.4 _ c.put_whole-w.ensures.0,
       g.rest,
       g.room,
     )
@@ -79,6 +79,6 @@ pub returns : goal.returns
 returns c =
     let a = c.args in
         let u = c.put_part in
-    let g = rw (left (goal.at.returns c).After-slice_known-2-1) at (gone (goal.at.returns c).After-slice_known-2-1) in
+    let g = rw (left (goal.at.returns c).After-put_whole-w) at (gone (goal.at.returns c).After-put_whole-w) in
     written_end _ _ _ _ _ _ _ _ _ _ (omega arith)
     (written_then (next a.file.now a.v) runs_coder keeps a.dst.now a.c a.e a.n _ _ _ _ g _ (le_refl _) u.result _ u.ensures)

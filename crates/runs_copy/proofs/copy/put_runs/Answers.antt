@@ -4,7 +4,7 @@ use Rattle.run_walk.specs.Steps.{next}
 use Rattle.run_pairs.specs.Coding.{runs_coder}
 use Rattle.run_pairs.proofs.Adds.{keeps}
 use Rattle.runs_copy.proofs.FromRun.{in_order, between_runs, ranks_fit}
-use Rattle.runs_copy.proofs.copy.put_runs.Goals.{After-put_part-w, After-slice_known-2-1}
+use Rattle.runs_copy.proofs.copy.put_runs.Goals.{After-put_part-w}
 use Rattle.runs_copy.proofs.copy.put_runs.Goals as goal
 
 pub returns-then-n-eq0 : goal.returns-then-n-eq0
@@ -66,7 +66,7 @@ put_from_run-requires c =
     let h = c.if-n-eq0.false in
     let t = c.if-n-rest.false in
         let u = c.put_part-w in
-    let g = part_out (goal.at.put_from_run-requires c).After-slice_known-2-1 in (
+    let g = part_out (goal.at.put_from_run-requires c).After-put_part-w in (
       c.requires.0,
       c.requires.1,
       between_runs a.file.now a.v _ c.requires.1 a.c a.n (omega arith) c.requires.2 a.e _ _ u.result u.ensures,
@@ -81,7 +81,7 @@ returns c =
     let a = c.args in
         let u = c.put_from_run in
     written_end _ _ _ _ _ _ _ _ _ _ (omega arith)
-    (written_then (next a.file.now a.v) runs_coder keeps a.dst.now a.c a.e a.n _ _ _ _ (part_out (goal.at.returns c).After-slice_known-2-1) _ (le_refl _) u.result _ u.ensures)
+    (written_then (next a.file.now a.v) runs_coder keeps a.dst.now a.c a.e a.n _ _ _ _ (part_out (goal.at.returns c).After-put_part-w) _ (le_refl _) u.result _ u.ensures)
 
 pub returns-then-n-rest : goal.returns-then-n-rest
 returns-then-n-rest c = c.put_part.ensures
