@@ -24,7 +24,7 @@ FIELDS = {"first_count", "second_at"}
 STD = set("""length take drop get_or set sum map append reverse range replicate suc zero not leb ltb eqb min max filter all any concat joined
 first last cond""".split())
 TOKEN = re.compile(r"[^\s(){}\[\].,;:\"«»·&]+")
-SIGNATURE = re.compile(r"^\s*(?:(?:pub|abbrev|unfoldable|ruleset)\s+)*([^\s(){}\[\].,;:\"]+(?:\s+[^\s(){}\[\].,;:\"=]+)*)\s+:\s")
+SIGNATURE = re.compile(r"^\s*(?:(?:pub|abbrev|unfoldable|ruleset)\s+)*([^\s(){}\[\].,;:\"]+(?:\s+[^\s(){}\[\].,;:\"=]+)*)(?:\s+\{[^}]*\})?\s+:\s")
 DATA = re.compile(r"^\s*(?:pub\s+)?(?:data|record|ruleset)\s+([^\s(){}:]+)")
 
 

@@ -9,7 +9,7 @@ use Rattle.laws.proofs.Positions.{rising-at}
 use Rattle.laws.proofs.Stored.{Rising}
 use Rattle.laws.proofs.Streams.{bases_from, offsets_from}
 use Rattle.parts.specs.declared.Encoder.{Encoder}
-use Rattle.parts.specs.Encoder.{ifZero, left_after, taken_by, taken_all_by, firsts_by, seconds_by}
+use Rattle.parts.specs.Encoder.{if_zero, left_after, taken_by, taken_all_by, firsts_by, seconds_by}
 use Rattle.parts.specs.Batch.{added_first_by, added_second_by}
 use Rattle.parts.proofs.Taking.{if_more}
 use Rattle.parts.proofs.Added.{firsts_by_lem, seconds_by_lem}
@@ -132,12 +132,12 @@ module _ (w l : ℕ) where
   offsets-over zero base (p ∷ ls) h = absurd (omega arith)
   offsets-over (suc k) base (p ∷ ls) h = ap (λ (os : List ℕ). (p - base) ∷ os) (offsets-over k base ls (omega arith))
 
-  bases-one : (n p : ℕ) (ls : List ℕ) → suc (length ls) ≤ due l n → bytes_of 4 (bases_from l n (p ∷ ls)) ≡ ifZero n (bytes 4 p) []
+  bases-one : (n p : ℕ) (ls : List ℕ) → suc (length ls) ≤ due l n → bytes_of 4 (bases_from l n (p ∷ ls)) ≡ if_zero n (bytes 4 p) []
   unfolding bases_from bytes_of due
   bases-one zero p ls h = rw (bases-none (l - 1) ls (omega arith)) (append-nil (bytes 4 p))
   bases-one (suc n) p ls h = rw (bases-none n ls (omega arith))
 
-  offsets-one : (n base p : ℕ) (ls : List ℕ) → suc (length ls) ≤ due l n → offsets_from l n base (p ∷ ls) ≡ offsets_over (ifZero n p base) (p ∷ ls)
+  offsets-one : (n base p : ℕ) (ls : List ℕ) → suc (length ls) ≤ due l n → offsets_from l n base (p ∷ ls) ≡ offsets_over (if_zero n p base) (p ∷ ls)
   unfolding offsets_from offsets_over due
   offsets-one zero base p ls h =
       let z : 0 ≡ p - p = omega arith in
@@ -145,16 +145,16 @@ module _ (w l : ℕ) where
   offsets-one (suc n) base p ls h = ap (λ (os : List ℕ). (p - base) ∷ os) (offsets-over n base ls (omega arith))
 
   module _ (e : Encoder) (ls : List ℕ) (some : 1 ≤ length ls) (d : length ls ≤ due l e.left) where
-    pub first_group : added_first_by (coder w l) e ls ≡ ifZero e.left (bytes 4 (get_or ls 0 0)) []
+    pub first_group : added_first_by (coder w l) e ls ≡ if_zero e.left (bytes 4 (get_or ls 0 0)) []
     first_group = added-firsts e ls ∙ firsts_from w l e e.left ls refl ∙ go ls some d
       where
-        go : (ls : List ℕ) → 1 ≤ length ls → length ls ≤ due l e.left → bytes_of 4 (bases_from l e.left ls) ≡ ifZero e.left (bytes 4 (get_or ls 0 0)) []
+        go : (ls : List ℕ) → 1 ≤ length ls → length ls ≤ due l e.left → bytes_of 4 (bases_from l e.left ls) ≡ if_zero e.left (bytes 4 (get_or ls 0 0)) []
         go [] s d = absurd (omega arith)
         go (p ∷ ls) s d = bases-one e.left p ls d
 
-    pub second_group : added_second_by (coder w l) e ls ≡ bytes_of w (offsets_over (ifZero e.left (get_or ls 0 0) e.base) ls)
+    pub second_group : added_second_by (coder w l) e ls ≡ bytes_of w (offsets_over (if_zero e.left (get_or ls 0 0) e.base) ls)
     second_group = added-seconds e ls ∙ seconds_from w l e e.left e.base ls refl refl ∙ ap (bytes_of w) (go ls some d)
       where
-        go : (ls : List ℕ) → 1 ≤ length ls → length ls ≤ due l e.left → offsets_from l e.left e.base ls ≡ offsets_over (ifZero e.left (get_or ls 0 0) e.base) ls
+        go : (ls : List ℕ) → 1 ≤ length ls → length ls ≤ due l e.left → offsets_from l e.left e.base ls ≡ offsets_over (if_zero e.left (get_or ls 0 0) e.base) ls
         go [] s d = absurd (omega arith)
         go (p ∷ ls) s d = offsets-one e.left e.base p ls d

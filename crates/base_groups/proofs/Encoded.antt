@@ -11,7 +11,7 @@ use Rattle.parts.specs.Encoder.{begun, left_after, sizes_as, taken_by, ended_by,
 use Rattle.parts.specs.Ready.{Next, Keeps}
 use Rattle.parts.specs.Codes.{sizes_in, Codes}
 use Rattle.parts.proofs.Outright.{outright}
-use Rattle.parts.proofs.Taking.{if_zero, if_suc, if_most, if_le, rank-all, first-all, second-all}
+use Rattle.parts.proofs.Taking.{if_zero_lem, if_suc, if_most, if_le, rank-all, first-all, second-all}
 use Rattle.parts.proofs.Sounds.{Kept, sound_by}
 use Rattle.base_groups.specs.Coding.{offset_at, based, coder}
 use Rattle.base_groups.proofs.Rule.{allows}
@@ -20,7 +20,7 @@ use Rattle.base_groups.proofs.Rule.{allows}
 
 left_new : (l n : ℕ) → n ≡ 0 → left_after l n ≡ l - 1
 unfolding left_after
-left_new l n h = if_zero n (l - 1) (n - 1) h
+left_new l n h = if_zero_lem n (l - 1) (n - 1) h
 
 left-suc : (l n k : ℕ) → n ≡ suc k → left_after l n ≡ k
 unfolding left_after
@@ -28,7 +28,7 @@ left-suc l n k h = if_suc n k (l - 1) (n - 1) h ∙ omega arith
 
 offset_new : (e : Encoder) (p : ℕ) → e.left ≡ 0 → offset_at e p ≡ 0
 unfolding offset_at
-offset_new e p h = if_zero e.left 0 (p - e.base) h
+offset_new e p h = if_zero_lem e.left 0 (p - e.base) h
 
 offset_suc : (e : Encoder) (p k base : ℕ) → e.left ≡ suc k → e.base ≡ base → offset_at e p ≡ p - base
 unfolding offset_at
@@ -41,7 +41,7 @@ module _ (w l : ℕ) where
   unfolding firsts_by coder based taken_by bases_from bytes_of
   firsts_from e k [] h = refl
   firsts_from e zero (p ∷ ls) h =
-      ap₂ (λ (x y : List ℕ). x ++ y) (if_zero e.left (bytes 4 p) [] h)
+      ap₂ (λ (x y : List ℕ). x ++ y) (if_zero_lem e.left (bytes 4 p) [] h)
       (firsts_from (taken_by (coder w l) e p) (l - 1) ls (left_new l e.left h))
   firsts_from e (suc k) (p ∷ ls) h =
       ap₂ (λ (x y : List ℕ). x ++ y) (if_suc e.left k (bytes 4 p) [] h)
@@ -53,7 +53,7 @@ module _ (w l : ℕ) where
   seconds_from e k base [] h b = refl
   seconds_from e zero base (p ∷ ls) h b =
       ap₂ (λ (x y : List ℕ). x ++ y) (ap (bytes w) (offset_new e p h))
-      (seconds_from (taken_by (coder w l) e p) (l - 1) p ls (left_new l e.left h) (if_zero e.left p e.base h))
+      (seconds_from (taken_by (coder w l) e p) (l - 1) p ls (left_new l e.left h) (if_zero_lem e.left p e.base h))
   seconds_from e (suc k) base (p ∷ ls) h b =
       ap₂ (λ (x y : List ℕ). x ++ y) (ap (bytes w) (offset_suc e p k base h b))
       (seconds_from (taken_by (coder w l) e p) k base ls (left-suc l e.left k h) (if_suc e.left k p e.base h ∙ b))
@@ -76,7 +76,7 @@ module _ (w l : ℕ) where
   unfolding taken_all_by coder based taken_by offsets_from fit
   fits_from e k base [] h b = sym (both_one e.fits)
   fits_from e zero base (p ∷ ls) h b =
-      fits_from (taken_by (coder w l) e p) (l - 1) p ls (left_new l e.left h) (if_zero e.left p e.base h)
+      fits_from (taken_by (coder w l) e p) (l - 1) p ls (left_new l e.left h) (if_zero_lem e.left p e.base h)
       ∙ both_assoc e.fits (fit (offset_at e p)) (every fit (offsets_from l (l - 1) p ls))
       ∙ ap (λ (o : ℕ). both e.fits (both (fit o) (every fit (offsets_from l (l - 1) p ls)))) (offset_new e p h)
   fits_from e (suc k) base (p ∷ ls) h b =

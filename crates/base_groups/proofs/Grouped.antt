@@ -9,10 +9,10 @@ use Rattle.laws.proofs.Stored.{Rising, rising_weaken, rising-length}
 use Rattle.stores.specs.Put.{put}
 use Rattle.stores.proofs.Laws.{length-put, put3_step}
 use Rattle.parts.specs.declared.Encoder.{Encoder}
-use Rattle.parts.specs.Encoder.{Coder, ifZero, taken_all_by}
+use Rattle.parts.specs.Encoder.{Coder, if_zero, taken_all_by}
 use Rattle.parts.specs.Ready.{passed, Next, Keeps}
 use Rattle.parts.specs.Batch.{added_first_by, added_second_by, put_all_by, Along, RoomAll}
-use Rattle.parts.proofs.Taking.{if_zero, if_more}
+use Rattle.parts.proofs.Taking.{if_zero_lem, if_more}
 use Rattle.parts.proofs.Added.{firsts_by_lem, seconds_by_lem, taken-append, first-place, second-place, along_by_lem, rising-front}
 use Rattle.parts.proofs.Taken.{Measuring, Writing}
 use Rattle.offsets.specs.Over.{offsets_over}
@@ -34,7 +34,7 @@ pub record Sized (w : ℕ) (r : Encoder) (ls : List ℕ) : Type 0 where
 module _ (l : ℕ) (e : Encoder) (ls : List ℕ) (o : OneBase l e ls) where
   -- the base
   abbrev b : ℕ
-  b = ifZero e.left (get_or ls 0 0) e.base
+  b = if_zero e.left (get_or ls 0 0) e.base
 
   -- the positions rise from it on
   pub rising-base : Rising b 16777216 ls
@@ -42,7 +42,7 @@ module _ (l : ℕ) (e : Encoder) (ls : List ℕ) (o : OneBase l e ls) where
       let r = o.along.rising in
       let s = o.along.sound.base-most in
       cases (eqb e.left 0)
-      (λ t. rw (if_zero e.left (get_or ls 0 0) e.base (eqb-true e.left 0 t)) (own ls r))
+      (λ t. rw (if_zero_lem e.left (get_or ls 0 0) e.base (eqb-true e.left 0 t)) (own ls r))
       (λ t. rw (if_more e.left (get_or ls 0 0) e.base (eqb-false e.left 0 t)) (rising_weaken e.base (passed e) 16777216 ls s r))
     where
       own : (ls : List ℕ) → Rising (passed e) 16777216 ls → Rising (get_or ls 0 0) 16777216 ls
@@ -80,7 +80,7 @@ module _ (l : ℕ) (e : Encoder) (ls : List ℕ) (o : OneBase l e ls) where
         ∙ (unfold opened in refl)
 
     pub put_group : (d : List ℕ)
-        → put (put d e.first (ifZero e.left (bytes 4 (get_or ls 0 0)) [])) e.second (bytes_of w (offsets_over b ls)) ≡ put_all_by (coder w l) d e ls
+        → put (put d e.first (if_zero e.left (bytes 4 (get_or ls 0 0)) [])) e.second (bytes_of w (offsets_over b ls)) ≡ put_all_by (coder w l) d e ls
     unfolding put_all_by
     put_group d = rw (first_group w l e ls o.some o.served, second_group w l e ls o.some o.served)
 
@@ -88,7 +88,7 @@ module _ (l : ℕ) (e : Encoder) (ls : List ℕ) (o : OneBase l e ls) where
       pub room-first : e.left ≡ 0 → e.first + 4 ≤ n
       room-first z =
           let f : length (added_first_by (coder w l) e ls) ≡ 4
-          = ap length (first_group w l e ls o.some o.served ∙ if_zero e.left (bytes 4 (get_or ls 0 0)) [] z) ∙ length-bytes 4 (get_or ls 0 0) in
+          = ap length (first_group w l e ls o.some o.served ∙ if_zero_lem e.left (bytes 4 (get_or ls 0 0)) [] z) ∙ length-bytes 4 (get_or ls 0 0) in
           let a = r.first in
           let b = r.second in
           omega arith

@@ -3,17 +3,17 @@ use Rattle.std.specs.Prelude.{ℕ, ◌+◌, ◌-◌, ◌/◌, ◌^◌, ◌≤◌
 use Rattle.format.specs.Tools.{both}
 use Rattle.format.specs.Bytes.{bytes}
 use Rattle.parts.specs.declared.Encoder.{Encoder}
-use Rattle.parts.specs.Encoder.{Coder, Inside, ifZero, left_after, sizes_as}
+use Rattle.parts.specs.Encoder.{Coder, Inside, if_zero, left_after, sizes_as}
 use Rattle.parts.specs.Batch.{Along}
 
 unfoldable pub offset_at : Encoder → ℕ → ℕ
-offset_at e p = ifZero e.left 0 (p - e.base)
+offset_at e p = if_zero e.left 0 (p - e.base)
 
 unfoldable pub based : ℕ → ℕ → Encoder → ℕ → Inside
 based w l e p =
     record {
       left = left_after l e.left;
-      base = ifZero e.left p e.base;
+      base = if_zero e.left p e.base;
       cells = e.cells;
       empty = e.empty;
       fits = both e.fits (nat_le (offset_at e p) (256 ^ w - 1));
@@ -22,7 +22,7 @@ based w l e p =
 unfoldable pub coder : ℕ → ℕ → Coder
 coder w l =
     record {
-      first = λ e p. ifZero e.left (bytes 4 p) [];
+      first = λ e p. if_zero e.left (bytes 4 p) [];
       second = λ e p. bytes w (offset_at e p);
       inside = based w l;
       end_first = λ e. [];
@@ -35,7 +35,7 @@ coder w l =
 
 -- how many go to one base from here on: those that it still serves, or all of a new one's
 unfoldable pub due : ℕ → ℕ → ℕ
-due l left = ifZero left l left
+due l left = if_zero left l left
 
 -- the encoder with the base of p: its own, or p where none is left to serve it
 unfoldable pub opened : ℕ → Encoder → ℕ → Encoder
@@ -44,10 +44,10 @@ opened l e p =
       rank = e.rank;
       last = e.last;
       left = due l e.left;
-      base = ifZero e.left p e.base;
+      base = if_zero e.left p e.base;
       cells = e.cells;
       empty = e.empty;
-      first = ifZero e.left (e.first + 4) e.first;
+      first = if_zero e.left (e.first + 4) e.first;
       second = e.second;
       fits = e.fits;
     }

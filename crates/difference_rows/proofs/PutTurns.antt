@@ -5,7 +5,7 @@ use Rattle.format.specs.Jumps.{difference, differences_from, jumps_of}
 use Rattle.laws.proofs.Bytes.{length-bytes, length-bytes_of}
 use Rattle.stores.specs.Put.{put}
 use Rattle.stores.proofs.Laws.{put_comm, put-numbers_cons, put-numbers_nil}
-use Rattle.parts.specs.Encoder.{ifZero}
+use Rattle.parts.specs.Encoder.{if_zero}
 use Rattle.difference_rows.specs.Later.{later_differences, later_jumps}
 
 -- bytes put over others that begin at the same place and end where they end, or before
@@ -67,22 +67,22 @@ module _ (w : ℕ) (ls : List ℕ) (i : ℕ) where
       let n = length-drop (i - 1) ls in
       omega arith
 
-  jump_or_none : (d p : ℕ) (ds xs : List ℕ) → jumps_of (d ∷ ds) (p ∷ xs) ≡ ifZero d (p ∷ jumps_of ds xs) (jumps_of ds xs)
+  jump_or_none : (d p : ℕ) (ds xs : List ℕ) → jumps_of (d ∷ ds) (p ∷ xs) ≡ if_zero d (p ∷ jumps_of ds xs) (jumps_of ds xs)
   unfolding jumps_of
   jump_or_none zero p ds xs = refl
   jump_or_none (suc d) p ds xs = refl
 
   jump_turn : 1 ≤ i → i < length ls → {x : ℕ} → x ≡ difference w (get_or ls (i - 1) 0) (get_or ls i 0)
-      → later_jumps w (drop (i - 1) ls) ≡ ifZero x (get_or ls i 0 ∷ later_jumps w (drop (i + 1 - 1) ls)) (later_jumps w (drop (i + 1 - 1) ls))
+      → later_jumps w (drop (i - 1) ls) ≡ if_zero x (get_or ls i 0 ∷ later_jumps w (drop (i + 1 - 1) ls)) (later_jumps w (drop (i + 1 - 1) ls))
   unfolding later_jumps differences_from
   jump_turn h k {x} e = rw (two-left h k, from_next h k, ← e) (jump_or_none x (get_or ls i 0) _ (drop (i + 1) ls))
 
   -- the next position is put out where the next jump goes: the place moves on behind a jump, and stays where it is none
-  module _ (h : 1 ≤ i) (j : 1 ≤ length (later_jumps w (drop (i - 1) ls))) {x : ℕ} (e : x ≡ difference w (get_or ls (i - 1) 0) (get_or ls i 0)) {r : ℕ} (f : r ≡ ifZero x 1 0) where
+  module _ (h : 1 ≤ i) (j : 1 ≤ length (later_jumps w (drop (i - 1) ls))) {x : ℕ} (e : x ≡ difference w (get_or ls (i - 1) 0) (get_or ls i 0)) {r : ℕ} (f : r ≡ if_zero x 1 0) where
     pub place-next : (at : ℕ) → at + 4 * r + 4 * length (later_jumps w (drop (i + 1 - 1) ls)) ≡ at + 4 * length (later_jumps w (drop (i - 1) ls))
     place-next at = go x f _ (jump_turn h (jump_left j) e)
       where
-        go : (x : ℕ) → r ≡ ifZero x 1 0 → {js : List ℕ} (ks : List ℕ) → js ≡ ifZero x (get_or ls i 0 ∷ ks) ks → at + 4 * r + 4 * length ks ≡ at + 4 * length js
+        go : (x : ℕ) → r ≡ if_zero x 1 0 → {js : List ℕ} (ks : List ℕ) → js ≡ if_zero x (get_or ls i 0 ∷ ks) ks → at + 4 * r + 4 * length ks ≡ at + 4 * length js
         go zero f {js} ks t = let n : length js ≡ suc (length ks) = ap length t in omega arith
         go (suc x) f {js} ks t = let n : length js ≡ length ks = ap length t in omega arith
 
@@ -90,7 +90,7 @@ module _ (w : ℕ) (ls : List ℕ) (i : ℕ) where
         → put o (at + 4 * r) (bytes_of 4 (later_jumps w (drop (i + 1 - 1) ls))) ≡ put d at (bytes_of 4 (later_jumps w (drop (i - 1) ls)))
     jump_next at d {o} g = go x f _ j (jump_turn h (jump_left j) e)
       where
-        go : (x : ℕ) → r ≡ ifZero x 1 0 → {js : List ℕ} (ks : List ℕ) → 1 ≤ length js → js ≡ ifZero x (get_or ls i 0 ∷ ks) ks
+        go : (x : ℕ) → r ≡ if_zero x 1 0 → {js : List ℕ} (ks : List ℕ) → 1 ≤ length js → js ≡ if_zero x (get_or ls i 0 ∷ ks) ks
             → put o (at + 4 * r) (bytes_of 4 ks) ≡ put d at (bytes_of 4 js)
         go zero f {js} ks j t = let n : at + 4 * r ≡ at + 4 = omega arith in rw (g, n, t) (sym (put-numbers_cons 4 d at (get_or ls i 0) ks))
         go (suc x) f {js} ks j t =

@@ -7,9 +7,9 @@ use native.Mathlib.Omega.{arith}
 use lib.Dec.{leb}
 use borrow.Author.Tests.{leb-true, leb-false}
 use Rattle.format.specs.Bytes.{field}
-use Rattle.parts.specs.Encoder.{ifZero}
+use Rattle.parts.specs.Encoder.{if_zero}
 use Rattle.laws.proofs.Tools.{cases}
-use Rattle.parts.proofs.Taking.{if_zero}
+use Rattle.parts.proofs.Taking.{if_zero_lem}
 use Rattle.differences.specs.Walk.{zeros, JumpAfter}
 use Rattle.differences.proofs.Sums.{zeros_start, zeros-next}
 
@@ -27,13 +27,13 @@ module _ (w second : ℕ) (b : List ℕ) (r : ℕ) where
       let z = rw e at (zeros_add n (m - n)) in
       omega arith
 
-  pub zeros-one : {d z : ℕ} → d ≡ field w (second + w * (r + 1)) b → z ≡ ifZero d 1 0 → z ≡ zeros w second b r 1
+  pub zeros-one : {d z : ℕ} → d ≡ field w (second + w * (r + 1)) b → z ≡ if_zero d 1 0 → z ≡ zeros w second b r 1
   zeros-one f e = let n = zeros-next w second b r 0 f (zeros_start w second b r) e in omega arith
 
   -- the last of them is a jump
   zeros_jump : (n : ℕ) → field w (second + w * (r + suc n)) b ≡ 0 → 1 ≤ zeros w second b r (suc n)
   unfolding zeros
-  zeros_jump n h = let z = if_zero {X = ℕ} (field w (second + w * (r + suc n)) b) 1 0 h in omega arith
+  zeros_jump n h = let z = if_zero_lem {X = ℕ} (field w (second + w * (r + suc n)) b) 1 0 h in omega arith
 
 -- ---- the jump that is searched for
 
@@ -101,7 +101,7 @@ module _ {w second : ℕ} {b : List ℕ} {last r m at left : ℕ} (o : Onward w 
           let c = j.count in
           record { least = omega arith; most = j.most; count = omega arith; jump = λ x. j.jump (omega arith) }
 
-  pub onward-rank : 0 < left → at < last → {d z : ℕ} → d ≡ field w (second + w * (at + 1)) b → z ≡ ifZero d 1 0
+  pub onward-rank : 0 < left → at < last → {d z : ℕ} → d ≡ field w (second + w * (at + 1)) b → z ≡ if_zero d 1 0
       → Onward w second b last r m (at + 1) (left - z)
   onward-rank h k f e = let s = zeros_start w second b at in over 1 0 (zeros-one w second b at f e) (omega arith) (omega arith) (omega arith)
 

@@ -10,7 +10,7 @@ use lib.Dec.{eqb}
 use borrow.Author.Tests.{ne_eqb}
 use Rattle.format.specs.Tools.{both}
 use Rattle.format.specs.Bytes.{field}
-use Rattle.parts.specs.Encoder.{ifZero}
+use Rattle.parts.specs.Encoder.{if_zero}
 use Rattle.differences.specs.Walk.{plain, zeros, total, behind, Room}
 
 -- an entry's bytes lie in the part
@@ -18,15 +18,15 @@ pub entry_inside : (w n i : ℕ) → i < n → w * i + w ≤ w * n
 entry_inside w n i h = let m : w * suc i ≤ w * n = mul-le-mul_left w h in rw mul-suc at m
 
 -- one more number, counted where it is 0
-zero_more : (x d : ℕ) → eqb (x + ifZero d 1 0) 0 ≡ both (not (eqb d 0)) (eqb x 0)
+zero_more : (x d : ℕ) → eqb (x + if_zero d 1 0) 0 ≡ both (not (eqb d 0)) (eqb x 0)
 zero_more x zero = ne_eqb (x + 1) 0 (λ e. omega arith)
 zero_more x (suc d) = rw (add-zero x, ne_eqb (suc d) 0 (λ e. omega arith))
 
-one_more : (x n d : ℕ) → x ≤ n → x + ifZero d 1 0 ≤ suc n
+one_more : (x n d : ℕ) → x ≤ n → x + if_zero d 1 0 ≤ suc n
 one_more x n zero h = omega arith
 one_more x n (suc d) h = omega arith
 
-none_more : (x d : ℕ) → x + ifZero d 1 0 ≡ 0 → (x ≡ 0) × (eqb d 0 ≡ false)
+none_more : (x d : ℕ) → x + if_zero d 1 0 ≡ 0 → (x ≡ 0) × (eqb d 0 ≡ false)
 none_more x zero h = absurd (omega arith)
 none_more x (suc d) h = (omega arith, ne_eqb (suc d) 0 (λ e. omega arith))
 
@@ -53,7 +53,7 @@ module _ (w second : ℕ) (b : List ℕ) where
     total_start = refl
 
     module _ (k : ℕ) {d : ℕ} (f : d ≡ field w (second + w * (r + (k + 1))) b) where
-      pub zeros-next : {x y : ℕ} → x ≡ zeros w second b r k → y ≡ ifZero d 1 0 → x + y ≡ zeros w second b r (k + 1)
+      pub zeros-next : {x y : ℕ} → x ≡ zeros w second b r k → y ≡ if_zero d 1 0 → x + y ≡ zeros w second b r (k + 1)
       unfolding zeros
       zeros-next e g = let q = rw (add-one k) at f in rw (add-one k, ← e, ← q, g)
 

@@ -11,7 +11,7 @@ use borrow.Author.Tests.{ne_eqb, eqb-true, eqb-false}
 use Rattle.format.specs.Bytes.{field}
 use Rattle.wire.specs.Wire.{whole}
 use Rattle.laws.proofs.Tools.{cases}
-use Rattle.parts.proofs.Taking.{if_zero, if_more}
+use Rattle.parts.proofs.Taking.{if_zero_lem, if_more}
 use Rattle.differences.specs.declared.walk.Reached.{Reached}
 use Rattle.differences.specs.Walk.{step_by, stepped, walked, zeros, total, behind, at_once, Room}
 use Rattle.differences.proofs.Sums.{entry_inside, behind-all}
@@ -55,7 +55,7 @@ module _ (w start second : ℕ) (b : List ℕ) where
         cases (eqb d 0)
         (λ e.
         let f : s.taken + (z + 1) - 1 ≡ s.taken + z = omega arith in
-        rw (at_once_lem n s, e, if_zero {X = ℕ} d 1 0 (eqb-true d 0 e), ne_eqb (z + 1) 0 (λ x. omega arith), f, add-zero, add_assoc))
+        rw (at_once_lem n s, e, if_zero_lem {X = ℕ} d 1 0 (eqb-true d 0 e), ne_eqb (z + 1) 0 (λ x. omega arith), f, add-zero, add_assoc))
         (λ e. rw (at_once_lem n s, e, if_more {X = ℕ} d 1 0 (eqb-false d 0 e), add-zero z, add_assoc))
 
     module _ (n : ℕ) (s : Reached) {z : ℕ} (e : z ≡ zeros w second b r n) where

@@ -4,7 +4,7 @@ use Rattle.format.specs.declared.View.{View}
 use Rattle.format.specs.Tools.{pick, both}
 use Rattle.format.specs.Bytes.{field}
 use Rattle.wire.specs.Wire.{whole}
-use Rattle.parts.specs.Encoder.{ifZero}
+use Rattle.parts.specs.Encoder.{if_zero}
 use Rattle.differences.specs.declared.walk.Reached.{Reached}
 use Rattle.differences.specs.declared.walk.Place.{Place}
 
@@ -43,7 +43,7 @@ plain w second b r (suc n) = both (not (eqb (field w (second + w * (r + suc n)) 
 -- so many of them are 0
 unfoldable pub zeros : ℕ → ℕ → List ℕ → ℕ → ℕ → ℕ
 zeros w second b r zero = 0
-zeros w second b r (suc n) = zeros w second b r n + ifZero (field w (second + w * (r + suc n)) b) 1 0
+zeros w second b r (suc n) = zeros w second b r n + if_zero (field w (second + w * (r + suc n)) b) 1 0
 
 -- their sum
 unfoldable pub total : ℕ → ℕ → List ℕ → ℕ → ℕ → ℕ

@@ -1,7 +1,7 @@
 // The stored differences, one for each rank: one of them, and groups of 128.
 ghost use Rattle.std.specs.Prelude.{◌≡◌, ◌+◌, ◌*◌, ◌≤◌, ◌<◌, length};
 ghost use Rattle.format.specs.Bytes.{field};
-ghost use Rattle.parts.specs.Encoder.{ifZero};
+ghost use Rattle.parts.specs.Encoder.{if_zero};
 ghost use Rattle.differences.specs.Walk.{zeros, total, behind, Room};
 
 use wire::{get_u8, get_u16};
@@ -19,7 +19,7 @@ pub fn difference(file: &[u8], second: usize, i: usize, width: u32) -> u32
 
 // 1 for 0, and 0 for any other number.
 pub fn zero(d: u32) -> u8
-    ensures { (result ≡ ifZero d 1 0) × (result ≤ 1) }
+    ensures { (result ≡ if_zero d 1 0) × (result ≤ 1) }
 {
     if d == 0 { 1 } else { 0 }
 }

@@ -14,7 +14,7 @@ use Rattle.format.specs.Lookups.{cell_answer, rank_answer}
 use Rattle.format.specs.Coordinates.{position_number, coordinates_number}
 use Rattle.format.specs.Box.{box_words, box_number}
 use Rattle.format.specs.RankRange.{ranks_number, ranks_bytes}
-use Rattle.format.specs.Shorter.{shorter_number, shorterOf}
+use Rattle.format.specs.Shorter.{shorter_number, shorter_of}
 use Rattle.format.specs.Opened.{via_opening}
 use Rattle.format.specs.Lister.{listing}
 use Rattle.format.specs.Sample.{setting, row, sample, sample_l, file, in_each, shown, Row, M, one}
@@ -77,7 +77,7 @@ examples =
     ∷ M 0 (ranks_bytes (file 2 0 0) 1 2) (9 ∷ 0 ∷ 0 ∷ 0 ∷ [])
     ∷ M 0 (ranks_number (file 2 0 0) 4 4 ∷ ranks_number (file 2 0 0) 4 5 ∷ ranks_number (file 2 0 0) 2 1 ∷ []) (0 ∷ 8 ∷ 8 ∷ [])
     -- the shorter of two; two kinds of one picture; 12 and 12 by 1, another E, another word
-    ∷ M 0 (shorterOf 92 76 1 2 ∷ shorterOf 76 92 1 2 ∷ shorterOf 76 76 1 2 ∷ []) (2 ∷ 1 ∷ 1 ∷ [])
+    ∷ M 0 (shorter_of 92 76 1 2 ∷ shorter_of 76 92 1 2 ∷ shorter_of 76 76 1 2 ∷ []) (2 ∷ 1 ∷ 1 ∷ [])
     ∷ M 0 (one (shorter_number (file 1 0 0) (file 4 1 0))) (one 0)
     ∷ M 0 (shorter_number (file 2 0 0) (set (file 2 0 0) 1 2) ∷ shorter_number (file 2 0 0) (set (file 2 0 0) 20 1) ∷ shorter_number (file 2 0 0) (set (file 2 0 0) 68 8) ∷ []) (11 ∷ 11 ∷ 11 ∷ [])
     -- a lookup through a refused opening

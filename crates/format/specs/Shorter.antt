@@ -18,10 +18,10 @@ unfoldable pub shorter_number : List ℕ → List ℕ → ℕ
 shorter_number b₁ b₂ = or_else (check_number b₁) (or_else (check_number b₂) (refuse OTHER (not (same_picture b₁ b₂)) 0))
 
 -- the second where it is shorter, else the first: for bytes, and for the lent slices themselves
-abbrev pub shorterOf {ℓ} : {X : Type ℓ} → ℕ → ℕ → X → X → X
-shorterOf n₁ n₂ x₁ x₂ = pick (ltb n₂ n₁) x₂ x₁
+abbrev pub shorter_of {ℓ} : {X : Type ℓ} → ℕ → ℕ → X → X → X
+shorter_of n₁ n₂ x₁ x₂ = pick (ltb n₂ n₁) x₂ x₁
 
 -- the contract: the bytes handed back, and, where the call is accepted, that it is the caller's own slice
 pub record ShorterPart (x₁ x₂ r : Bor (List ℕ)) : Type 0 where
-  pub bytes : r.now ≡ pick (eqb (shorter_number x₁.now x₂.now) 0) (shorterOf (length x₁.now) (length x₂.now) x₁.now x₂.now) []
-  pub own : shorter_number x₁.now x₂.now ≡ 0 → r ≡ shorterOf (length x₁.now) (length x₂.now) x₁ x₂
+  pub bytes : r.now ≡ pick (eqb (shorter_number x₁.now x₂.now) 0) (shorter_of (length x₁.now) (length x₂.now) x₁.now x₂.now) []
+  pub own : shorter_number x₁.now x₂.now ≡ 0 → r ≡ shorter_of (length x₁.now) (length x₂.now) x₁ x₂

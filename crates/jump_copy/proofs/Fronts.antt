@@ -12,7 +12,7 @@ use Rattle.format.specs.Jumps.{difference, differences_from, jumps_of}
 use Rattle.laws.proofs.Bytes.{below-drop}
 use Rattle.laws.proofs.Check.{bytes_of-numbers_of}
 use Rattle.laws.proofs.RankRange.{take-bytes_of}
-use Rattle.parts.specs.Encoder.{ifZero}
+use Rattle.parts.specs.Encoder.{if_zero}
 use Rattle.parts.proofs.Entries.{Entries}
 
 -- ---- entries
@@ -52,7 +52,7 @@ take-differences w p (suc n) [] = refl
 take-differences w p (suc n) (l ∷ ls) = ap (λ (ds : List ℕ). difference w p l ∷ ds) (take-differences w l n ls)
 
 -- a jump more where the difference is 0
-pub length_jump : (d p : ℕ) (ds ls : List ℕ) → length (jumps_of (d ∷ ds) (p ∷ ls)) ≡ ifZero d 1 0 + length (jumps_of ds ls)
+pub length_jump : (d p : ℕ) (ds ls : List ℕ) → length (jumps_of (d ∷ ds) (p ∷ ls)) ≡ if_zero d 1 0 + length (jumps_of ds ls)
 unfolding jumps_of
 length_jump zero p ds ls = omega arith
 length_jump (suc d) p ds ls = omega arith

@@ -17,10 +17,10 @@ use Rattle.stores.specs.Put.{put}
 use Rattle.rises.specs.Falls.{fallen}
 use Rattle.rises.specs.Far.{far_after, far}
 use Rattle.parts.specs.declared.Encoder.{Encoder}
-use Rattle.parts.specs.Encoder.{ifZero, taken_by, taken_all_by}
+use Rattle.parts.specs.Encoder.{if_zero, taken_by, taken_all_by}
 use Rattle.parts.specs.Ready.{put_by}
 use Rattle.parts.specs.Batch.{Along, RoomAll, put_all_by}
-use Rattle.parts.proofs.Taking.{if_zero, if_more}
+use Rattle.parts.proofs.Taking.{if_zero_lem, if_more}
 use Rattle.parts.proofs.Taken.{all_by_cons, all_by_end, put-all_cons, put-all-end}
 use Rattle.parts.proofs.Carried.{room-front}
 use Rattle.difference_rows.specs.Later.{later_differences, later_jumps}
@@ -33,14 +33,14 @@ use Rattle.jump_copy.proofs.Fronts.{jumps_from, length_jump}
 
 -- the jumps among positions are those that are far from the one before
 module _ (w : ℕ) where
-  one-far : (p q : ℕ) → p < q → fallen (leb (q - p) (256 ^ w - 1)) ≡ ifZero (difference w p q) 1 0
+  one-far : (p q : ℕ) → p < q → fallen (leb (q - p) (256 ^ w - 1)) ≡ if_zero (difference w p q) 1 0
   unfolding fallen
   one-far p q h =
       cases (leb (q - p) (256 ^ w - 1))
       (λ e.
       let d = fitting w p q (leb-true (q - p) (256 ^ w - 1) e) in
       rw e (sym (if_more {X = ℕ} (difference w p q) 1 0 (λ z. omega arith))))
-      (λ e. rw e (sym (if_zero {X = ℕ} (difference w p q) 1 0 (jump_is_zero w p q (leb-false (q - p) (256 ^ w - 1) e)))))
+      (λ e. rw e (sym (if_zero_lem {X = ℕ} (difference w p q) 1 0 (jump_is_zero w p q (leb-false (q - p) (256 ^ w - 1) e)))))
 
   far-jumps : (B p : ℕ) (qs : List ℕ) → Rising (suc p) B qs → far_after (256 ^ w - 1) p qs ≡ length (jumps_from w p qs)
   unfolding far_after differences_from

@@ -17,10 +17,10 @@ use Rattle.wire.specs.Wire.{add32}
 use Rattle.wire.proofs.Laws.{entry_of}
 use Rattle.parts.specs.declared.Cursor.{Cursor}
 use Rattle.parts.specs.Cursor.{before, moved_to, entry_of, walked_as, stepped_as}
-use Rattle.parts.specs.Encoder.{ifZero}
+use Rattle.parts.specs.Encoder.{if_zero}
 use Rattle.parts.proofs.Entries.{Entries, first_entry, rest_entries}
 use Rattle.parts.proofs.Steps.{add32-small, upper, upper_next}
-use Rattle.parts.proofs.Taking.{if_zero, if_more}
+use Rattle.parts.proofs.Taking.{if_zero_lem, if_more}
 use Rattle.difference_rows.specs.Steps.{jump_from, jump_by}
 use Rattle.difference_rows.proofs.Follows.{stepped-last}
 use Rattle.jump_walk.specs.Held.{Held}
@@ -84,13 +84,13 @@ module _ (b : List ℕ) (v : View) where
     unfolding entry_of
     exact_entry = rw (entry_of w narrow wide) (first_entry b w v.second (upper c) d (differences_from w p ls) row)
 
-    exact_next : (next b v c).next ≡ c.next + ifZero d 1 0
+    exact_next : (next b v c).next ≡ c.next + if_zero d 1 0
     unfolding next jump_by jump_from moved_to
     exact_next =
         let l = x.ahead.low in
         let n = x.ahead.ranks in
         cases (eqb d 0)
-        (λ e. rw (exact_entry, e, if_zero {X = ℕ} d 1 0 (eqb-true d 0 e)) (add32-small c.next 1 (omega arith)))
+        (λ e. rw (exact_entry, e, if_zero_lem {X = ℕ} d 1 0 (eqb-true d 0 e)) (add32-small c.next 1 (omega arith)))
         (λ e. rw (exact_entry, e, if_more {X = ℕ} d 1 0 (eqb-false d 0 e)) (sym (add-zero c.next)))
 
 -- the cursor c stands at rank r of the positions ls

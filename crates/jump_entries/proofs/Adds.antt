@@ -12,14 +12,14 @@ use Rattle.laws.proofs.Entries.{fitting, jump_is_zero}
 use Rattle.parts.specs.declared.Encoder.{Encoder}
 use Rattle.parts.specs.Encoder.{unchanged, taken_by}
 use Rattle.parts.specs.Ready.{moved, Keeps}
-use Rattle.parts.proofs.Taking.{if_zero, if_more, if_most, taken-moved}
+use Rattle.parts.proofs.Taking.{if_zero_lem, if_more, if_most, taken-moved}
 use Rattle.parts.proofs.Sounds.{sound_by}
 use Rattle.jump_entries.specs.Coding.{difference_at, jumps_coder}
 
 module _ (w : ℕ) (e : Encoder) (p : ℕ) where
   pub difference-first : e.rank ≡ 0 → 0 ≡ difference_at w e p
   unfolding difference_at
-  difference-first h = sym (if_zero e.rank 0 (difference w e.last p) h)
+  difference-first h = sym (if_zero_lem e.rank 0 (difference w e.last p) h)
 
   pub difference_later : (e.rank ≡ 0 → ⊥) → difference_at w e p ≡ difference w e.last p
   unfolding difference_at
@@ -39,7 +39,7 @@ module _ (w : ℕ) (e : Encoder) (p : ℕ) where
   module _ (h : difference_at w e p ≡ 0) where
     pub adds_jump : (jumps_coder w).first e p ≡ bytes 4 p
     unfolding jumps_coder
-    adds_jump = if_zero (difference_at w e p) (bytes 4 p) [] h
+    adds_jump = if_zero_lem (difference_at w e p) (bytes 4 p) [] h
 
     pub taken_jump : moved e p (e.first + 4) (e.second + w) ≡ taken_by (jumps_coder w) e p
     taken_jump =

@@ -10,7 +10,7 @@ use Rattle.format.specs.Bytes.{bytes, bytes_of}
 use Rattle.format.specs.Jumps.{difference, differences_from, differences, jumps_of, jumps}
 use Rattle.laws.proofs.Bytes.{length-bytes_of}
 use Rattle.parts.specs.declared.Encoder.{Encoder}
-use Rattle.parts.specs.Encoder.{ifZero, begun, taken_by, ended_by, taken_all_by, firsts_by, seconds_by}
+use Rattle.parts.specs.Encoder.{if_zero, begun, taken_by, ended_by, taken_all_by, firsts_by, seconds_by}
 use Rattle.parts.proofs.Taking.{rank-all, first-all, second-all}
 use Rattle.jump_entries.specs.Coding.{difference_at, jumps_coder}
 use Rattle.jump_entries.proofs.Adds.{difference_later}
@@ -31,7 +31,7 @@ module _ (w : ℕ) where
   seconds f g (p ∷ ls) = ap (λ (l : List ℕ). bytes w 0 ++ l) (seconds_from (taken_by (jumps_coder w) (begun f g) p) 0 ls refl)
 
   -- a jump where the difference is 0
-  jump_cons : (d p : ℕ) (ds ls : List ℕ) → bytes_of 4 (jumps_of (d ∷ ds) (p ∷ ls)) ≡ ifZero d (bytes 4 p) [] ++ bytes_of 4 (jumps_of ds ls)
+  jump_cons : (d p : ℕ) (ds ls : List ℕ) → bytes_of 4 (jumps_of (d ∷ ds) (p ∷ ls)) ≡ if_zero d (bytes 4 p) [] ++ bytes_of 4 (jumps_of ds ls)
   unfolding jumps_of bytes_of
   jump_cons zero p ds ls = refl
   jump_cons (suc d) p ds ls = refl
@@ -41,7 +41,7 @@ module _ (w : ℕ) where
   unfolding firsts_by jumps_coder taken_by differences_from
   firsts_from e r [] h = unfold jumps_of bytes_of in refl
   firsts_from e r (p ∷ ls) h =
-      ap₂ (λ (x y : List ℕ). x ++ y) (ap (λ (d : ℕ). ifZero d (bytes 4 p) []) (later e r p h))
+      ap₂ (λ (x y : List ℕ). x ++ y) (ap (λ (d : ℕ). if_zero d (bytes 4 p) []) (later e r p h))
       (firsts_from (taken_by (jumps_coder w) e p) e.rank ls (add-one e.rank))
       ∙ sym (jump_cons (difference w e.last p) p (differences_from w p ls) ls)
 

@@ -8,7 +8,7 @@ use native.Mathlib.Numerals.{add-one}
 use native.Mathlib.Omega.{arith}
 use borrow.Author.Tests.{eqb-true}
 use Rattle.format.specs.Bytes.{field}
-use Rattle.parts.specs.Encoder.{ifZero}
+use Rattle.parts.specs.Encoder.{if_zero}
 use Rattle.parts.proofs.Taking.{if_more}
 use Rattle.differences.specs.Walk.{plain, zeros}
 use Rattle.differences.proofs.Sums.{none-counted}
@@ -16,7 +16,7 @@ use Rattle.jump_pass.specs.Pass.{jumps_below}
 
 module _ (w second : ℕ) (b : List ℕ) where
   module _ (i : ℕ) {d : ℕ} (e : d ≡ field w (second + w * i) b) where
-    below_next : jumps_below w second b (i + 1) ≡ jumps_below w second b i + ifZero d 1 0
+    below_next : jumps_below w second b (i + 1) ≡ jumps_below w second b i + if_zero d 1 0
     unfolding jumps_below
     below_next = rw (add-one i, e)
 

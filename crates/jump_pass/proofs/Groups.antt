@@ -9,7 +9,7 @@ use lib.Dec.{eqb}
 use borrow.Author.Tests.{eqb-false, not-true}
 use Rattle.format.specs.declared.View.{View}
 use Rattle.format.specs.Bytes.{field}
-use Rattle.parts.specs.Encoder.{ifZero}
+use Rattle.parts.specs.Encoder.{if_zero}
 use Rattle.laws.proofs.Tools.{both_true}
 use Rattle.differences.specs.Walk.{Laid, plain, total, Room}
 use Rattle.differences.proofs.Sums.{entry_inside}
@@ -70,7 +70,7 @@ module _ (w second : ℕ) (b : List ℕ) (i : ℕ) (s : Passed) where
   unfolding both_near
   goes_two e h k m = near (field w (second + w * i) b) refl (field w (second + w * (i + 1)) b) refl e h k m
     where
-      near : (d : ℕ) → d ≡ field w (second + w * i) b → (f : ℕ) → f ≡ field w (second + w * (i + 1)) b → {x : ℕ} → x ≡ ifZero d 0 (ifZero f 0 (d + f)) → 0 < x → x < 131072
+      near : (d : ℕ) → d ≡ field w (second + w * i) b → (f : ℕ) → f ≡ field w (second + w * (i + 1)) b → {x : ℕ} → x ≡ if_zero d 0 (if_zero f 0 (d + f)) → 0 < x → x < 131072
           → s.least ≤ 4295032832 + 65536 * i → Goes w second b i (i + 2) s (record { least = s.least + x; left = s.left; right = true })
       near zero _ f _ e h k m = absurd (omega arith)
       near (suc d) _ zero _ e h k m = absurd (omega arith)

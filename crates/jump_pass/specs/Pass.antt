@@ -3,7 +3,7 @@ use Rattle.std.specs.Prelude.{ℕ, zero, suc, ◌+◌, ◌-◌, ◌*◌, ◌^◌
 use Rattle.format.specs.declared.View.{View}
 use Rattle.format.specs.Tools.{both, first}
 use Rattle.format.specs.Bytes.{field, numbers_of}
-use Rattle.parts.specs.Encoder.{ifZero}
+use Rattle.parts.specs.Encoder.{if_zero}
 use Rattle.jump_pass.specs.declared.check.Passed.{Passed}
 
 -- the entries from the i-th on, of a part of n entries of w bytes each that begins at `at`
@@ -51,7 +51,7 @@ pub record Readable (w second : ℕ) (b : List ℕ) (i end : ℕ) (s : Passed) :
 -- the jumps below rank i
 unfoldable pub jumps_below : ℕ → ℕ → List ℕ → ℕ → ℕ
 jumps_below w second b zero = 0
-jumps_below w second b (suc i) = jumps_below w second b i + ifZero (field w (second + w * i) b) 1 0
+jumps_below w second b (suc i) = jumps_below w second b i + if_zero (field w (second + w * i) b) 1 0
 
 -- it goes from s at rank i to t at rank `end`: however many ranks follow, the rest of the pass is right where t is right and what is left from t on is;
 -- and where t is right a jump is taken for each difference 0
@@ -65,7 +65,7 @@ pub record Goes (w second : ℕ) (b : List ℕ) (i end : ℕ) (s t : Passed) : T
 -- the sum of the differences of rank k and the next, or 0 where one of them is a jump
 unfoldable pub both_near : ℕ → ℕ → List ℕ → ℕ → ℕ
 both_near w second b k =
-    ifZero (field w (second + w * k) b) 0 (ifZero (field w (second + w * (k + 1)) b) 0 (field w (second + w * k) b + field w (second + w * (k + 1)) b))
+    if_zero (field w (second + w * k) b) 0 (if_zero (field w (second + w * (k + 1)) b) 0 (field w (second + w * k) b + field w (second + w * (k + 1)) b))
 
 -- rank 0 has the difference 0
 unfoldable pub starts : View → List ℕ → Bool

@@ -12,24 +12,24 @@ use borrow.Author.Tests.{eqb-true, eq-eqb, ltb-true, ltb-false, le-ltb}
 use Rattle.format.specs.Tools.{same}
 use Rattle.format.specs.declared.Dimensions.{Dimensions}
 use Rattle.format.specs.Accepted.{dimensions_of, empty_of, words_of}
-use Rattle.format.specs.Shorter.{same_picture, shorterOf}
+use Rattle.format.specs.Shorter.{same_picture, shorter_of}
 use Rattle.laws.proofs.Tools.{cases, both_true, same_refl, same_true}
 
 pub dimensions_path : {c c' : ℕ} {es es' : List ℕ} → c ≡ c' → es ≡ es' → ◌≡◌ {A = Dimensions} (record { count = c; extents = es }) (record { count = c'; extents = es' })
 dimensions_path p q = cc
 
-pub one_of_two {ℓ} : {X : Type ℓ} (n₁ n₂ : ℕ) (x₁ x₂ : X) → (shorterOf n₁ n₂ x₁ x₂ ≡ x₁) ⊎ (shorterOf n₁ n₂ x₁ x₂ ≡ x₂)
+pub one_of_two {ℓ} : {X : Type ℓ} (n₁ n₂ : ℕ) (x₁ x₂ : X) → (shorter_of n₁ n₂ x₁ x₂ ≡ x₁) ⊎ (shorter_of n₁ n₂ x₁ x₂ ≡ x₂)
 one_of_two n₁ n₂ x₁ x₂ = cases (ltb n₂ n₁) (λ e. inr (rw e)) (λ e. inl (rw e))
 
 pub no_longer : (x₁ x₂ : List ℕ)
-    → (length (shorterOf (length x₁) (length x₂) x₁ x₂) ≤ length x₁) × (length (shorterOf (length x₁) (length x₂) x₁ x₂) ≤ length x₂)
+    → (length (shorter_of (length x₁) (length x₂) x₁ x₂) ≤ length x₁) × (length (shorter_of (length x₁) (length x₂) x₁ x₂) ≤ length x₂)
 no_longer x₁ x₂ =
     cases (ltb (length x₂) (length x₁))
     (λ e. let t = ltb-true (length x₂) (length x₁) e in rw e (omega arith, le_refl _))
     (λ e. let t = ltb-false (length x₂) (length x₁) e in rw e (le_refl _, t))
 
-pub first-on-equal {ℓ} : {X : Type ℓ} (n : ℕ) (x₁ x₂ : X) → shorterOf n n x₁ x₂ ≡ x₁
-first-on-equal n x₁ x₂ = rw (le-ltb n n (le_refl n))
+pub first_on_equal {ℓ} : {X : Type ℓ} (n : ℕ) (x₁ x₂ : X) → shorter_of n n x₁ x₂ ≡ x₁
+first_on_equal n x₁ x₂ = rw (le-ltb n n (le_refl n))
 
 -- 11 does not apply exactly when dimensions, E and words are the same
 pub same_picture_iff : (b₁ b₂ : List ℕ)

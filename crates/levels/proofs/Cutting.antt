@@ -66,19 +66,29 @@ cut-levels (suc n) b xs h =
     let zs = up_to (length xs) b ∷ sizes_above n b (up_to (length xs) b) in
     let sum : total zs (length zs) ≡ length (levels_above n b (level b up)) + up_to (length xs) b
     = subst (λ (k : ℕ). total (k ∷ sizes_above n b k) (suc (length (sizes_above n b k))) ≡ length (levels_above n b (level b up)) + k) u i.sum in
-    let lists : (more : List Span) → cut zs (length zs) (levels_above n b (level b up) ++ (level b up ++ more)) ≡ levels n b up = rw u at i.lists in
+    let lists : (more : List Span) → cut zs (length zs) (levels_above n b (level b up) ++ (level b up ++ more)) ≡ levels n b up
+    = subst (λ (k : ℕ). (more : List Span) → cut (k ∷ sizes_above n b k) (suc (length (sizes_above n b k))) (levels_above n b (level b up) ++ (level b up ++ more)) ≡ levels n b up) u i.lists in
     let size : length (levels_above n b (level b up) ++ level b up) ≡ total zs (length zs)
     = length-append (levels_above n b (level b up)) (level b up) ∙ rw (length-level b up, u) (sym sum) in
     cases (leb (length xs) b)
     (λ e. record { lists = λ more. rw (l, e, one-level b xs more); sum = rw (l, e) (omega arith) })
     (λ e.
+    let above : sizes_above (suc n) b (length xs) ≡ zs = rw e in
+    let entries : levels_above (suc n) b (level b xs) ≡ levels_above n b (level b up) ++ level b up = rw (l, e) in
+    let all : levels (suc n) b xs ≡ levels n b up ++ (level b xs ∷ []) = rw e in
     record {
       lists =
           λ more.
-          rw (l, e, cut-last (length xs) zs (length zs) ((levels_above n b (level b up) ++ level b up) ++ (level b xs ++ more)))
-          (ap₂ (λ (x : List (List Span)) (y : List Span). x ++ (y ∷ []))
+          subst (λ (ks : List ℕ). cut (length xs ∷ ks) (suc (length ks)) (levels_above (suc n) b (level b xs) ++ (level b xs ++ more)) ≡ levels (suc n) b xs) (sym above)
+          (subst (λ (es : List Span). cut (length xs ∷ zs) (suc (length zs)) (es ++ (level b xs ++ more)) ≡ levels (suc n) b xs) (sym entries)
+          (cut-last (length xs) zs (length zs) ((levels_above n b (level b up) ++ level b up) ++ (level b xs ++ more))
+          ∙ ap₂ (λ (x : List (List Span)) (y : List Span). x ++ (y ∷ []))
           (ap (cut zs (length zs)) (append_assoc (levels_above n b (level b up)) (level b up) (level b xs ++ more)) ∙ lists (level b xs ++ more))
           (ap (take (length xs)) (drop_at (levels_above n b (level b up) ++ level b up) (level b xs ++ more) (total zs (length zs)) size)
-          ∙ one-level b xs more));
-      sum = rw (l, e) (total-last (length xs) zs (length zs) ∙ rw (← size));
+          ∙ one-level b xs more)
+          ∙ sym all));
+      sum =
+          subst (λ (ks : List ℕ). total (length xs ∷ ks) (suc (length ks)) ≡ length (levels_above (suc n) b (level b xs)) + length xs) (sym above)
+          (subst (λ (es : List Span). total (length xs ∷ zs) (suc (length zs)) ≡ length es + length xs) (sym entries)
+          (total-last (length xs) zs (length zs) ∙ ap (λ (k : ℕ). k + length xs) (sym size)));
     })

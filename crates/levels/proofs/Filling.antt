@@ -37,9 +37,9 @@ unfolding state
 sums_next b s x xs = next b s.left s.cells s.empty x xs
 
 -- a sum that may begin anew
-pick_most : (k x y : ℕ) → pick (eqb k 0) x (y + x) ≤ y + x
-pick_most zero x y = omega arith
-pick_most (suc k) x y = rw (ne_eqb (suc k) 0 (λ z. omega arith)) (omega arith)
+pick-most : (k x y : ℕ) → pick (eqb k 0) x (y + x) ≤ y + x
+pick-most zero x y = omega arith
+pick-most (suc k) x y = rw (ne_eqb (suc k) 0 (λ z. omega arith)) (omega arith)
 
 -- one page fewer
 fewer_pages : (b n : ℕ) → 1 ≤ b → 1 ≤ n → up_to n b ≡ suc (up_to (n - min b n) b)
@@ -125,8 +125,8 @@ module _ (d₀ : List ℕ) (b start below under : ℕ) (d : List ℕ) (s : Sums)
         let m = length-put d at (pair r.cells r.empty) in
         let c = rw sum-next at f.cells in
         let y = rw sum-next at f.empty in
-        let c1 = pick_most s.left last.cells s.cells in
-        let y1 = pick_most s.left last.empty s.empty in
+        let c1 = pick-most s.left last.cells s.cells in
+        let y1 = pick-most s.left last.empty s.empty in
         record {
           whole =
               rw l

@@ -10,9 +10,9 @@ use Rattle.laws.proofs.Tools.{cases}
 use Rattle.stores.specs.Put.{put}
 use Rattle.stores.proofs.Laws.{length-pair, put_nil}
 use Rattle.parts.specs.declared.Encoder.{Encoder}
-use Rattle.parts.specs.Encoder.{ifZero, unchanged, left_after, run_ends, taken_by, ended_by}
+use Rattle.parts.specs.Encoder.{if_zero, unchanged, left_after, run_ends, taken_by, ended_by}
 use Rattle.parts.specs.Ready.{Next, Keeps, moved}
-use Rattle.parts.proofs.Taking.{if_zero, if_more, if_le, pick_most, taken-moved}
+use Rattle.parts.proofs.Taking.{if_zero_lem, if_more, if_le, pick-most, taken-moved}
 use Rattle.parts.proofs.Sounds.{Kept, ends_some, sound_by}
 use Rattle.parts.proofs.Grown.{Lengthens}
 use Rattle.page_entries.specs.Coding.{page_entry, paged, pages_coder}
@@ -36,8 +36,8 @@ module _ (b : ℕ) (e : Encoder) (p : ℕ) where
       (unfold pages_coder in add-zero e.first) (rw (pages_none t) (add-zero e.second))
 
   -- the page after a run's entry
-  pub pages_turn : (left cells empty : ℕ) → run_ends e p ≡ true → left ≡ left_after b e.left → cells ≡ ifZero left (e.last + 1) e.cells
-      → empty ≡ ifZero left (e.last + 1 - e.rank) e.empty
+  pub pages_turn : (left cells empty : ℕ) → run_ends e p ≡ true → left ≡ left_after b e.left → cells ≡ if_zero left (e.last + 1) e.cells
+      → empty ≡ if_zero left (e.last + 1 - e.rank) e.empty
       → ◌≡◌ {A = Encoder}
       (record {
         rank = e.rank + 1;
@@ -58,7 +58,7 @@ module _ (b : ℕ) (e : Encoder) (p : ℕ) where
   unfolding pages_coder paged unchanged
   kept_pages n =
       let s = n.sound in
-      let first = pick_most (run_ends e p) (page_entry e) 8 (omega (arith, length_entry e)) in
+      let first = pick-most (run_ends e p) (page_entry e) 8 (omega (arith, length_entry e)) in
       cases (run_ends e p)
       (λ t.
       let u = ends_some e p t in
@@ -83,7 +83,7 @@ lengthens_pages b = record { first = λ e p t. refl; second = pages_none b; on =
 module _ (b : ℕ) (e : Encoder) where
   pub end_none : e.rank ≡ 0 → (pages_coder b).end_second e ≡ []
   unfolding pages_coder
-  end_none h = if_zero e.rank [] (page_entry e) h
+  end_none h = if_zero_lem e.rank [] (page_entry e) h
 
   pub end_entry : (e.rank ≡ 0 → ⊥) → (pages_coder b).end_second e ≡ page_entry e
   unfolding pages_coder

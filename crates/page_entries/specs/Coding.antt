@@ -6,7 +6,7 @@ use Rattle.format.specs.PagedRuns.{upper_entries, flat_spans, upper_levels}
 use Rattle.stores.specs.Put.{put, pair}
 use Rattle.parts.specs.declared.Encoder.{Encoder}
 use Rattle.parts.specs.declared.Sizes.{Sizes}
-use Rattle.parts.specs.Encoder.{Coder, Inside, ifZero, unchanged, left_after, run_ends}
+use Rattle.parts.specs.Encoder.{Coder, Inside, if_zero, unchanged, left_after, run_ends}
 use Rattle.levels.specs.LevelZero.{level_in}
 
 -- all cells, and the empty ones, from the page's start through the run
@@ -19,8 +19,8 @@ paged b e =
     record {
       left = left_after b e.left;
       base = e.base;
-      cells = ifZero (left_after b e.left) (e.last + 1) e.cells;
-      empty = ifZero (left_after b e.left) (e.last + 1 - e.rank) e.empty;
+      cells = if_zero (left_after b e.left) (e.last + 1) e.cells;
+      empty = if_zero (left_after b e.left) (e.last + 1 - e.rank) e.empty;
       fits = e.fits;
     }
 
@@ -42,7 +42,7 @@ pages_coder b =
       second = λ e p. pick (run_ends e p) (page_entry e) [];
       inside = λ e p. pick (run_ends e p) (paged b e) (unchanged e);
       end_first = λ e. [];
-      end_second = λ e. ifZero e.rank [] (page_entry e);
+      end_second = λ e. if_zero e.rank [] (page_entry e);
       sizes = page_sizes b;
       derived = λ z start d. put d start (bytes_of 4 (flat_spans (upper_levels b (level_in d z.seconds (start + z.first)))));
     }

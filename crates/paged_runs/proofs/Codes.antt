@@ -15,7 +15,7 @@ use Rattle.stores.specs.Put.{put, pair}
 use Rattle.stores.proofs.Laws.{put_nil}
 use Rattle.parts.specs.declared.Encoder.{Encoder}
 use Rattle.parts.specs.declared.Sizes.{Sizes}
-use Rattle.parts.specs.Encoder.{ifZero, begun, left_after, unchanged, run_ends, taken_by, taken_all_by, ended_by, firsts_by, seconds_by}
+use Rattle.parts.specs.Encoder.{if_zero, begun, left_after, unchanged, run_ends, taken_by, taken_all_by, ended_by, firsts_by, seconds_by}
 use Rattle.parts.specs.Codes.{Codes, PutOut, sizes_in, out_in}
 use Rattle.parts.proofs.Taking.{if_suc, run_ends_lem, no_firsts, same_fit, rank-all, second-all}
 use Rattle.page_entries.specs.Coding.{page_entry, paged, page_sizes, pages_coder, coder}
@@ -26,7 +26,7 @@ use Rattle.paged_runs.proofs.FirstPart.{levels-made}
 
 -- the entry of the pair x, where k more entries belong to the page that has the sum a so far
 entry_at : ℕ → Span → Span → Span
-entry_at k a x = ifZero k x (plus a x)
+entry_at k a x = if_zero k x (plus a x)
 
 sums_cons : (b k : ℕ) (a x : Span) (xs : List Span) → sums_from b k a (x ∷ xs) ≡ entry_at k a x ∷ sums_from b (left_after b k) (entry_at k a x) xs
 unfolding sums_from entry_at left_after
@@ -36,36 +36,36 @@ sums_cons b (suc k) a x xs = let e : suc k - 1 ≡ k = omega arith in rw e
 -- The encoder is in a page that has k more entries to come and the sum a so far; the runs before end at `end`, with v empty cells up to there.
 record InPage (e : Encoder) (k : ℕ) (a : Span) (end v : ℕ) : Type 0 where
   left : e.left ≡ k
-  cells : e.cells + (ifZero k none a).cells ≡ end
-  empty : e.empty + (ifZero k none a).empty ≡ v
+  cells : e.cells + (if_zero k none a).cells ≡ end
+  empty : e.empty + (if_zero k none a).empty ≡ v
 
 -- the open run as a length pair
 abbrev open_span : ℕ → ℕ → ℕ → ℕ → Span
 open_span end v p r = record { cells = suc p - end; empty = p - r - v }
 
 module _ (k : ℕ) (a : Span) (end v p r c m : ℕ) (lo : end ≤ suc p) (hi : v + r ≤ p) where
-  entry_cells : c + (ifZero k none a).cells ≡ end → (entry_at k a (open_span end v p r)).cells ≡ p + 1 - c
+  entry_cells : c + (if_zero k none a).cells ≡ end → (entry_at k a (open_span end v p r)).cells ≡ p + 1 - c
   unfolding entry_at
   entry_cells h = go k a h
     where
-      go : (k : ℕ) (a : Span) → c + (ifZero k none a).cells ≡ end → (ifZero k (open_span end v p r) (plus a (open_span end v p r))).cells ≡ p + 1 - c
+      go : (k : ℕ) (a : Span) → c + (if_zero k none a).cells ≡ end → (if_zero k (open_span end v p r) (plus a (open_span end v p r))).cells ≡ p + 1 - c
       go zero a h = omega arith
       go (suc k) a h = omega arith
 
-  entry_empty : m + (ifZero k none a).empty ≡ v → (entry_at k a (open_span end v p r)).empty ≡ p + 1 - suc r - m
+  entry_empty : m + (if_zero k none a).empty ≡ v → (entry_at k a (open_span end v p r)).empty ≡ p + 1 - suc r - m
   unfolding entry_at
   entry_empty h = go k a h
     where
-      go : (k : ℕ) (a : Span) → m + (ifZero k none a).empty ≡ v → (ifZero k (open_span end v p r) (plus a (open_span end v p r))).empty ≡ p + 1 - suc r - m
+      go : (k : ℕ) (a : Span) → m + (if_zero k none a).empty ≡ v → (if_zero k (open_span end v p r) (plus a (open_span end v p r))).empty ≡ p + 1 - suc r - m
       go zero a h = omega arith
       go (suc k) a h = omega arith
 
 -- after the entry y of a run that ends with q cells, or q empty ones: a new page, or the same one with the sum y
-page-cells : (n c q : ℕ) (y : Span) → c ≤ q → y.cells ≡ q - c → ifZero n q c + (ifZero n none y).cells ≡ q
+page-cells : (n c q : ℕ) (y : Span) → c ≤ q → y.cells ≡ q - c → if_zero n q c + (if_zero n none y).cells ≡ q
 page-cells zero c q y h k = omega arith
 page-cells (suc n) c q y h k = omega arith
 
-page-empty : (n c q : ℕ) (y : Span) → c ≤ q → y.empty ≡ q - c → ifZero n q c + (ifZero n none y).empty ≡ q
+page-empty : (n c q : ℕ) (y : Span) → c ≤ q → y.empty ≡ q - c → if_zero n q c + (if_zero n none y).empty ≡ q
 page-empty zero c q y h k = omega arith
 page-empty (suc n) c q y h k = omega arith
 
@@ -105,7 +105,7 @@ module _ (b : ℕ) (e : Encoder) (k : ℕ) (a : Span) (end v r : ℕ) (h : e.ran
         empty = rw (t, i.left, h) (page-empty (left_after b k) e.empty (e.last + 1 - suc r) entry (omega arith) m ∙ n);
       }
 
-  closed : ifZero e.rank [] (page_entry e) ≡ bytes_of 4 (flat_spans (sums_from b k a (open_span end v e.last r ∷ [])))
+  closed : if_zero e.rank [] (page_entry e) ≡ bytes_of 4 (flat_spans (sums_from b k a (open_span end v e.last r ∷ [])))
   unfolding entry
   closed =
       if_suc e.rank r [] (page_entry e) h

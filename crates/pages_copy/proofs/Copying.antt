@@ -7,7 +7,7 @@ use Rattle.parts.specs.declared.Cursor.{Cursor}
 use Rattle.parts.specs.declared.Encoder.{Encoder}
 use Rattle.wire.specs.Wire.{add32}
 use Rattle.parts.specs.Cursor.{walked_as}
-use Rattle.parts.specs.Encoder.{ifZero, left_after}
+use Rattle.parts.specs.Encoder.{if_zero, left_after}
 use Rattle.parts.specs.Batch.{Along, RoomAll}
 use Rattle.rises.specs.Copied.{copied}
 use Rattle.rises.proofs.Copied.{shifted}
@@ -46,7 +46,7 @@ module _ (b : List ℕ) (v : View) (c : Cursor) (m : ℕ) (w : Behind b v c m) (
 
   -- the entries that the page still takes behind t of them
   abbrev pub left_on : ℕ → ℕ
-  left_on t = ifZero t e.left (left_after s e.left - (t - 1))
+  left_on t = if_zero t e.left (left_after s e.left - (t - 1))
 
   abbrev encoder_at : ℕ → Encoder
   encoder_at t = encoder_on e (cells t) (ranks t) t (left_on t)

@@ -1,7 +1,7 @@
 -- What the code needs of an encoder holds at the beginning, and is kept along rising positions by a kind that adds little. Assumes nothing.
 use Rattle.std.proofs.Common.{◌≡◌, ℕ, zero, suc, ◌+◌, ◌-◌, ◌≤◌, Bool, true, false, not, eqb, length, arith}
 use Rattle.parts.specs.declared.Encoder.{Encoder}
-use Rattle.parts.specs.Encoder.{Coder, ifZero, begun, run_ends, taken_by}
+use Rattle.parts.specs.Encoder.{Coder, if_zero, begun, run_ends, taken_by}
 use Rattle.parts.specs.Ready.{passed, Sound, Next, Keeps}
 
 -- where a run ends there is one
@@ -12,7 +12,7 @@ ends_some e p h = go e.rank (not (eqb p (e.last + 1))) h
     never : false ≡ true → ⊥
     never z = let y : ◌≡◌ {A = ℕ} 0 1 = cc in omega arith
 
-    go : (n : ℕ) (t : Bool) → ifZero n false t ≡ true → 1 ≤ n
+    go : (n : ℕ) (t : Bool) → if_zero n false t ≡ true → 1 ≤ n
     go zero t z = absurd (never z)
     go (suc n) t z = omega arith
 

@@ -5,26 +5,26 @@ use Rattle.stores.specs.Put.{put}
 use Rattle.stores.proofs.Laws.{put_nil, length-put}
 use Rattle.parts.specs.declared.Encoder.{Encoder}
 use Rattle.parts.specs.Ready.{moved, put_by}
-use Rattle.parts.specs.Encoder.{Coder, ifZero, unchanged, left_after, run_ends, taken_by, ended_by, firsts_by, seconds_by, taken_all_by}
+use Rattle.parts.specs.Encoder.{Coder, if_zero, unchanged, left_after, run_ends, taken_by, ended_by, firsts_by, seconds_by, taken_all_by}
 
 -- ---- a number that is 0 or not
 
 module _ {ℓ} {X : Type ℓ} where
-  pub if_zero : (n : ℕ) (x y : X) → n ≡ 0 → ifZero n x y ≡ x
-  if_zero n x y h = rw h
+  pub if_zero_lem : (n : ℕ) (x y : X) → n ≡ 0 → if_zero n x y ≡ x
+  if_zero_lem n x y h = rw h
 
-  pub if_more : (n : ℕ) (x y : X) → (n ≡ 0 → ⊥) → ifZero n x y ≡ y
+  pub if_more : (n : ℕ) (x y : X) → (n ≡ 0 → ⊥) → if_zero n x y ≡ y
   if_more zero x y h = absurd (h refl)
   if_more (suc n) x y h = refl
 
-  pub if_suc : (n k : ℕ) (x y : X) → n ≡ suc k → ifZero n x y ≡ y
+  pub if_suc : (n k : ℕ) (x y : X) → n ≡ suc k → if_zero n x y ≡ y
   if_suc n k x y h = rw h
 
 -- ---- tests
 
 pub ends-none : (e : Encoder) (p : ℕ) → e.rank ≡ 0 → false ≡ run_ends e p
 unfolding run_ends
-ends-none e p h = sym (if_zero e.rank false (not (eqb p (e.last + 1))) h)
+ends-none e p h = sym (if_zero_lem e.rank false (not (eqb p (e.last + 1))) h)
 
 pub ends_later : (e : Encoder) (p : ℕ) → (e.rank ≡ 0 → ⊥) → not (eqb p (e.last + 1)) ≡ run_ends e p
 unfolding run_ends
@@ -37,7 +37,7 @@ run_ends_lem e r p h = if_suc e.rank r false (not (eqb p (e.last + 1))) h ∙ ap
 
 pub left-first : (l n : ℕ) → n ≡ 0 → l - 1 ≡ left_after l n
 unfolding left_after
-left-first l n h = sym (if_zero n (l - 1) (n - 1) h)
+left-first l n h = sym (if_zero_lem n (l - 1) (n - 1) h)
 
 pub left-next : (l n : ℕ) → (n ≡ 0 → ⊥) → n - 1 ≡ left_after l n
 unfolding left_after
@@ -49,15 +49,15 @@ width-1 w h = rw h
 pub width-2 : (w : ℕ) → w ≡ 2 → 65535 ≡ 256 ^ w - 1
 width-2 w h = rw h
 
-pub pick_most : (t : Bool) (x : List ℕ) (m : ℕ) → length x ≤ m → length (pick t x []) ≤ m
-pick_most true x m h = h
-pick_most false x m h = omega arith
+pub pick-most : (t : Bool) (x : List ℕ) (m : ℕ) → length x ≤ m → length (pick t x []) ≤ m
+pick-most true x m h = h
+pick-most false x m h = omega arith
 
-pub if_most : (n : ℕ) (x : List ℕ) (m : ℕ) → length x ≤ m → length (ifZero n x []) ≤ m
+pub if_most : (n : ℕ) (x : List ℕ) (m : ℕ) → length x ≤ m → length (if_zero n x []) ≤ m
 if_most zero x m h = h
 if_most (suc n) x m h = omega arith
 
-pub if_le : (n x y a m : ℕ) → x + a ≤ m → y + a ≤ m → ifZero n x y + a ≤ m
+pub if_le : (n x y a m : ℕ) → x + a ≤ m → y + a ≤ m → if_zero n x y + a ≤ m
 if_le zero x y a m h k = h
 if_le (suc n) x y a m h k = k
 

@@ -4,9 +4,9 @@ use Rattle.parts.specs.declared.Encoder.{Encoder}
 use Rattle.parts.specs.declared.Sizes.{Sizes}
 
 -- x where the number is 0, else y
-abbrev pub ifZero {ℓ} : {X : Type ℓ} → ℕ → X → X → X
-ifZero zero x y = x
-ifZero (suc n) x y = y
+abbrev pub if_zero {ℓ} : {X : Type ℓ} → ℕ → X → X → X
+if_zero zero x y = x
+if_zero (suc n) x y = y
 
 -- nothing taken; the parts begin at f and g
 unfoldable pub begun : ℕ → ℕ → Encoder
@@ -37,11 +37,11 @@ unchanged e = record { left = e.left; base = e.base; cells = e.cells; empty = e.
 
 -- of l ranks that a base serves, or entries that a page takes, so many are left after one more; where none was left it is the first of l
 unfoldable pub left_after : ℕ → ℕ → ℕ
-left_after l left = ifZero left (l - 1) (left - 1)
+left_after l left = if_zero left (l - 1) (left - 1)
 
 -- a run ends before p: there is one, and p is not the cell after it
 unfoldable pub run_ends : Encoder → ℕ → Bool
-run_ends e p = ifZero e.rank false (not (p == e.last + 1))
+run_ends e p = if_zero e.rank false (not (p == e.last + 1))
 
 -- the bytes are the encoder's, the counts c1 and c2
 abbrev pub sizes_as : Encoder → ℕ → ℕ → Sizes

@@ -12,8 +12,8 @@ use Rattle.format.specs.PointedJumps.{jump_ranks_from}
 use Rattle.laws.proofs.Tools.{cases}
 use Rattle.laws.proofs.Numbers.{numbers-at}
 use Rattle.laws.proofs.Pointers.{zeros_below, jump_rank_is, jump_ranks-rise}
-use Rattle.parts.specs.Encoder.{ifZero}
-use Rattle.parts.proofs.Taking.{if_zero}
+use Rattle.parts.specs.Encoder.{if_zero}
+use Rattle.parts.proofs.Taking.{if_zero_lem}
 use Rattle.parts.proofs.Entries.{Entries}
 use Rattle.differences.specs.Walk.{zeros, JumpAfter}
 use Rattle.pointed_jumps.proofs.Zeros.{get_or_inside, zeros_more}
@@ -45,7 +45,7 @@ module _ (w second : ℕ) (b ds : List ℕ) (e : Entries b w second 0 ds) where
   zeros-after r (suc n) h =
       let i = zeros-after r n (omega arith) in
       let s = zeros_more (r + suc n) ds h in
-      let f = ap (λ (d : ℕ). ifZero {X = ℕ} d 1 0) (field_at (r + suc n) h) in
+      let f = ap (λ (d : ℕ). if_zero {X = ℕ} d 1 0) (field_at (r + suc n) h) in
       let t = ap (λ (x : ℕ). zeros_below x ds) (add-suc r n) in
       omega arith
 
@@ -59,8 +59,8 @@ module _ (w second : ℕ) (b ds : List ℕ) (e : Entries b w second 0 ds) where
       let t = rw s at (zeros-after (rank_of ds i) (rank_of ds j - rank_of ds i) (let l = q.0 in omega arith)) in
       let a = zeros_more (rank_of ds i) ds p.0 in
       let c = zeros_more (rank_of ds j) ds q.0 in
-      let x = if_zero {X = ℕ} (get_or ds (rank_of ds i) 1) 1 0 p.1 in
-      let y = if_zero {X = ℕ} (get_or ds (rank_of ds j) 1) 1 0 q.1 in
+      let x = if_zero_lem {X = ℕ} (get_or ds (rank_of ds i) 1) 1 0 p.1 in
+      let y = if_zero_lem {X = ℕ} (get_or ds (rank_of ds j) 1) 1 0 q.1 in
       let u = p.2 in
       let v = q.2 in
       omega arith

@@ -16,7 +16,7 @@ use Rattle.laws.proofs.Numbers.{numbers-at}
 use Rattle.laws.proofs.Bounds.{index_inside}
 use Rattle.laws.proofs.Check.{length-numbers_of}
 use Rattle.laws.proofs.Pointers.{zeros_below, jump_rank_is, jump_rank_of, jump_ranks-rise, pointer_at, length-pointers}
-use Rattle.parts.specs.Encoder.{ifZero}
+use Rattle.parts.specs.Encoder.{if_zero}
 use Rattle.jump_pass.specs.Pass.{jumps_left, differences_left, passes_from, jumps_below}
 use Rattle.jump_pass.proofs.Turns.{entries-all}
 use Rattle.pointed_jumps.specs.Pointed.{pointers_said, pointed_right}
@@ -58,7 +58,7 @@ module _ (b : List ℕ) (v : View) where
   unfolding jumps_below
   below_is zero h = unfold zeros_below in refl
   below_is (suc i) h =
-      ap₂ (λ x d. x + ifZero d 1 0) (below_is i (omega arith)) (sym (difference-at i h)) ∙ sym (zeros_more i ds (rw length-left h))
+      ap₂ (λ x d. x + if_zero d 1 0) (below_is i (omega arith)) (sym (difference-at i h)) ∙ sym (zeros_more i ds (rw length-left h))
 
   -- ---- pointers that stand for jumps
 

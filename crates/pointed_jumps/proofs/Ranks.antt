@@ -15,11 +15,11 @@ use Rattle.laws.proofs.Numbers.{numbers-at}
 use Rattle.laws.proofs.Pointers.{zeros_below, jump_rank_is, jump_rank_of, ranks-rising, jump_ranks-rise, jump_rank-least, length-jumps, jump_at-rank, pointer_at, length-pointers}
 use Rattle.wire.specs.Wire.{whole}
 use Rattle.wire.proofs.Laws.{whole-there}
-use Rattle.parts.specs.Encoder.{ifZero}
+use Rattle.parts.specs.Encoder.{if_zero}
 use Rattle.parts.specs.Last.{Ascending}
 use Rattle.parts.proofs.Entries.{Entries}
 use Rattle.parts.proofs.Places.{rising_lt}
-use Rattle.parts.proofs.Taking.{if_zero}
+use Rattle.parts.proofs.Taking.{if_zero_lem}
 use Rattle.differences.specs.declared.walk.Reached.{Reached}
 use Rattle.differences.specs.Walk.{walked, origin, zeros, at_once}
 use Rattle.differences.proofs.Sums.{entry_inside}
@@ -53,7 +53,7 @@ module _ (b : List ℕ) (w s : ℕ) (ds : List ℕ) (e : Entries b w s 0 ds) (fi
   zeros_are (suc r) h =
       let f : get_or ds (suc r) 1 ≡ field w (s + w * (0 + suc r)) b
       = get_or_inside ds (suc r) h ∙ sym (field_at b w s ds e (suc r) h) ∙ ap (λ (k : ℕ). field w (s + w * k) b) (omega arith) in
-      let i = zeros_more (suc r) ds h ∙ ap₂ (λ x d. x + ifZero d 1 0) (zeros_are r (omega arith)) f in
+      let i = zeros_more (suc r) ds h ∙ ap₂ (λ x d. x + if_zero d 1 0) (zeros_are r (omega arith)) f in
       omega arith
 
 first-zero : (w : ℕ) (ls : List ℕ) → 0 < length ls → get_or (differences w ls) 0 1 ≡ 0
@@ -96,7 +96,7 @@ module _ (b : List ℕ) (v : View) (ls : List ℕ) (h : Pointed b v ls) where
         let z = h.held.size in
         let s = zeros_are b v.width v.second ds h.held.differences (first-zero v.width ls (omega arith)) (rank_of j) q.0 in
         let m = zeros_more (rank_of j) ds q.0 in
-        let o = if_zero {X = ℕ} (get_or ds (rank_of j) 1) 1 0 q.1 in
+        let o = if_zero_lem {X = ℕ} (get_or ds (rank_of j) 1) 1 0 q.1 in
         record {
           rank = n;
           least = jump_rank-least ds j inside;

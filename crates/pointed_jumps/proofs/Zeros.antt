@@ -9,7 +9,7 @@ use lib.Dec.{leb}
 use Rattle.format.specs.PointedJumps.{jump_ranks_from}
 use Rattle.laws.proofs.Tools.{both_true}
 use Rattle.laws.proofs.Pointers.{zeros_below}
-use Rattle.parts.specs.Encoder.{ifZero}
+use Rattle.parts.specs.Encoder.{if_zero}
 use Rattle.jump_pass.specs.Pass.{passes}
 use Rattle.jump_pass.proofs.Pass.{never}
 
@@ -20,7 +20,7 @@ get_or_inside (x ∷ xs) zero h = refl
 get_or_inside (x ∷ xs) (suc i) h = get_or_inside xs i (omega arith)
 
 -- one rank more
-pub zeros_more : (r : ℕ) (ds : List ℕ) → r < length ds → zeros_below (suc r) ds ≡ zeros_below r ds + ifZero (get_or ds r 1) 1 0
+pub zeros_more : (r : ℕ) (ds : List ℕ) → r < length ds → zeros_below (suc r) ds ≡ zeros_below r ds + if_zero (get_or ds r 1) 1 0
 unfolding zeros_below
 zeros_more r [] h = absurd (omega arith)
 zeros_more zero (zero ∷ ds) h = refl

@@ -10,16 +10,16 @@ use Rattle.format.specs.Tools.{pick, unless}
 use Rattle.format.specs.Runs.{Run, run_at, runs_from, runs}
 use Rattle.recode.specs.RunCount.{run_count, end_after, first_begins, joint}
 
-length_unless : (t : Bool) (x : Run) (xs : List Run) → length (unless t x xs) ≡ pick t 0 1 + length xs
-length_unless true x xs = omega arith
-length_unless false x xs = omega arith
+length-unless : (t : Bool) (x : Run) (xs : List Run) → length (unless t x xs) ≡ pick t 0 1 + length xs
+length-unless true x xs = omega arith
+length-unless false x xs = omega arith
 
 count_from_lem : (p r : ℕ) (ls : List ℕ) → length (runs_from p r ls) ≡ suc (run_count (suc p) ls)
 unfolding runs_from run_count
 count_from_lem p r [] = refl
 count_from_lem p r (l ∷ ls) =
     let i = count_from_lem l (suc r) ls in
-    let u = length_unless (eqb l (suc p)) (run_at p r) (runs_from l (suc r) ls) in
+    let u = length-unless (eqb l (suc p)) (run_at p r) (runs_from l (suc r) ls) in
     omega arith
 
 pub count_runs : (ls : List ℕ) → length (runs ls) ≡ run_count 0 ls

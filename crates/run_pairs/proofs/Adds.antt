@@ -11,7 +11,7 @@ use Rattle.stores.proofs.Laws.{length-pair}
 use Rattle.parts.specs.declared.Encoder.{Encoder}
 use Rattle.parts.specs.Encoder.{unchanged, run_ends, taken_by}
 use Rattle.parts.specs.Ready.{Keeps, moved}
-use Rattle.parts.proofs.Taking.{pick_most, taken-moved}
+use Rattle.parts.proofs.Taking.{pick-most, taken-moved}
 use Rattle.parts.proofs.Sounds.{sound_by}
 use Rattle.parts.proofs.Grown.{Lengthens}
 use Rattle.run_pairs.specs.Coding.{run_pair, runs_coder}
@@ -57,7 +57,7 @@ keeps =
     (λ e p n.
     let s = n.sound in
     record {
-      first = pick_most (run_ends e p) (run_pair e) 8 (omega (arith, length_run e));
+      first = pick-most (run_ends e p) (run_pair e) 8 (omega (arith, length_run e));
       second = omega arith;
       base = omega arith;
       cells = omega arith;

@@ -3,7 +3,7 @@ use Rattle.std.specs.Prelude.{ℕ, ◌+◌, ◌-◌, ◌*◌, ◌/◌, List, [],
 use Rattle.format.specs.Tools.{pick}
 use Rattle.stores.specs.Put.{pair}
 use Rattle.parts.specs.declared.Encoder.{Encoder}
-use Rattle.parts.specs.Encoder.{Coder, ifZero, unchanged, run_ends, sizes_as}
+use Rattle.parts.specs.Encoder.{Coder, if_zero, unchanged, run_ends, sizes_as}
 
 -- the pair of the run that ends at the last position
 unfoldable pub run_pair : Encoder → List ℕ
@@ -15,7 +15,7 @@ runs_coder =
       first = λ e p. pick (run_ends e p) (run_pair e) [];
       second = λ e p. [];
       inside = λ e p. unchanged e;
-      end_first = λ e. ifZero e.rank [] (run_pair e);
+      end_first = λ e. if_zero e.rank [] (run_pair e);
       end_second = λ e. [];
       sizes = λ e. sizes_as e (e.first / 8) 0;
       derived = λ z start d. d;

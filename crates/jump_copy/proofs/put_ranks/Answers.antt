@@ -55,17 +55,17 @@ module _ (c : tie.After-ranks-on) where
   least : start.args.c.next ≤ c.ranks-on.result.next
   least =
       let a = start.args in
-      jumps-least a.file.now a.v start.pre.0.0 start.pre.0.1 a.c a.n start.pre.1 some c.ranks-on.ensures
+      jumps-least a.file.now a.v start.requires.0.0 start.requires.0.1 a.c a.n start.requires.1 some c.ranks-on.ensures
 
   jumps_in : start.args.v.start + 4 * start.args.c.next + 4 * (c.ranks-on.result.next - start.args.c.next) ≤ length start.args.file.now
   jumps_in =
       let a = start.args in
-      jumps-there a.file.now a.v start.pre.0.0 start.pre.0.1 a.c a.n start.pre.1 some c.ranks-on.ensures
+      jumps-there a.file.now a.v start.requires.0.0 start.requires.0.1 a.c a.n start.requires.1 some c.ranks-on.ensures
 
   differences-in : start.args.v.second + start.args.v.width * (start.args.c.rank + 1) + start.args.v.width * (start.args.n - 1) ≤ length start.args.file.now
   differences-in =
       let a = start.args in
-      differences-there a.file.now a.v start.pre.0.0 start.pre.0.1 a.c a.n start.pre.1 some c.ranks-on.ensures
+      differences-there a.file.now a.v start.requires.0.0 start.requires.0.1 a.c a.n start.requires.1 some c.ranks-on.ensures
 
   file-fits : length start.args.file.now < 2 ^ 64
   file-fits = start.good.1.0.0
@@ -75,8 +75,8 @@ module _ (c : tie.After-ranks-on) where
       × (first.put_all_lem.result.second + a.v.width * (a.n - 1) ≤ length a.dst.now)
   rooms =
       let a = start.args in
-      copies_room a.file.now a.v start.pre.0.0 start.pre.0.1 a.c a.n start.pre.1 some c.ranks-on.ensures a.e start.pre.2
-      first.put_all_lem.ensures.0 a.dst.now start.pre.3
+      copies_room a.file.now a.v start.requires.0.0 start.requires.0.1 a.c a.n start.requires.1 some c.ranks-on.ensures a.e start.requires.2
+      first.put_all_lem.ensures.0 a.dst.now start.requires.3
 
   length-first : length first.put_all_lem.last.0 ≡ length start.args.dst.now
   length-first =
@@ -124,12 +124,12 @@ pub encoder_on-requires : goal.encoder_on-requires
 encoder_on-requires c =
         let o = start (goal.at.encoder_on-requires c).After-ranks_on-last in
     let a = o.args in
-    encoder_fits a.file.now a.v o.pre.0.0 o.pre.0.1 a.c a.n o.pre.1 (some (goal.at.encoder_on-requires c).After-ranks_on-last) c.ranks_on-last.ensures a.e o.pre.2 (first (goal.at.encoder_on-requires c).After-ranks_on-last).put_all_lem.ensures.0
+    encoder_fits a.file.now a.v o.requires.0.0 o.requires.0.1 a.c a.n o.requires.1 (some (goal.at.encoder_on-requires c).After-ranks_on-last) c.ranks_on-last.ensures a.e o.requires.2 (first (goal.at.encoder_on-requires c).After-ranks_on-last).put_all_lem.ensures.0
 
 pub returns : goal.returns
 returns c =
         let o = start (goal.at.returns c).After-ranks_on-last in
     let a = o.args in
     let small : Below 256 a.file.now = below_elements 256 a.file.now (λ i. (c.type_inv.file i).fits) in
-    put-ranks a.file.now a.v o.pre.0.0 o.pre.0.1 a.c a.n o.pre.1 (some (goal.at.returns c).After-ranks_on-last) c.ranks_on-last.ensures a.e o.pre.2 (first (goal.at.returns c).After-ranks_on-last).put_all_lem.ensures.0
-    a.dst.now o.pre.3 small c.encoder_on.ensures c.next.ensures (first (goal.at.returns c).After-ranks_on-last).put_all_lem.ensures.1 c.copy.ensures c.copy-2.ensures
+    put-ranks a.file.now a.v o.requires.0.0 o.requires.0.1 a.c a.n o.requires.1 (some (goal.at.returns c).After-ranks_on-last) c.ranks_on-last.ensures a.e o.requires.2 (first (goal.at.returns c).After-ranks_on-last).put_all_lem.ensures.0
+    a.dst.now o.requires.3 small c.encoder_on.ensures c.next.ensures (first (goal.at.returns c).After-ranks_on-last).put_all_lem.ensures.1 c.copy.ensures c.copy-2.ensures

@@ -11,9 +11,9 @@ module _ (o : tie.Start) where
   here : Stands o.args.file.now o.args.v o.requires.0.0 o.requires.1.rank o.args.c
   here = reached_stands o.args.file.now o.args.v o.requires.0.0 o.requires.0.1 o.args.c (o.args.n + 1) o.requires.1 (omega arith)
 
-  below : o.pre.1.rank + o.args.n < length o.pre.0.0
+  below : o.requires.1.rank + o.args.n < length o.requires.0.0
   below =
-      let k = reached_below o.args.file.now o.args.v o.pre.0.0 o.pre.0.1 o.args.c (o.args.n + 1) o.pre.1 (omega arith) in
+      let k = reached_below o.args.file.now o.args.v o.requires.0.0 o.requires.0.1 o.args.c (o.args.n + 1) o.requires.1 (omega arith) in
       omega arith
 
 pub walk-place-requires : goal.walk-place-requires

@@ -25,7 +25,7 @@ some c = let k = c.loop-rank-test.true in c.batch_of-n.ensures.2 (omega arith)
 -- what the cursor has stepped along
 next : (c : After-positions-c)
     → Taken c.args.file.now c.args.v c.positions-c.result c.loop-rank.rank c.batch_of-n.result
-    c.loop-rank.batch c.positions-c.new.v.1.1.0
+    c.loop-rank.batch c.positions-c.new.out
 next c =
         let l = c.loop-rank in
     let n = c.batch_of-n.ensures.1 in

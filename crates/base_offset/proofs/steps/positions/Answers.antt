@@ -67,7 +67,7 @@ loop-i-preserved c =
     let o = c.along-c in
     let d = rw (size (goal.at.loop-i-preserved c).After-ranks_ahead) at o.ensures in (
       t.inside,
-      length_whole l.out o.new.v.1.1.0 l.i _ (omega arith) (rw e t.inside) (ap length d.positions ∙ length-walked_as _ _ _) ∙ e,
+      length_whole l.out o.new.out l.i _ (omega arith) (rw e t.inside) (ap length d.positions ∙ length-walked_as _ _ _) ∙ e,
       part_turn _ _ (length a.out.now) l.c o.result l.out _ _ l.i _ (omega arith) t.inside e d l.invariant.2,
       there_rest a.file.now a.v l.c _ l.i (length a.out.now) _ t l.invariant.3 o.result d.cursor,
     )

@@ -29,8 +29,7 @@ whole : (c : At-loop-i) (x : ℕ)
     → counted c.loop-i.count (drop c.loop-i.i c.args.d.extents) (drop c.loop-i.i c.args.low) (drop c.loop-i.i c.args.high) ≡ x
     → x ≡ pick (box_allowed c.args.d c.args.low c.args.high) (box_count c.args.d.extents c.args.low c.args.high) 0
 whole c x h =
-        let f = four (AT.Start c) in
-    sym h ∙ c.loop-i.invariant.2 ∙ count-all c.args.d c.args.low c.args.high f.1 f.2
+    sym h ∙ c.loop-i.invariant.2 ∙ count-all c.args.d c.args.low c.args.high (search rules) (search rules)
 
 -- the next count stays in the picture
 room : (c : Else-h-l)
@@ -39,13 +38,14 @@ room : (c : Else-h-l)
     ≤ product c.args.d.extents
 room c =
         let l = c.loop-i in
-    count_room l.count l.i c.args.d.extents c.args.low c.args.high c.loop-i-test.true (four (AT.Start c)) _ l.invariant.1 c.if-e-h.false
+    count_room l.count l.i c.args.d.extents c.args.low c.args.high c.loop-i-test.true (search rules, search rules, search rules) _ l.invariant.1 c.if-e-h.false
 
 next : (c : Else-h-l)
     → c.loop-i.count * (get_or c.args.high c.loop-i.i 0 - get_or c.args.low c.loop-i.i 0 + 1)
     ≤ 16777216
+unfolding cells
 next c =
-        let m = most (AT.Start c) in
+    let m : (1 ≤ product c.args.d.extents) × (product c.args.d.extents ≤ 16777216) = (cells-least c.args.d c.requires, (small-dims c.args.d c.requires).most) in
     le_trans (count_small _ _ (c.loop-i.i + 1) c.args.d.extents m.0 (room c)) m.1
 
 pub loop-i-init : goal.loop-i-init

@@ -10,8 +10,8 @@ use Rattle.c_values.proofs.coordinates.position_coordinates.Goals.{After-coordin
 use Rattle.c_values.proofs.coordinates.position_coordinates.Goals as goal
 
 -- the dimensions by the extents as they were lent
-abbrev lent : tie.After-coordinates-number → Dimensions
-lent c = let a = c.before.before.before.before.before.before.args in dimensions a.dims a.extents.now
+abbrev lent : After-coordinates_number-number → Dimensions
+lent c = let a = c.args in dimensions a.dims a.extents.now
 
 number : (c : After-coordinates_number-number) → c.coordinates_number-number.result ≡ coordinates_number (lent c) c.args.place
 number c =

@@ -11,44 +11,26 @@ use Rattle.difference_rows.proofs.put.put_jumps.Goals as goal
 pub loop-place-init : goal.loop-place-init
 loop-place-init c = let n = c.requires.1 in (omega arith, refl, omega arith, refl)
 
-module _ (c : tie.In-loop invariant-loop decreases-loop) where
-  abbrev start : tie.Start invariant-loop decreases-loop
-  start = c.before.before.before.before
+-- a jump is left, and with it a position, and room
+left : (c : In-loop-place) → 1 ≤ length (later_jumps c.args.width (drop (c.loop-place.i - 1) c.args.ps.now))
+left c =
+    let e = c.loop-place.invariant.2 in
+    let t = c.loop-place-test.true in
+    omega arith
 
-  -- a jump is left, and with it a position, and room
-  left : 1 ≤ length (later_jumps start.args.width (drop (c.before.loop.i - 1) start.args.ps.now))
-  left =
-      let e = c.before.loop.invariant.2 in
-      let t = c.loop-test.true in
-      omega arith
+index : (c : In-loop-place) → c.loop-place.i < length c.args.ps.now
+index c = jump_left c.args.width c.args.ps.now c.loop-place.i (left c)
 
-  index : c.before.loop.i < length start.args.ps.now
-  index = jump_left start.args.width start.args.ps.now c.before.loop.i left
-
-  room : c.before.loop.place + 4 ≤ length c.before.loop.dst
-  room =
-      let h = left in
-      let e = c.before.loop.invariant.2 in
-      let n = c.before.loop.invariant.1 in
-      let r = start.pre.2 in
-      omega arith
-
--- what is left after the position is put
-module _ (c : tie.After-zero invariant-loop decreases-loop) where
-  abbrev turn : tie.In-loop invariant-loop decreases-loop
-  turn = c.before.before.before.before.before.before.before.before
-
-  place : let a = (start turn).args in
-      let l = turn.before.loop in
-      l.place + 4 * c.zero.result + 4 * length (later_jumps a.width (drop (l.i + 1 - 1) a.ps.now)) ≡ a.at + 4 * a.count
-  place =
-      let a = (start turn).args in
-      let l = turn.before.loop in
-      place-next a.width a.ps.now l.i l.inv.0 (left turn) c.before.before.before.before.before.stored-difference.ensures c.zero.ensures.0 l.place
-      ∙ l.inv.2
+room : (c : In-loop-place) → c.loop-place.place + 4 ≤ length c.loop-place.dst
+room c =
+    let h = left c in
+    let e = c.loop-place.invariant.2 in
+    let n = c.loop-place.invariant.1 in
+    let r = c.requires.2 in
+    omega arith
 
 pub offset_bounds-ps-i : goal.offset_bounds-ps-i
-offset_bounds-ps-i c = let h = index c in search rules
+offset_bounds-ps-i c = let h = index (goal.at.offset_bounds-ps-i c).In-loop-place in search rules
 
 pub bounds-ps-i : goal.bounds-ps-i
 bounds-ps-i c = let h = index (goal.at.bounds-ps-i c).In-loop-place in search rules
@@ -61,36 +43,37 @@ bounds-ps-i-in-loop-place c = let h = index (goal.at.bounds-ps-i-in-loop-place c
 
 pub stored_difference-d-requires : goal.stored_difference-d-requires
 stored_difference-d-requires c =
-        let o = start (goal.at.stored_difference-d-requires c).In-loop-place in
     let l = c.loop-place in
-    (rising_le 0 16777216 o.args.ps.now (l.i - 1) l.i o.pre.0 (omega arith) (index (goal.at.stored_difference-d-requires c).In-loop-place), o.pre.3, o.pre.4)
+    (rising_le 0 16777216 c.args.ps.now (l.i - 1) l.i c.requires.0 (omega arith) (index (goal.at.stored_difference-d-requires c).In-loop-place), c.requires.3, c.requires.4)
 
 pub put_u32-requires : goal.put_u32-requires
 put_u32-requires c = room (goal.at.put_u32-requires c).In-loop-place
 
+-- what is left after the position is put
 pub overflow_add-place : goal.overflow_add-place
 overflow_add-place c =
-    let r = (start (turn c)).pre.2 in
-    let e = place c in
+    let r = c.requires.2 in
+    let l = c.loop-place in
+    let e = place-next c.args.width c.args.ps.now l.i l.invariant.0 (left (goal.at.overflow_add-place c).In-loop-place) c.stored_difference-d.ensures c.zero.ensures.0 l.place ∙ l.invariant.2 in
     search rules
 
 pub overflow_add-i : goal.overflow_add-i
-overflow_add-i c = let h = index (turn c) in search rules
+overflow_add-i c = let h = index (goal.at.overflow_add-i c).In-loop-place in search rules
 
 pub loop-place-smaller : goal.loop-place-smaller
-loop-place-smaller c = let h = index (turn c) in omega arith
+loop-place-smaller c = let h = index (goal.at.loop-place-smaller c).In-loop-place in omega arith
 
 pub loop-place-preserved : goal.loop-place-preserved
 loop-place-preserved c =
-    let t = turn c in
-    let a = (start t).args in
-    let l = t.before.loop in
+    let a = c.args in
+    let l = c.loop-place in
     let o = c.put_u32.ensures in
-    let d = c.stored_difference-d.ensures in (
+    let d = c.stored_difference-d.ensures in
+    let h = left (goal.at.loop-place-preserved c).In-loop-place in (
       omega arith,
-      ap length o ∙ length-put _ _ _ ∙ l.inv.1,
-      place c,
-      jump_next a.width a.ps.now l.i l.inv.0 (left t) d c.zero.ensures.0 l.place l.dst o ∙ l.inv.3,
+      ap length o ∙ length-put _ _ _ ∙ l.invariant.1,
+      place-next a.width a.ps.now l.i l.invariant.0 h d c.zero.ensures.0 l.place ∙ l.invariant.2,
+      jump_next a.width a.ps.now l.i l.invariant.0 h d c.zero.ensures.0 l.place l.dst o ∙ l.invariant.3,
     )
 
 pub returns : goal.returns

@@ -70,7 +70,7 @@ put_jumps-requires c =
         let o = start (goal.at.put_jumps-requires c).After-put_one-at in
     let n = count (goal.at.put_jumps-requires c).After-put_one-at in
     let r = (rooms (goal.at.put_jumps-requires c).After-put_one-at).0 in
-    (along-rising o.args.e o.args.ps.now o.pre.2, omega arith, omega arith, o.pre.0, o.pre.1)
+    (along-rising o.args.e o.args.ps.now o.requires.2, omega arith, omega arith, o.requires.0, o.requires.1)
 
 -- after the jumps
 module _ (c : tie.After-put-jumps) where
@@ -83,7 +83,7 @@ module _ (c : tie.After-put-jumps) where
 pub put_differences-requires : goal.put_differences-requires
 put_differences-requires c =
         let o = start (first (goal.at.put_differences-requires c).After-put_jumps) in
-    (along-rising o.args.e o.args.ps.now o.pre.2, rw (length-jumps (goal.at.put_differences-requires c).After-put_jumps) (rooms (first (goal.at.put_differences-requires c).After-put_jumps)).1, o.pre.0, o.pre.1)
+    (along-rising o.args.e o.args.ps.now o.requires.2, rw (length-jumps (goal.at.put_differences-requires c).After-put_jumps) (rooms (first (goal.at.put_differences-requires c).After-put_jumps)).1, o.requires.0, o.requires.1)
 
 pub returns : goal.returns
 returns c =

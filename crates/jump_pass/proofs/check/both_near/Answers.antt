@@ -4,14 +4,14 @@ use mathlib.Core.Path.{◌≡◌}
 use native.Mathlib.Nat.{pos_of_ne-zero}
 use native.Mathlib.Omega.{arith}
 use Rattle.format.specs.Bytes.{field}
-use Rattle.parts.specs.Encoder.{ifZero}
+use Rattle.parts.specs.Encoder.{if_zero}
 use Rattle.jump_pass.specs.Pass.{both_near}
 use Rattle.jump_pass.proofs.check.both_near.Goals as goal
 
 -- The differences of two ranks. Assumes nothing.
 -- the sum of two differences, or 0 where one is 0
 abbrev near : ℕ → ℕ → ℕ
-near d e = ifZero d 0 (ifZero e 0 (d + e))
+near d e = if_zero d 0 (if_zero e 0 (d + e))
 
 first_jump : (d : ℕ) {x : ℕ} (e : ℕ) → d ≡ x → d ≡ 0 → 0 ≡ near x e
 first_jump zero e p q = rw (← p)

@@ -36,7 +36,11 @@ right : (c : Else-not-s)
     → let a = c.args in
     let t = c.pass_span-s.result in
     passes_on a.width a.v.second a.v.words a.v.cells a.file.now t.least t.left a.v.words ≡ passes_from a.v a.file.now 0 0 0
-right c = rw (not-false c.pass_span-s.result.right c.if-not-s.false) at (after (AT.After-pass_span-s c))
+right c =
+    let v = c.args.v in
+    let h : both c.pass_span-s.result.right _ ≡ passes_from v c.args.file.now 0 0 0
+    = sym (c.pass_span-s.ensures.same v.words v.cells (le_refl _)) ∙ rw c.requires.1 (sym (passes-whole v c.args.file.now c.requires.0.place)) in
+    rw (not-false c.pass_span-s.result.right c.if-not-s.false) at h
 
 pub returns-then-s-ne0 : goal.returns-then-s-ne0
 returns-then-s-ne0 c =

@@ -20,7 +20,7 @@ some c = let k = c.loop-rank-test.true in c.batch_of-n.ensures.2 (omega arith)
 -- what each cursor has stepped along
 next : (c : After-positions-c)
     → Taken c.args.first.now c.args.v c.positions-c.result c.loop-rank.rank c.batch_of-n.result
-    c.loop-rank.here c.positions-c.new.v.1.1.0
+    c.loop-rank.here c.positions-c.new.out
 next c =
         let l = c.loop-rank in
     taken c.args.first.now c.args.v l.c _ l.rank _ l.here _ (rw l.invariant.1 c.batch_of-n.ensures.1)
@@ -29,7 +29,7 @@ next c =
 
 next-second : (c : After-positions-d)
     → Taken c.args.second.now c.args.w c.positions-d.result c.loop-rank.rank c.batch_of-n.result
-    c.loop-rank.there c.positions-d.new.v.1.1.0
+    c.loop-rank.there c.positions-d.new.out
 next-second c =
         let l = c.loop-rank in
     taken c.args.second.now c.args.w l.d _ l.rank _ l.there _ (rw l.invariant.2 c.batch_of-n.ensures.1)

@@ -26,7 +26,7 @@ slice_bounds-put_ends-end-2 c =
     let l = c.list_ends-k in
     let n = c.requires.2 in
     let e = l.ensures.1 in
-    sym (length-take-le _ l.new.out.0 (rw l.ensures.2 (omega arith)))
+    sym (length-take-le _ l.new.out (rw l.ensures.2 (omega arith)))
 
 pub put_ends-requires : goal.put_ends-requires
 put_ends-requires c =

@@ -1,6 +1,6 @@
 use mathlib.Core.Path.{sym, ◌∙◌}
 use mathlib.Core.Logic.{⊎_elim}
-use Rattle.parts.proofs.Taking.{if_zero, if_more}
+use Rattle.parts.proofs.Taking.{if_zero_lem, if_more}
 use Rattle.page_entries.proofs.OneEntry.{pages_turn}
 use Rattle.page_entries.proofs.entry.after_run.Goals as goal
 
@@ -11,6 +11,6 @@ returns c =
     let l = c.left_after-left in
     let turn = pages_turn a.step a.e a.p l.result i.cells i.empty c.requires.2 l.ensures in
     ⊎_elim
-    (λ w. turn (w.3 ∙ sym (if_zero l.result _ _ w.0.taken)) (w.4 ∙ sym (if_zero l.result _ _ w.0.taken)))
+    (λ w. turn (w.3 ∙ sym (if_zero_lem l.result _ _ w.0.taken)) (w.4 ∙ sym (if_zero_lem l.result _ _ w.0.taken)))
     (λ w. turn (w.1 ∙ sym (if_more l.result _ _ w.0.left)) (w.2 ∙ sym (if_more l.result _ _ w.0.left)))
     i.branch

@@ -55,7 +55,7 @@ loop-i-preserved-then-at-c c =
     filled-then _ _ _ _ _ _ _ _ _ _ l.invariant
     (filled-run _ (in_along _ _ _) l.c _ l.i t.result _ _ z
     (rw (c.wrapping_add_u32-in-loop-i.ensures.value, c.wrapping_add_u32.ensures.value)
-    (in_run _ _ _ l.c (t.result - 1) (omega (arith, c.struct_known-1.given)) (omega arith) (omega arith) c.if-at-c.true)))
+    (in_run _ _ _ l.c (t.result - 1) (omega arith) (omega arith) (omega arith) c.if-at-c.true)))
 
 -- the next entry is in the file
 pub get_pair-x-requires : goal.get_pair-x-requires
@@ -65,7 +65,7 @@ get_pair-x-requires c =
     omega (arith, still_there _ _ _ _ c.loop-i.c _ _ _ _ c.requires.1 c.loop-i.invariant)
 
 pub overflow_add-second : goal.overflow_add-second
-overflow_add-second c = let h = get_pair-x-requires c c.fill_run-m.lifetimes in omega arith
+overflow_add-second c = let h = get_pair-x-requires c in omega arith
 
 pub overflow_add-c-else-at-c : goal.overflow_add-c-else-at-c
 overflow_add-c-else-at-c c =
@@ -93,8 +93,8 @@ loop-i-preserved c =
       c.wrapping_add_u32-in-loop-i.ensures.value,
       c.wrapping_add_u32.ensures.value,
     )
-    (in_page _ _ _ l.c (t.result - 1) (omega (arith, c.struct_known-1.given)) (omega arith) (omega arith) _ c.if-at-c.false c.if-step-c.false
-    (c.get_pair-x.ensures.0 ∙ sym (pair-there _ _ (get_pair-x-requires (goal.at.loop-i-preserved c).After-struct_known-else-at-c-1 c.get_pair-x.lifetimes))))))
+    (in_page _ _ _ l.c (t.result - 1) (omega arith) (omega arith) (omega arith) _ c.if-at-c.false c.if-step-c.false
+    (c.get_pair-x.ensures.0 ∙ sym (pair-there _ _ (get_pair-x-requires (goal.at.loop-i-preserved c).After-struct_known-else-at-c-1))))))
 
 pub returns-then-step-c : goal.returns-then-step-c
 returns-then-step-c c = c.loop-i.invariant

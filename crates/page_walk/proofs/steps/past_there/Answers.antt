@@ -33,5 +33,5 @@ pub returns : goal.returns
 returns c =
                 c.enter.ensures
     ∙ next-entered _ _ _ _ _ c.if-d.false c.page_of-p.ensures
-    (c.get_pair.ensures.0 ∙ sym (pair-there _ _ (get_pair-requires (goal.at.returns c).After-struct_known-3-1 c.lifetimes)))
+    (c.get_pair.ensures.0 ∙ sym (pair-there _ _ (get_pair-requires (goal.at.returns c).After-struct_known-3-1)))
     ∙ stepped (goal.at.returns c).After-along_run-d

@@ -50,16 +50,16 @@ module _ (c : tie.In-loop invariant-loop decreases-loop) where
   start = c.before.before.before.before.before.before.before.before.before
 
   there : c.before.before.before.pointers-at.result ≡ start.args.v.second + start.args.v.width * start.args.v.words
-  there = c.before.before.before.pointers-at.ensures ∙ ap (λ (w : ℕ). start.args.v.second + w * start.args.v.words) start.pre.1
+  there = c.before.before.before.pointers-at.ensures ∙ ap (λ (w : ℕ). start.args.v.second + w * start.args.v.words) start.requires.1
 
   below : c.before.loop.k < up_to start.args.v.firsts start.args.v.step
   below = rw c.before.before.pointer-count.ensures.0 at c.loop-test.true
 
   inside : c.before.before.before.pointers-at.result + 4 * c.before.loop.k + 4 ≤ length start.args.file.now
-  inside = let i = pointers-there _ _ start.pre.0 in let h = below in let e = there in omega arith
+  inside = let i = pointers-there _ _ start.requires.0 in let h = below in let e = there in omega arith
 
   least : 1 ≤ start.args.v.step
-  least = (steps _ _ start.pre.0.allowed).0
+  least = (steps _ _ start.requires.0.allowed).0
 
 named : (c : After-get_u32-next)
     → let a = (start (AT.In-loop-k c)).args in
@@ -88,7 +88,7 @@ module _ (c : tie.After-pass-span invariant-loop decreases-loop) where
 
   gone : let a = (start turn).args in
       Goes a.v.width a.v.second a.file.now turn.before.loop.rank c.before.before.before.get-u32.result turn.before.loop.s c.pass-span.result
-  gone = rw (start turn).pre.1 at c.pass-span.ensures
+  gone = rw (start turn).requires.1 at c.pass-span.ensures
 
   onward : turn.before.loop.rank ≤ c.before.before.before.get-u32.result
   onward = c.before.before.if1.false
@@ -101,7 +101,7 @@ overflow_mul-k-else-not-s c =
     let l = turn (goal.at.overflow_mul-k-else-not-s c).After-pass_span-s in
     let v = (start l).args.v in
     let m : l.before.loop.k * v.step < v.firsts = index_inside _ _ l.before.loop.k (least l) (below l) in
-    let z = laid _ _ (start l).pre.0 in
+    let z = laid _ _ (start l).requires.0 in
     let f : v.firsts ≤ 16777216 = omega arith in
     let r : l.before.loop.k * v.step < 2 ^ 64 = omega arith in
     record { fits = r }
@@ -112,8 +112,8 @@ overflow_add-s c =
     let m = index_inside _ _ l.before.loop.k (least l) (below l) in
     let g = (gone (goal.at.overflow_add-s c).After-pass_span-s).left in
     let v = (start l).args.v in
-    let i : l.before.loop.s.left ≤ v.firsts = l.before.loop.inv.goes.left in
-    let z = laid _ _ (start l).pre.0 in
+    let i : l.before.loop.s.left ≤ v.firsts = l.before.loop.invariant.goes.left in
+    let z = laid _ _ (start l).requires.0 in
     let f : v.firsts ≤ 16777216 = omega arith in
     let r : c.pass_span-s.result.left + l.before.loop.k * v.step < 2 ^ 64 = omega arith in
     record { fits = r }
@@ -122,7 +122,7 @@ overflow_add-s c =
 pub returns-then-not-s : goal.returns-then-not-s
 returns-then-not-s c =
         let l = turn (goal.at.returns-then-not-s c).After-pass_span-s in
-    let z = laid _ _ (start l).pre.0 in
+    let z = laid _ _ (start l).requires.0 in
     let right = c.pass_span-s.result.right in
     ⊎_elim
     (λ w. wrong_pass _ _ z (least l) l.before.loop.inv (onward (goal.at.returns-then-not-s c).After-pass_span-s) (lt-le (low (goal.at.returns-then-not-s c).After-pass_span-s)) (gone (goal.at.returns-then-not-s c).After-pass_span-s) (not-true right w.taken))
@@ -134,24 +134,24 @@ returns-then-not-s c =
 pub difference-requires : goal.difference-requires
 difference-requires c =
         let o = start (turn (goal.at.difference-requires c).After-pass_span-s) in
-    entry_room o.args.v o.args.file.now c.get_u32-next.result (laid _ _ o.pre.0) o.pre.1 (low (goal.at.difference-requires c).After-pass_span-s)
+    entry_room o.args.v o.args.file.now c.get_u32-next.result (laid _ _ o.requires.0) o.requires.1 (low (goal.at.difference-requires c).After-pass_span-s)
 
 -- the difference there
 found : (c : After-difference)
     →     let a = (start (turn (AT.After-pass_span-s c))).args in
     c.difference.result ≡ field a.v.width (a.v.second + a.v.width * c.get_u32-next.result) a.file.now
-found c = rw (start (turn (AT.After-pass_span-s c))).pre.1 at c.difference.ensures.0
+found c = rw (start (turn (AT.After-pass_span-s c))).requires.1 at c.difference.ensures.0
 
 pub returns-then-difference-ne0 : goal.returns-then-difference-ne0
 returns-then-difference-ne0 c =
         let l = turn (goal.at.returns-then-difference-ne0 c).After-pass_span-s in
-    wrong_pointer _ _ (laid _ _ (start l).pre.0) (least l) l.before.loop.inv (below l) (named (goal.at.returns-then-difference-ne0 c).After-get_u32-next)
+    wrong_pointer _ _ (laid _ _ (start l).requires.0) (least l) l.before.loop.inv (below l) (named (goal.at.returns-then-difference-ne0 c).After-get_u32-next)
     (λ h p. c.if-difference-ne0.true (found (goal.at.returns-then-difference-ne0 c).After-difference ∙ p.jump))
 
 pub loop-k-preserved : goal.loop-k-preserved
 loop-k-preserved c =
         let l = turn (goal.at.loop-k-preserved c).After-pass_span-s in
-    come_on _ _ (laid _ _ (start l).pre.0) (least l) l.before.loop.inv (below l) (named (goal.at.loop-k-preserved c).After-get_u32-next) (onward (goal.at.loop-k-preserved c).After-pass_span-s) (low (goal.at.loop-k-preserved c).After-pass_span-s) (gone (goal.at.loop-k-preserved c).After-pass_span-s)
+    come_on _ _ (laid _ _ (start l).requires.0) (least l) l.before.loop.inv (below l) (named (goal.at.loop-k-preserved c).After-get_u32-next) (onward (goal.at.loop-k-preserved c).After-pass_span-s) (low (goal.at.loop-k-preserved c).After-pass_span-s) (gone (goal.at.loop-k-preserved c).After-pass_span-s)
     (not-false c.pass_span-s.result.right c.if-not-s.false)
     (eqb-true _ _ (c.if-s-k.false))
     (sym (found (goal.at.loop-k-preserved c).After-difference) ∙ c.if-difference-ne0.false)
@@ -170,7 +170,7 @@ module _ (c : tie.After-pass-span2 invariant-loop decreases-loop) where
 
   ended : let a = first.args in
       Goes a.v.width a.v.second a.file.now c.before.before.loop.rank a.v.words c.before.before.loop.s c.pass-span2.result
-  ended = rw first.pre.1 at c.pass-span2.ensures
+  ended = rw first.requires.1 at c.pass-span2.ensures
 
 pub returns-then-not-s-2 : goal.returns-then-not-s-2
 returns-then-not-s-2 c =

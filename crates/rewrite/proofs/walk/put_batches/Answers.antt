@@ -13,7 +13,7 @@ use Rattle.rewrite.proofs.walk.put_batches.Goals as goal
 -- the batch that was read
 next : (c : After-positions-c)
     → Batch c.args.file.now c.args.v c.loop-left.c c.positions-c.result c.batch_of-k.result
-    c.loop-left.batch c.positions-c.new.v.1.1.0
+    c.loop-left.batch c.positions-c.new.out
 next c =
     let l = c.loop-left in
     batch c.args.file.now c.args.v l.c _ _ l.batch _ (rw l.invariant.1 c.batch_of-k.ensures.1)

@@ -19,12 +19,12 @@ list_ends-n-requires c =
         (rising_weaken 0 c.args.rank 16777216 c.args.ps.now (omega arith) c.requires.2, c.requires.1)
 
 -- the ends fill as many elements of the array as were listed
-listed : (c : After-list_ends-n) → length (take c.list_ends-n.result c.list_ends-n.new.out.0) ≡ c.list_ends-n.result
+listed : (c : After-list_ends-n) → length (take c.list_ends-n.result c.list_ends-n.new.out) ≡ c.list_ends-n.result
 listed c =
     let p = c.requires.1 in
     let e = c.list_ends-n.ensures in
-    let n : length c.list_ends-n.new.out.0 ≡ 1024 = e.2 in
-    length-take-le _ c.list_ends-n.new.out.0 (omega (arith, e.1))
+    let n : length c.list_ends-n.new.out ≡ 1024 = e.2 in
+    length-take-le _ c.list_ends-n.new.out (omega (arith, e.1))
 
 pub put_pairs-requires : goal.put_pairs-requires
 put_pairs-requires c =

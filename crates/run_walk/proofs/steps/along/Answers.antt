@@ -59,7 +59,7 @@ loop-i-preserved-then-at-c c =
       omega (arith, l.invariant.2),
       stretch_turn _ (next-along _ _) _ _ l.c _ _ _ l.i t.result size z
           (rw (c.wrapping_add_u32-in-loop-i.ensures.value, c.wrapping_add_u32.ensures.value)
-          (in_run _ _ l.c (t.result - 1) (omega (arith, c.struct_known-1.given)) (omega arith) (omega arith) c.if-at-c.true)) l.invariant.3,
+          (in_run _ _ l.c (t.result - 1) (omega arith) (omega arith) (omega arith) c.if-at-c.true)) l.invariant.3,
     )
 
 -- the next pair is in the file
@@ -70,7 +70,7 @@ get_pair-run-requires c =
     omega (arith, l.invariant.1, l.invariant.2)
 
 pub overflow_add-v : goal.overflow_add-v
-overflow_add-v c = let h = get_pair-run-requires c c.fill_run-m.lifetimes in omega arith
+overflow_add-v c = let h = get_pair-run-requires c in omega arith
 
 pub loop-i-smaller : goal.loop-i-smaller
 loop-i-smaller c = fewer (goal.at.loop-i-smaller c).After-fill_run-m
@@ -91,8 +91,8 @@ loop-i-preserved c =
       omega (arith, l.invariant.2, c.wrapping_add_u32-else-at-c-2.ensures.value),
       stretch_turn _ (next-along _ _) _ _ l.c _ _ _ l.i t.result size z
           (rw (c.wrapping_add_u32-else-at-c-2.ensures.value, c.wrapping_add_u32-else-at-c.ensures.value, c.wrapping_add_u32-in-loop-i.ensures.value, c.wrapping_add_u32.ensures.value)
-          (to_run _ _ l.c (t.result - 1) (omega (arith, c.struct_known-1.given)) (omega arith) (omega arith) _ c.if-at-c.false
-          (c.get_pair-run.ensures.0 ∙ sym (pair-there _ _ (get_pair-run-requires (goal.at.loop-i-preserved c).After-struct_known-else-at-c-2-1 c.get_pair-run.lifetimes))))) l.invariant.3,
+          (to_run _ _ l.c (t.result - 1) (omega arith) (omega arith) (omega arith) _ c.if-at-c.false
+          (c.get_pair-run.ensures.0 ∙ sym (pair-there _ _ (get_pair-run-requires (goal.at.loop-i-preserved c).After-struct_known-else-at-c-2-1))))) l.invariant.3,
     )
 
 pub returns : goal.returns

@@ -2,8 +2,8 @@
 use Rattle.std.proofs.Common.{◌≡◌, [], length, sym, ◌∙◌, arith}
 use Rattle.stores.specs.Put.{put}
 use Rattle.stores.proofs.Laws.{put_nil}
-use Rattle.parts.specs.Encoder.{ifZero}
-use Rattle.parts.proofs.Taking.{if_zero, if_more}
+use Rattle.parts.specs.Encoder.{if_zero}
+use Rattle.parts.proofs.Taking.{if_zero_lem, if_more}
 use Rattle.run_pairs.specs.Coding.{run_pair, runs_coder}
 use Rattle.run_pairs.proofs.Adds.{length_run}
 use Rattle.runs.proofs.coding.finish.Goals as goal
@@ -13,7 +13,7 @@ pub put_pair-requires : goal.put_pair-requires
 unfolding runs_coder
 put_pair-requires c =
         let e = c.args.e in
-    let n : length (ifZero e.rank [] (run_pair e)) ≡ 8 = rw (if_more e.rank [] (run_pair e) c.if-e-ne0.true) (length_run e) in
+    let n : length (if_zero e.rank [] (run_pair e)) ≡ 8 = rw (if_more e.rank [] (run_pair e) c.if-e-ne0.true) (length_run e) in
     let r = c.requires.1 in
     omega arith
 
@@ -30,4 +30,4 @@ unfolding runs_coder
 returns-else-e-ne0 c =
     let a = c.args in
     let e = a.e in
-    rw (if_zero e.rank [] (run_pair e) c.if-e-ne0.false, put_nil a.dst.now e.first, put_nil a.dst.now e.second)
+    rw (if_zero_lem e.rank [] (run_pair e) c.if-e-ne0.false, put_nil a.dst.now e.first, put_nil a.dst.now e.second)
