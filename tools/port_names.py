@@ -17,6 +17,8 @@ SAID = {
     "runs_on": "runs_on_lem",
     "offset_at": "offset_at_lem",
     "ends_by": "ends_by_lem",
+    "entry-of": "entry_of_lem",
+    "at-once": "at_once_lem",
 }
 # Of these the fields of a record, which change behind a dot too; behind a dot the others name a function of src/.
 FIELDS = {"first_count", "second_at"}

@@ -9,7 +9,7 @@ use Rattle.laws.proofs.Tools.{both_true, not-false}
 use Rattle.laws.proofs.Bounds.{below-rising, below_widen, below-bases, below-offsets}
 use Rattle.laws.proofs.Positions.{length-offsets}
 use Rattle.wire.specs.Wire.{entry_size}
-use Rattle.wire.proofs.Laws.{entry_of}
+use Rattle.wire.proofs.Laws.{entry_of_lem}
 use Rattle.parts.specs.Holds.{Counted, Holds}
 use Rattle.parts.proofs.Entries.{Entries, all-entries}
 use Rattle.base_groups.proofs.Rule.{Allowed, allows}
@@ -40,7 +40,7 @@ known b v c =
     let a = allows v.width v.step c.allowed in
     let t = both_true (eqb v.firsts (up_to v.words v.step)) (eqb v.seconds v.words) c.counts in
     let s = eqb-true v.seconds v.words t.1 in
-    let e = entry_of v.width a.width-least a.width-most in
+    let e = entry_of_lem v.width a.width-least a.width-most in
     record {
       rule = a;
       cells-most = c.cells-most;

@@ -14,7 +14,7 @@ use Rattle.laws.proofs.Tools.{cases}
 use Rattle.laws.proofs.Bounds.{below_get_or, length-differences_from}
 use Rattle.laws.proofs.Entries.{fitting}
 use Rattle.wire.specs.Wire.{add32}
-use Rattle.wire.proofs.Laws.{entry_of}
+use Rattle.wire.proofs.Laws.{entry_of_lem}
 use Rattle.parts.specs.declared.Cursor.{Cursor}
 use Rattle.parts.specs.Cursor.{before, moved_to, entry_of, walked_as, stepped_as}
 use Rattle.parts.specs.Encoder.{if_zero}
@@ -82,7 +82,7 @@ module _ (b : List ℕ) (v : View) where
 
     exact_entry : entry_of b v (upper c) ≡ d
     unfolding entry_of
-    exact_entry = rw (entry_of w narrow wide) (first_entry b w v.second (upper c) d (differences_from w p ls) row)
+    exact_entry = rw (entry_of_lem w narrow wide) (first_entry b w v.second (upper c) d (differences_from w p ls) row)
 
     exact_next : (next b v c).next ≡ c.next + if_zero d 1 0
     unfolding next jump_by jump_from moved_to

@@ -6,7 +6,7 @@ use Rattle.format.specs.Bytes.{field}
 use Rattle.laws.proofs.Tools.{cases}
 use Rattle.laws.proofs.Bounds.{below-rising, below_widen}
 use Rattle.wire.specs.Wire.{whole, entry_size, add32}
-use Rattle.wire.proofs.Laws.{entry_of}
+use Rattle.wire.proofs.Laws.{entry_of_lem}
 use Rattle.parts.specs.declared.Cursor.{Cursor}
 use Rattle.parts.specs.Cursor.{before, moved_to, entry_of, walked_as}
 use Rattle.parts.proofs.Steps.{add32-small, upper, RanksFit, upper_next, ranks_rest, kept-walk}
@@ -26,7 +26,7 @@ next-rank b v c = cases (eqb (entry_of b v (add32 c.rank 1)) 0) (λ e. rw e) (λ
 pub next-at : (b : List ℕ) (v : View) {w : ℕ} → v.width ≡ w → 1 ≤ w → w ≤ 2 → next_at w v.start v.second b ≡ next b v
 unfolding next_at next entry_of
 next-at b v {w} e h k =
-    ap {B = Cursor → Cursor} (λ (x : ℕ). λ c. jump_by b v.start (whole x (v.second + x * add32 c.rank 1) b) c) (sym (ap entry_size e ∙ entry_of w h k))
+    ap {B = Cursor → Cursor} (λ (x : ℕ). λ c. jump_by b v.start (whole x (v.second + x * add32 c.rank 1) b) c) (sym (ap entry_size e ∙ entry_of_lem w h k))
 
 -- the cursor before the positions ls
 pub record AheadOf (b : List ℕ) (v : View) (c : Cursor) (ls : List ℕ) : Type 0 where
@@ -45,7 +45,7 @@ module _ (b : List ℕ) (v : View) (narrow : 1 ≤ v.width) (wide : v.width ≤ 
       let t = turned b w v.start v.second (upper c) s p ls a.ahead in
       let d = field w (v.second + w * upper c) b in
       let e : whole (entry_size w) (v.second + entry_size w * upper c) b ≡ d
-      = rw (entry_of w narrow wide) (there b w v.start v.second (upper c) s p ls a.ahead) in
+      = rw (entry_of_lem w narrow wide) (there b w v.start v.second (upper c) s p ls a.ahead) in
       let n = a.ranks in
       let l = a.low in
       let f = a.below.0 in

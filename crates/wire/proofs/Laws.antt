@@ -74,11 +74,11 @@ pub entry_field-none : (w at : ℕ) (b : List ℕ) → (w ≡ 1 → ⊥) → (w 
 entry_field-none w at b h k = rw (← size_none w h k) (sym (field-zero at b))
 
 -- the widths 1 and 2
-pub entry_of : (w : ℕ) → 1 ≤ w → w ≤ 2 → entry_size w ≡ w
-entry_of zero h k = absurd (omega arith)
-entry_of (suc zero) h k = refl
-entry_of (suc (suc zero)) h k = refl
-entry_of (suc (suc (suc n))) h k = absurd (omega arith)
+pub entry_of_lem : (w : ℕ) → 1 ≤ w → w ≤ 2 → entry_size w ≡ w
+entry_of_lem zero h k = absurd (omega arith)
+entry_of_lem (suc zero) h k = refl
+entry_of_lem (suc (suc zero)) h k = refl
+entry_of_lem (suc (suc (suc n))) h k = absurd (omega arith)
 
 pub other_width : (w : ℕ) → 1 ≤ w → w ≤ 2 → (w ≡ 1 → ⊥) → w ≡ 2
 other_width zero h k n = absurd (omega arith)

@@ -5,7 +5,7 @@ use native.Mathlib.Nat.{min-le_left, min-le_right, pos_of_ne-zero}
 use native.Mathlib.Omega.{arith}
 use borrow.Author.Tests.{leb-true, leb-false}
 use Rattle.base_offset.proofs.Searched.{AtBase, AtGroup, product-fits, find_before, find_outside, find_no_group, rank-within, find_here, find_absent}
-use Rattle.base_offset.proofs.search.find.Goals.{After-last_offset, After-load_u32-base, Else-v-start}
+use Rattle.base_offset.proofs.search.find.Goals.{After-last_offset, After-load_u32-base, Else-v-start, then-wanted-base-via-then-wanted-base, then-wanted-base-via-else-wanted-base+then-v-start}
 use Rattle.base_offset.proofs.search.find.Goals as goal
 
 at_base : (c : After-load_u32-base)
@@ -13,15 +13,15 @@ at_base : (c : After-load_u32-base)
 at_base c = record { last = c.last_at_most-j.ensures; is = c.load_u32-base.ensures.0 }
 
 started : (c : Else-v-start) → let a = c.args in c.last_at_most-j.result * a.v.step < a.v.words
-started c = leb-false _ _ c.if-v-start.false-raw
+started c = omega arith
 
 at-group : (c : After-last_offset)
     → let a = c.args in
         AtGroup a.file.now a.v a.p.0 c.last_at_most-j.result c.load_u32-base.result c.lesser-n.result c.last_offset.result
 at-group c =
     record {
-      at_base = at_base (AT.After-load_u32-base c);
-      start = started (AT.Else-v-start c);
+      at_base = record { last = c.last_at_most-j.ensures; is = c.load_u32-base.ensures.0 };
+      start = omega arith;
       lesser = c.lesser-n.ensures;
       least = c.if-wanted-base.false;
       full = pos_of_ne-zero c.if-n-eq0.false;
@@ -33,17 +33,16 @@ overflow_mul-start c = record { fits = product-fits _ _ (omega arith) (omega ari
 
 pub returns-then-wanted-base : goal.returns-then-wanted-base
 returns-then-wanted-base c =
-    ⊎_elim
-    (λ w. find_before (at_base (goal.at.returns-then-wanted-base c).After-load_u32-base) w.taken)
-    (λ w. find_outside (at_base (goal.at.returns-then-wanted-base c).After-load_u32-base) (leb-true _ _ w.2.taken))
-    c.then-wanted-base.branch
+    elim c.then-wanted-base.branch [
+      then-wanted-base-via-then-wanted-base w ↦ find_before (at_base (goal.at.returns-then-wanted-base c).After-load_u32-base) w.if-wanted-base.true
+      | then-wanted-base-via-else-wanted-base+then-v-start w ↦ find_outside (at_base (goal.at.returns-then-wanted-base c).After-load_u32-base) w.if-v-start.true
+    ]
 
 pub overflow_cast-n : goal.overflow_cast-n
 overflow_cast-n c =
     let v = c.args.v in
     let e = c.lesser-n.ensures in
     let m = min-le_left v.step (v.words - c.last_at_most-j.result * v.step) in
-    let k = c.struct_known-4-1.given in
     omega arith
 
 pub returns-then-n-eq0 : goal.returns-then-n-eq0
@@ -60,7 +59,6 @@ last_offset-requires c =
 pub overflow_add-r : goal.overflow_add-r
 overflow_add-r c =
     let w = rank-within (at-group c) in
-    let k = c.struct_known-5-1.given in
     omega arith
 
 pub returns-then-entry_of-wanted : goal.returns-then-entry_of-wanted
@@ -69,14 +67,13 @@ returns-then-entry_of-wanted c = find_here (at-group (goal.at.returns-then-entry
 pub overflow_add-result : goal.overflow_add-result
 overflow_add-result c =
     let w = rank-within (at-group (goal.at.overflow_add-result c).After-last_offset) in
-    let k = c.struct_known-5-1.given in
     omega arith
 
 pub returns : goal.returns
 returns c = find_absent (at-group (goal.at.returns c).After-last_offset) (λ q. c.if-entry_of-wanted.false (c.entry_of.ensures ∙ q))
 
 pub overflow_cast-rank : goal.overflow_cast-rank
-overflow_cast-rank c = let s = started c in let k = c.struct_known-else-wanted-base-1.given in record { fits = omega arith }
+overflow_cast-rank c = let s = started c in record { fits = omega arith }
 
 pub overflow_sub-v : goal.overflow_sub-v
 overflow_sub-v c = let s = started (goal.at.overflow_sub-v c).Else-v-start in omega arith

@@ -14,6 +14,7 @@ use Rattle.base_groups.proofs.Batched.{along_batch}
 use borrow.Author.Rules.{rules}
 use Rattle.base_offset.proofs.steps.along.Goals.{Joined-more-gt0}
 use Rattle.base_offset.proofs.steps.along.Goals as goal
+use Rattle.base_offset.proofs.steps.along.Goals.{else-more-gt0, then-more-gt0}
 
 -- with the sums, where there is more than one rank
 filled : (c : Joined-more-gt0)
@@ -22,10 +23,7 @@ filled : (c : Joined-more-gt0)
     × (1 < length a.out.now
     → c.if-more-gt0.out ≡ sums a.c.base (numbers_of (entry_size a.v.width) (length a.out.now) (drop (a.v.second + entry_size a.v.width * a.c.rank) a.file.now)))
 filled c =
-    ⊎_elim
-    (λ w. let e = w.5 ∙ w.2.ensures in (ap length e ∙ length-sums _ _ _ _, λ h. e))
-    (λ w. let z = w.0.left in (ap length w.1, λ h. absurd (omega arith)))
-    c.if-more-gt0.branch
+    elim c.if-more-gt0.branch [ then-more-gt0 w ↦ let e = w.out-is ∙ w.sums.ensures in (ap length e ∙ length-sums _ _ _ _, λ h. e) | else-more-gt0 w ↦ let z = w.if-more-gt0.false in (ap length w.out-is, λ h. absurd (omega arith)) ]
 
 pub sums-requires : goal.sums-requires
 sums-requires c = let h = c.if-more-gt0.true in c.requires.there (omega arith)

@@ -40,60 +40,48 @@ put_one-at-requires c =
     (n.0, n.1, c.requires.0, c.requires.1)
 
 -- the bytes after the first position
-module _ (c : tie.After-put-one) where
-  abbrev start : tie.Start
-  start = c.before.before.before.before.before.before.before
+length-one : (c : After-put_one-at) → length c.put_one-at.new.dst ≡ length c.args.dst.now
+length-one c =
+    let a = c.args in
+    ap length c.put_one-at.ensures.1 ∙ length-put_by (jumps_coder a.width) a.dst.now a.e (get_or a.ps.now 0 0)
 
-  some : length start.args.ps.now ≡ 0 → ⊥
-  some = c.before.before.before.before.if1.false
+rooms : (c : After-put_one-at) → let a = c.args in
+    (c.put_one-at.result.first + 4 * length (later_jumps a.width a.ps.now) ≤ length c.put_one-at.new.dst)
+    × (a.e.second + a.width * length a.ps.now ≤ length c.put_one-at.new.dst)
+rooms c =
+    let a = c.args in
+    rw (length-one c) (batch_room a.width a.e a.ps.now c.if-ps-eq0.false c.put_one-at.ensures.0 (length a.dst.now) c.requires.3)
 
-  length-one : length c.put_one.new.0 ≡ length start.args.dst.now
-  length-one =
-      let a = start.args in
-      ap length c.put_one.ensures.1 ∙ length-put_by (jumps_coder a.width) a.dst.now a.e (get_or a.ps.now 0 0)
-
-  rooms : let a = start.args in
-      (c.put_one.result.first + 4 * length (later_jumps a.width a.ps.now) ≤ length c.put_one.new.0)
-      × (a.e.second + a.width * length a.ps.now ≤ length c.put_one.new.0)
-  rooms =
-      let a = start.args in
-      rw length-one (batch_room a.width a.e a.ps.now some c.put_one.ensures.0 (length a.dst.now) (room start))
-
-  count : c.before.before.before.take_all.result.first ≡ c.put_one.result.first + 4 * length (later_jumps start.args.width start.args.ps.now)
-  count = batch_count start.args.width start.args.e start.args.ps.now some c.put_one.ensures.0 c.before.before.before.take_all.ensures
+count : (c : After-put_one-at) → c.take_all-end.result.first ≡ c.put_one-at.result.first + 4 * length (later_jumps c.args.width c.args.ps.now)
+count c = batch_count c.args.width c.args.e c.args.ps.now c.if-ps-eq0.false c.put_one-at.ensures.0 c.take_all-end.ensures
 
 pub overflow_sub-end : goal.overflow_sub-end
 overflow_sub-end c = let n = count (goal.at.overflow_sub-end c).After-put_one-at in search rules
 
 pub put_jumps-requires : goal.put_jumps-requires
 put_jumps-requires c =
-        let o = start (goal.at.put_jumps-requires c).After-put_one-at in
+    let a = c.args in
     let n = count (goal.at.put_jumps-requires c).After-put_one-at in
     let r = (rooms (goal.at.put_jumps-requires c).After-put_one-at).0 in
-    (along-rising o.args.e o.args.ps.now o.requires.2, omega arith, omega arith, o.requires.0, o.requires.1)
+    (along-rising a.e a.ps.now c.requires.2, omega arith, omega arith, c.requires.0, c.requires.1)
 
 -- after the jumps
-module _ (c : tie.After-put-jumps) where
-  abbrev first : tie.After-put-one
-  first = c.before.before.before.before.before.before
-
-  length-jumps : length c.put-jumps.new.0 ≡ length first.put_one.last.0
-  length-jumps = ap length c.put-jumps.ensures ∙ length-put _ _ _
+length-jumps : (c : After-put_jumps) → length c.put_jumps.new.dst ≡ length c.put_one-at.new.dst
+length-jumps c = ap length c.put_jumps.ensures ∙ length-put _ _ _
 
 pub put_differences-requires : goal.put_differences-requires
 put_differences-requires c =
-        let o = start (first (goal.at.put_differences-requires c).After-put_jumps) in
-    (along-rising o.args.e o.args.ps.now o.requires.2, rw (length-jumps (goal.at.put_differences-requires c).After-put_jumps) (rooms (first (goal.at.put_differences-requires c).After-put_jumps)).1, o.requires.0, o.requires.1)
+    let a = c.args in
+    (along-rising a.e a.ps.now c.requires.2, rw (length-jumps (goal.at.put_differences-requires c).After-put_jumps) (rooms (goal.at.put_differences-requires c).After-put_one-at).1, c.requires.0, c.requires.1)
 
 pub returns : goal.returns
 returns c =
-        let p = first (goal.at.returns c).After-put_jumps in
-    let a = (start p).args in
+    let a = c.args in
     let x = bytes_of 4 (later_jumps a.width a.ps.now) in
     let y = bytes_of a.width (later_differences a.width a.ps.now) in (
-      p.before.before.before.take_all.ensures,
+      c.take_all-end.ensures,
       c.put_differences.ensures
           ∙ ap (λ (l : List ℕ). put l (a.e.second + a.width * 1) y)
-          (c.put_jumps.ensures ∙ ap (λ (l : List ℕ). put l p.put_one.result.first x) p.put_one.ensures.1)
-          ∙ batch_put a.width a.e a.ps.now (some p) p.put_one.ensures.0 (length a.dst.now) a.dst.now (room (start p)),
+          (c.put_jumps.ensures ∙ ap (λ (l : List ℕ). put l c.put_one-at.result.first x) c.put_one-at.ensures.1)
+          ∙ batch_put a.width a.e a.ps.now c.if-ps-eq0.false c.put_one-at.ensures.0 (length a.dst.now) a.dst.now c.requires.3,
     )

@@ -13,21 +13,17 @@ use Prim.Native.Nat.{ℕ}
 use native.Mathlib.Omega.{arith}
 use Rattle.jump_entries.proofs.coding.put_one.Goals.{Joined-d-eq0}
 use Rattle.jump_entries.proofs.coding.put_one.Goals as goal
+use Rattle.jump_entries.proofs.coding.put_one.Goals.{else-d-eq0, then-d-eq0}
 
 -- after the jump, if there is one
 first-put : (c : Joined-d-eq0)
     → let a = c.args in c.if-d-eq0.dst ≡ put a.dst.now a.e.first ((jumps_coder a.width).first a.e a.p)
 first-put c =
     let a = c.args in
-    ⊎_elim
-    (λ w.
-    let t : difference_at a.width a.e a.p ≡ 0 = sym c.difference_at-d.ensures ∙ w.0.taken in
-    w.5 ∙ w.2.ensures ∙ ap (put a.dst.now a.e.first) (sym (adds_jump a.width a.e a.p t)))
-    (λ w.
-    w.1
+    elim c.if-d-eq0.branch [ then-d-eq0 w ↦ let t : difference_at a.width a.e a.p ≡ 0 = sym c.difference_at-d.ensures ∙ w.if-d-eq0.true in
+    w.dst-is ∙ w.put_u32.ensures ∙ ap (put a.dst.now a.e.first) (sym (adds_jump a.width a.e a.p t)) | else-d-eq0 w ↦ w.dst-is
     ∙ sym (put_nil a.dst.now a.e.first)
-    ∙ ap (put a.dst.now a.e.first) (sym (adds_none a.width a.e a.p (λ z. w.0.left (c.difference_at-d.ensures ∙ z)))))
-    c.if-d-eq0.branch
+    ∙ ap (put a.dst.now a.e.first) (sym (adds_none a.width a.e a.p (λ z. w.if-d-eq0.false (c.difference_at-d.ensures ∙ z)))) ]
 
 pub put_u32-requires : goal.put_u32-requires
 put_u32-requires c =

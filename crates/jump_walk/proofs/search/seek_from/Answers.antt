@@ -26,8 +26,10 @@ there : (c : After-step_to-at)
 there c ls y =
     let a = c.args in
         let w = c.walk-far in
-    let i = near (AT.After-step_to-near c) ls y in
-    let j = seeks_group a.file.now a.v a.width c.step_to-near.result a.p w.result _ w.ensures (far (AT.After-walk-far c)) ls i in
+    let i = seeks_passed a.file.now a.v a.width a.from a.p c.step_to-near.result c.step_to-near.ensures.passed ls y in
+    let m = w.ensures.most in
+    let h = c.requires.2 in
+    let j = seeks_group a.file.now a.v a.width c.step_to-near.result a.p w.result _ w.ensures (omega arith) ls i in
     seeks_passed a.file.now a.v a.width w.result a.p c.step_to-at.result c.step_to-at.ensures.passed ls j
 
 pub returns-then-target-near : goal.returns-then-target-near
@@ -64,7 +66,6 @@ returns-then-at-target c =
 pub overflow_cast-result-2 : goal.overflow_cast-result-2
 overflow_cast-result-2 c =
     let m = c.step_to-at.ensures.passed.most in
-    let w = c.struct_known-3-1.given in
     omega arith
 
 pub returns : goal.returns

@@ -32,7 +32,7 @@ few c =
     let m = c.walk-place.ensures.within.taken in
     let g = gone c in
         let h = c.if-v-rank.false in
-    let q = (small (AT.Else-v-rank c)).0 in
+    let q : c.args.v.words < 2 ^ 32 = omega arith in
     omega arith
 
 pub walk-place-requires : goal.walk-place-requires
