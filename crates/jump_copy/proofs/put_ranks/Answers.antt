@@ -2,6 +2,7 @@ use Prim.Native.Nat.{◌+◌, ◌-◌, ◌*◌, ◌^◌, ◌≤◌, ◌<◌}
 use mathlib.Core.Path.{◌≡◌, sym, ap, ◌∙◌}
 use native.Mathlib.Nat.{pos_of_ne-zero}
 use native.Mathlib.Omega.{arith}
+use borrow.Author.Rules.{rules}
 use lib.ListN.{length}
 use Rattle.format.specs.Tools.{Below}
 use Rattle.laws.proofs.Bounds.{below_elements}
@@ -42,46 +43,40 @@ ranks_on-last-requires c =
     (c.requires.0, record { rank = c.requires.1.rank; steps = c.requires.1.steps; most = omega arith })
 
 -- the last rank is reached
-module _ (c : tie.After-ranks-on) where
-  abbrev start : tie.Start
-  start = c.before.before.before.before.before.before.before.before.before
+some : (c : After-ranks_on-last) → 0 < c.args.n
+some c = pos_of_ne-zero c.if-n-eq0.false
 
-  some : 0 < start.args.n
-  some = pos_of_ne-zero c.before.before.before.before.before.before.if1.false
+least : (c : After-ranks_on-last) → c.args.c.next ≤ c.ranks_on-last.result.next
+least c =
+    let a = c.args in
+    jumps-least a.file.now a.v c.requires.0.0 c.requires.0.1 a.c a.n c.requires.1 (some c) c.ranks_on-last.ensures
 
-  abbrev first : tie.After-put-all
-  first = c.before.before.before
+jumps_in : (c : After-ranks_on-last) → c.args.v.start + 4 * c.args.c.next + 4 * (c.ranks_on-last.result.next - c.args.c.next) ≤ length c.args.file.now
+jumps_in c =
+    let a = c.args in
+    jumps-there a.file.now a.v c.requires.0.0 c.requires.0.1 a.c a.n c.requires.1 (some c) c.ranks_on-last.ensures
 
-  least : start.args.c.next ≤ c.ranks-on.result.next
-  least =
-      let a = start.args in
-      jumps-least a.file.now a.v start.requires.0.0 start.requires.0.1 a.c a.n start.requires.1 some c.ranks-on.ensures
+differences-in : (c : After-ranks_on-last)
+    → c.args.v.second + c.args.v.width * (c.args.c.rank + 1) + c.args.v.width * (c.args.n - 1) ≤ length c.args.file.now
+differences-in c =
+    let a = c.args in
+    differences-there a.file.now a.v c.requires.0.0 c.requires.0.1 a.c a.n c.requires.1 (some c) c.ranks_on-last.ensures
 
-  jumps_in : start.args.v.start + 4 * start.args.c.next + 4 * (c.ranks-on.result.next - start.args.c.next) ≤ length start.args.file.now
-  jumps_in =
-      let a = start.args in
-      jumps-there a.file.now a.v start.requires.0.0 start.requires.0.1 a.c a.n start.requires.1 some c.ranks-on.ensures
+file-fits : (c : After-ranks_on-last) → length c.args.file.now < 2 ^ 64
+file-fits c = search rules
 
-  differences-in : start.args.v.second + start.args.v.width * (start.args.c.rank + 1) + start.args.v.width * (start.args.n - 1) ≤ length start.args.file.now
-  differences-in =
-      let a = start.args in
-      differences-there a.file.now a.v start.requires.0.0 start.requires.0.1 a.c a.n start.requires.1 some c.ranks-on.ensures
+rooms : (c : After-ranks_on-last) → let a = c.args in
+    (c.put_all-at.result.first + 4 * (c.ranks_on-last.result.next - a.c.next) ≤ length a.dst.now)
+    × (c.put_all-at.result.second + a.v.width * (a.n - 1) ≤ length a.dst.now)
+rooms c =
+    let a = c.args in
+    copies_room a.file.now a.v c.requires.0.0 c.requires.0.1 a.c a.n c.requires.1 (some c) c.ranks_on-last.ensures a.e c.requires.2
+    c.put_all-at.ensures.0 a.dst.now c.requires.3
 
-  file-fits : length start.args.file.now < 2 ^ 64
-  file-fits = start.good.1.0.0
-
-  rooms : let a = start.args in
-      (first.put_all_lem.result.first + 4 * (c.ranks-on.result.next - a.c.next) ≤ length a.dst.now)
-      × (first.put_all_lem.result.second + a.v.width * (a.n - 1) ≤ length a.dst.now)
-  rooms =
-      let a = start.args in
-      copies_room a.file.now a.v start.requires.0.0 start.requires.0.1 a.c a.n start.requires.1 some c.ranks-on.ensures a.e start.requires.2
-      first.put_all_lem.ensures.0 a.dst.now start.requires.3
-
-  length-first : length first.put_all_lem.last.0 ≡ length start.args.dst.now
-  length-first =
-      let a = start.args in
-      ap length first.put_all_lem.ensures.1 ∙ length-put-all (jumps_coder a.v.width) a.dst.now a.e _
+length-first : (c : After-ranks_on-last) → length c.put_all-at.new.dst ≡ length c.args.dst.now
+length-first c =
+    let a = c.args in
+    ap length c.put_all-at.ensures.1 ∙ length-put-all (jumps_coder a.v.width) a.dst.now a.e _
 
 pub overflow_sub-jumps : goal.overflow_sub-jumps
 overflow_sub-jumps c = least (goal.at.overflow_sub-jumps c).After-ranks_on-last
@@ -122,14 +117,12 @@ overflow_sub-n-3 c = some (goal.at.overflow_sub-n-3 c).After-ranks_on-last
 
 pub encoder_on-requires : goal.encoder_on-requires
 encoder_on-requires c =
-        let o = start (goal.at.encoder_on-requires c).After-ranks_on-last in
-    let a = o.args in
-    encoder_fits a.file.now a.v o.requires.0.0 o.requires.0.1 a.c a.n o.requires.1 (some (goal.at.encoder_on-requires c).After-ranks_on-last) c.ranks_on-last.ensures a.e o.requires.2 (first (goal.at.encoder_on-requires c).After-ranks_on-last).put_all_lem.ensures.0
+    let a = c.args in
+    encoder_fits a.file.now a.v c.requires.0.0 c.requires.0.1 a.c a.n c.requires.1 (some (goal.at.encoder_on-requires c).After-ranks_on-last) c.ranks_on-last.ensures a.e c.requires.2 c.put_all-at.ensures.0
 
 pub returns : goal.returns
 returns c =
-        let o = start (goal.at.returns c).After-ranks_on-last in
-    let a = o.args in
+    let a = c.args in
     let small : Below 256 a.file.now = below_elements 256 a.file.now (λ i. (c.type_inv.file i).fits) in
-    put-ranks a.file.now a.v o.requires.0.0 o.requires.0.1 a.c a.n o.requires.1 (some (goal.at.returns c).After-ranks_on-last) c.ranks_on-last.ensures a.e o.requires.2 (first (goal.at.returns c).After-ranks_on-last).put_all_lem.ensures.0
-    a.dst.now o.requires.3 small c.encoder_on.ensures c.next.ensures (first (goal.at.returns c).After-ranks_on-last).put_all_lem.ensures.1 c.copy.ensures c.copy-2.ensures
+    put-ranks a.file.now a.v c.requires.0.0 c.requires.0.1 a.c a.n c.requires.1 (some (goal.at.returns c).After-ranks_on-last) c.ranks_on-last.ensures a.e c.requires.2 c.put_all-at.ensures.0
+    a.dst.now c.requires.3 small c.encoder_on.ensures c.next.ensures c.put_all-at.ensures.1 c.copy.ensures c.copy-2.ensures

@@ -7,14 +7,13 @@ use Rattle.jump_copy.proofs.ranks_on.Goals.{Start}
 use Rattle.jump_copy.proofs.ranks_on.Goals as goal
 
 -- the cursor stands at a rank, and so many more are below the words
-module _ (o : tie.Start) where
-  here : Stands o.args.file.now o.args.v o.requires.0.0 o.requires.1.rank o.args.c
-  here = reached_stands o.args.file.now o.args.v o.requires.0.0 o.requires.0.1 o.args.c (o.args.n + 1) o.requires.1 (omega arith)
+here : (c : Start) → Stands c.args.file.now c.args.v c.requires.0.0 c.requires.1.rank c.args.c
+here c = reached_stands c.args.file.now c.args.v c.requires.0.0 c.requires.0.1 c.args.c (c.args.n + 1) c.requires.1 (omega arith)
 
-  below : o.requires.1.rank + o.args.n < length o.requires.0.0
-  below =
-      let k = reached_below o.args.file.now o.args.v o.requires.0.0 o.requires.0.1 o.args.c (o.args.n + 1) o.requires.1 (omega arith) in
-      omega arith
+below : (c : Start) → c.requires.1.rank + c.args.n < length c.requires.0.0
+below c =
+    let k = reached_below c.args.file.now c.args.v c.requires.0.0 c.requires.0.1 c.args.c (c.args.n + 1) c.requires.1 (omega arith) in
+    omega arith
 
 pub walk-place-requires : goal.walk-place-requires
 walk-place-requires c =

@@ -8,7 +8,7 @@ use Rattle.run_pairs.proofs.Adds.{keeps}
 use Rattle.runs.proofs.Lookup.{FirstWith, first_with}
 use Rattle.runs_copy.proofs.Whole.{at-rank-before}
 use Rattle.runs_copy.proofs.FromRun.{not-before, last_part, ahead}
-use Rattle.runs_copy.proofs.copy.put_from_run.Goals.{After-put_whole-w, After-run_with-j, After-slice_known-2-1}
+use Rattle.runs_copy.proofs.copy.put_from_run.Goals.{After-put_whole-w, After-run_with-j}
 use Rattle.runs_copy.proofs.copy.put_from_run.Goals as goal
 
 found : (c : After-run_with-j) → let a = c.args in FirstWith a.file.now a.v (a.c.rank + a.n) c.run_with-j.result
@@ -40,9 +40,11 @@ gone : (c : After-put_whole-w)
     Written (next a.file.now a.v) runs_coder a.dst.now a.c a.e a.n c.put_whole-w.new.dst c.put_whole-w.result.c c.put_whole-w.result.e
     (a.n - (ranks_before a.file.now a.v.start c.run_with-j.result - a.c.rank))
 gone c =
-        let a = c.args in
+    let a = c.args in
+    let f = (first_with a.file.now a.v _ c.requires.1 (a.c.rank + a.n) c.run_with-j.result c.run_with-j.ensures).begins in
+    let m : ranks_before a.file.now a.v.start c.run_with-j.result - a.c.rank ≤ a.n = omega arith in
     written_then (next a.file.now a.v) runs_coder keeps a.dst.now a.c a.e a.n a.dst.now a.c a.e a.n
-    (written_begin _ _ _ _ _ _ c.requires.5 c.requires.6) _ (most (AT.After-run_with-j c)) c.put_whole-w.result _ c.put_whole-w.ensures.1
+    (written_begin _ _ _ _ _ _ c.requires.5 c.requires.6) _ m c.put_whole-w.result _ c.put_whole-w.ensures.1
 
 rank_now : (c : After-put_whole-w) → let a = c.args in c.put_whole-w.result.c.rank ≡ ranks_before a.file.now a.v.start c.run_with-j.result
 rank_now c =
@@ -56,12 +58,14 @@ left : (c : After-put_whole-w)
 left c =
         let a = c.args in
     let r = rank_now c in
-        let t = (ahead a.file.now a.v _ c.requires.1 a.c a.e c.requires.2 c.run_with-j.result (after (AT.After-run_with-j c)) (found (AT.After-run_with-j c)).most).ranks in
+    let f = first_with a.file.now a.v _ c.requires.1 (a.c.rank + a.n) c.run_with-j.result c.run_with-j.ensures in
+    let b = not-before a.file.now a.v _ c.requires.1 a.c a.e c.requires.2 a.n c.run_with-j.result c.requires.3 f in
+    let t = (ahead a.file.now a.v _ c.requires.1 a.c a.e c.requires.2 c.run_with-j.result b f.most).ranks in
     omega arith
 
 pub overflow_sub-end : goal.overflow_sub-end
 overflow_sub-end c =
-    let r = rank_now (goal.at.overflow_sub-end c).After-slice_known-2-1 in
+    let r = rank_now (goal.at.overflow_sub-end c).After-put_whole-w in
     let f = (found (goal.at.overflow_sub-end c).After-run_with-j).begins in
     omega arith
 

@@ -30,7 +30,9 @@ read : (c : After-get_pair-last)
     → let a = c.args in
     (c.get_pair-last.result.first ≡ last_at a.file.now a.v.start (a.j - 1)) × (c.get_pair-last.result.second ≡ empty_at a.file.now a.v.start (a.j - 1))
 read c =
-    let q = c.get_pair-last.ensures.0 ∙ (numbers (AT.Start c)).pair in
+    let a = c.args in
+    let k = ahead a.file.now a.v _ c.requires.0 a.c a.e c.requires.1 a.j c.requires.2 c.requires.3 in
+    let q = c.get_pair-last.ensures.0 ∙ k.pair in
     (ap (λ (x : Pair). x.first) q, ap (λ (x : Pair). x.second) q)
 
 pub overflow_sub-open : goal.overflow_sub-open
