@@ -1,34 +1,75 @@
 // Lists each file that an argument names, after its name, by the lister's own function.
-use libc::STDOUT_FILENO;
+#![tactic(auto)]
+
+ghost use Rattle.std.specs.Prelude.{◌≤◌, length};
+
+use std::env::{Env, FillError};
+use std::fs::File;
+use std::io::{Read, Write};
+use std::{io, str};
+
+// Reads until the buffer is full, the input ends or a read fails; how many bytes at its start are read.
+fn read_full(input: &mut impl Read, buf: &mut [u8]) -> usize
+    ensures { result ≤ length buf.new }
+{
+    let mut done = 0;
+    while done < buf.len() {
+        match input.read(&mut buf[done..]) {
+            Ok(0) | Err(_) => break,
+            Ok(n) => done += n,
+        }
+    }
+    done
+}
 
 // The file open for reading.
-fn list_open(fd: i32) {
+fn list_open(rt: &HostRuntime, file: &mut File) -> io::Result<()> {
     let mut input = [0u8; 65537];
     let mut out = [0u8; 426000];
-    let n = io::read_full(fd, &mut input);
+    let n = read_full(file, &mut input);
     let m = listing::list(&input[..n], &mut out);
-    io::write_all(STDOUT_FILENO, &out[..m]);
+    rt.stdout().write_all(&out[..m])
 }
 
-fn list_argument(i: usize) {
-    let mut path = io::buffer();
-    let n = os::arg(i, &mut path);
-    io::write_all(STDOUT_FILENO, &path[..n]);
-    io::write_all(STDOUT_FILENO, b":\n");
-    let fd = os::open_read(&path[..n]);
-    if fd < 0 {
-        os::fail(&path[..n]);
-        return;
+// The library opens only what has a text for a name.
+fn open_read(rt: &HostRuntime, path: &[u8]) -> io::Result<File> {
+    match str::from_utf8(path) {
+        Ok(name) => File::open(rt, name),
+        Err(_) => Err(io::Error::from(io::ErrorKind::InvalidFilename)),
     }
-    list_open(fd);
-    libc::close(fd);
 }
 
-fn main() {
-    let n = os::arg_count();
-    let mut i: usize = 1;
-    while i < n {
-        list_argument(i);
-        i += 1;
+// A line on standard error: what failed, a colon and the system's text, without its number.
+fn fail(rt: &HostRuntime, what: &[u8], error: &io::Error) -> io::Result<()> {
+    let text = error.to_string(rt.alloc())?;
+    let message = text.as_str().split(" (os error ").next().unwrap_or("");
+    let mut err = rt.stderr();
+    err.write_all(what)?;
+    err.write_all(b": ")?;
+    err.write_all(message.as_bytes())?;
+    err.write_all(b"\n")
+}
+
+fn list_argument(rt: &HostRuntime, path: &[u8]) -> io::Result<()> {
+    let mut out = rt.stdout();
+    out.write_all(path)?;
+    out.write_all(b":\n")?;
+    match open_read(rt, path) {
+        Ok(mut file) => list_open(rt, &mut file),
+        Err(error) => fail(rt, path, &error),
     }
+}
+
+fn main(rt: HostRuntime) -> io::Result<()> {
+    let mut path = [0u8; 4096];
+    for i in 1..usize::MAX {
+        let n = match rt.arg(i, &mut path) {
+            Ok(n) => n,
+            // A name that is too long is taken as the empty one.
+            Err(FillError::TooLong) => 0,
+            Err(FillError::NotPresent) => break,
+        };
+        list_argument(&rt, &path[..n])?;
+    }
+    Ok(())
 }
