@@ -8,7 +8,7 @@
 # defaults, from the command line or the environment. RADAR_ARCHIVE_LIB_DIR is the folder of the engine's library where it is not to be proved here.
 
 # What the products are made of: sources, and the engine's library where it is there already.
-sources := $(shell find crates crates.txt include host/Cargo.* host/command host/radar-archive host/package -type f)
+sources := $(shell find crates crates.txt include host/Cargo.* host/command host/radar-archive host/package -path 'crates/*/out' -prune -o -type f -print)
 library := $(wildcard $(or $(RADAR_ARCHIVE_LIB_DIR),target/staticlib)/libexports.*)
 
 all: target/product

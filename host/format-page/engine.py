@@ -20,7 +20,7 @@ def static_library():
     """The path of libexports.a: in the folder that RADAR_ARCHIVE_LIB_DIR names, else in target/staticlib."""
     path = pathlib.Path(os.environ.get("RADAR_ARCHIVE_LIB_DIR", ROOT / "target" / "staticlib")) / "libexports.a"
     if not path.is_file():
-        raise FileNotFoundError("%s is missing; run 'rt staticlib exports'" % path)
+        raise FileNotFoundError("%s is missing; run host/package/prove" % path)
     return str(path)
 
 

@@ -20,7 +20,7 @@ fn main() {
     println!("cargo:rerun-if-changed={}", library.display());
     if !library.is_file() {
         eprintln!("radar-archive: {} is missing.", library.display());
-        eprintln!("Run 'rt staticlib exports' at the repository's root, or set {VARIABLE} to the folder of libexports.a.");
+        eprintln!("Run host/package/prove, or set {VARIABLE} to the folder of libexports.a.");
         exit(1);
     }
     println!("cargo:folder={}", folder.display());
