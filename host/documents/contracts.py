@@ -6,11 +6,11 @@ from tree import DECLARED
 # The public calls: every `pub fn` of a crate, or those named.
 PUBLIC = {"reading": None, "making": None, "writing": None, "opened": None, "lent_parts": None, "exports": None, "listing": {"list"}, "header": {"position_at", "coordinates_at"}}
 
-# `use Rattle·CRATE.specs.File.{a, b}`, in a crate of its own `Rattle·CRATE·specs.specs.File`; `.. as x` in place of the names.
-USE = re.compile(r"^(?:ghost )?use Rattle·(\w+)(?:·\w+)?\.([\w.-]+?)(?:\.\{([^}]*)\}| as (\w+));?$", re.MULTILINE)
+# `use Rattle.CRATE.specs.File.{a, b}`; `.. as x` in place of the names.
+USE = re.compile(r"^(?:ghost )?use Rattle\.(\w+)\.([\w.-]+?)(?:\.\{([^}]*)\}| as (\w+));?$", re.MULTILINE)
 PUBLIC_FUNCTION = r"^pub (?:extern \"C\" )?fn (\w+)"
 WITH_CONTRACT = re.compile(PUBLIC_FUNCTION + r"((?:(?!^\}).)*?)^\{", re.MULTILINE | re.DOTALL)  # up to the body, which begins a line
-WORD = re.compile(r"[^\s(){};,.⌜⌝λ]+")
+WORD = re.compile(r"[^\s(){};,.λ]+")
 
 
 class Unfound(Exception):
@@ -21,17 +21,19 @@ def file_of(crate, module):
     """specs.File is a file of specs/; specs.declared.Type comes of the type's source."""
     parts = module.split(".")
     if "declared" in parts:
-        inner = [part for part in parts[parts.index("declared") + 1:] if part[0].islower() and part != "the-variants"]
+        inner = [part for part in parts[parts.index("declared") + 1:] if part[0].islower()]
         return f"crates/{crate}/src/{'/'.join(inner) or 'lib'}.rt"
     return f"crates/{crate}/{'/'.join(parts)}.antt"
 
 
-def imports(text, file):
-    """The imported names with their files, and the files that have a short name."""
+def imports(text, file, crates):
+    """The names imported of these crates with their files, and the files that have a short name."""
     by_name, short = {}, {}
-    if len(USE.findall(text)) != len(re.findall(r"^.*\buse Rattle·", text, re.MULTILINE)):
+    if len(USE.findall(text)) != len(re.findall(r"^.*\buse Rattle\.", text, re.MULTILINE)):
         raise Unfound(f"{file} has an import of another form than those that are followed")
     for crate, module, listed, other in USE.findall(text):
+        if crate not in crates:
+            continue
         if other:
             short[other] = file_of(crate, module)
         for name in filter(None, (name.strip() for name in listed.split(","))):
@@ -40,9 +42,9 @@ def imports(text, file):
 
 
 def cited(text, names):
-    """Those of the names that a text cites. Of `_++_` each piece has to stand there."""
+    """Those of the names that a text cites. Of `◌++◌` each piece has to stand there."""
     words = set(WORD.findall(re.sub(r"--.*", "", text)))
-    return [name for name in names if name in words or "_" in name and set(filter(None, name.split("_"))) <= words]
+    return [name for name in names if name in words or "◌" in name and set(filter(None, name.split("◌"))) <= words]
 
 
 class Closure:
@@ -53,7 +55,7 @@ class Closure:
 
     def follow(self, text, file, own=()):
         """Everything that a text cites by the imports and the declarations of its file."""
-        by_name, short = imports(self.tree.read(file), file)
+        by_name, short = imports(self.tree.read(file), file, self.tree.crates())
         for name in cited(text, by_name):
             self.reach(*by_name[name], file)
         for other in short:

@@ -2,8 +2,8 @@
 from tree import Tree
 
 RECORD = """-- Assumes nothing.
-use Rattle·format·specs.specs.Tools.{pick}
-use Rattle·format·specs.specs.declared.Answer.{Answer}
+use Rattle.format.specs.Tools.{pick}
+use Rattle.format.specs.declared.Answer.{Answer}
 
 pub record Made (n : ℕ) : Type 0 where
   pub number : pick n ≡ 0
@@ -12,11 +12,11 @@ pub record Made (n : ℕ) : Type 0 where
 abbrev pub twice : ℕ → ℕ
 twice n = n + n
 """
-CALL = """ghost use Rattle·format.specs.Calls.{Made};
+CALL = """ghost use Rattle.format.specs.Calls.{Made};
 
 // Makes.
 pub fn make(n: u32) -> u32
-    ensures { λ r. ⌜ Made r ⌝ }
+    ensures { Made result }
 {
     n
 }
@@ -57,7 +57,7 @@ FILES = {
     "crates/laws/proofs/Calls.antt": "module _ (n : ℕ) where\n  made-once : Made n\n  made-once = n\n",
     "crates/making/src/lib.rt": "pub mod make;\nmod inner;\n",
     "crates/making/src/make.rt": CALL,
-    "crates/making/src/inner.rt": "pub fn hidden(n: u32) -> u32\n    ensures { λ r. ⌜ gone r ⌝ }\n{\n    n\n}\n",
+    "crates/making/src/inner.rt": "pub fn hidden(n: u32) -> u32\n    ensures { gone result }\n{\n    n\n}\n",
     "crates/making/must-fail/copies.edit": "",
     "include/radar_archive.h": "uint32_t ra_word(void);\n",
     "docs/TRUST.md": TRUST,

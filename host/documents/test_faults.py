@@ -33,14 +33,14 @@ class Tables(Faults):
         self.told(trust_tables.problems(made(TRUST, "`Made`", "`Maker`")), "Maker is not declared")
 
     def test_contract_cites_more(self):
-        more = "Made r ⌝ }\n{\n    n\n}\nghost use Rattle·format.specs.Sample.{rows};\npub fn more(n: u32) -> u32\n    ensures { λ r. ⌜ rows r"
-        tree = made("crates/making/src/make.rt", "Made r", more)
+        more = "Made result }\n{\n    n\n}\nghost use Rattle.format.specs.Sample.{rows};\npub fn more(n: u32) -> u32\n    ensures { rows result"
+        tree = made("crates/making/src/make.rt", "Made result", more)
         tree.changed[TRUST] = tree.read(TRUST).replace("| specs/Sample | rows | the theorems on the rows |\n", "")
         self.told(trust_tables.problems(tree), "no row has crates/format/specs/Sample.antt, which crates/making/src/make.rt cites")
 
     def test_no_contract(self):
-        self.told(trust_tables.problems(made("crates/making/src/make.rt", "    ensures { λ r. ⌜ Made r ⌝ }\n", "")), "make has no contract")
-        self.told(trust_tables.problems(made("crates/making/src/make.rt", "\n    ensures { λ r. ⌜ Made r ⌝ }\n{", " {")), "make has no contract")
+        self.told(trust_tables.problems(made("crates/making/src/make.rt", "    ensures { Made result }\n", "")), "make has no contract")
+        self.told(trust_tables.problems(made("crates/making/src/make.rt", "\n    ensures { Made result }\n{", " {")), "make has no contract")
 
     def test_call_gone(self):
         self.told(trust_tables.problems(made("crates/listing/src/lib.rt", "fn list", "fn listed")), "list is no function of listing")

@@ -32,15 +32,15 @@ class Tree:
         return (self.top / path).exists() or any(other.startswith(path + "/") for other in self.changed)
 
     def files(self, folder, ending):
-        """The paths of all files below a folder that have an ending, in order."""
+        """The paths of all files below a folder that have an ending, in order; not of crates/NAME/out, which a check writes."""
         found = {str(path.relative_to(self.top)) for path in (self.top / folder).rglob("*" + ending)}
         found |= {path for path in self.changed if path.startswith(folder + "/") and path.endswith(ending)}
-        return sorted(path for path in found if self.exists(path))
+        return sorted(path for path in found if self.exists(path) and not re.match(r"crates/\w+/out/", path))
 
     def crates(self):
         """What each crate of crates.txt may import, in the order of the list."""
         lines = [line for line in self.read("crates.txt").splitlines() if line.strip() and not line.startswith("#")]
-        return {name.strip(): needs.split() for name, needs in (line.split(":") for line in lines)}
+        return {name.split()[0]: needs.split() for name, needs in (line.split(":") for line in lines)}  # `NAME staticlib` is NAME
 
     def declared(self, path):
         """The names that a file of specs/ or proofs/ declares, each with the text from there to the next of its depth."""
@@ -89,5 +89,6 @@ class Tree:
             found |= {part for item in self.items(crate) for part in item}
         for path in self.files("crates", ".antt"):
             found |= {path.split("/")[-1].removesuffix(".antt"), *self.declared(path)}
-            found |= {name.strip() for names in re.findall(r"^use (?!Rattle·).*\{(.*)\}", self.read(path), re.MULTILINE) for name in names.split(",")}
+            found |= {name.strip() for names in re.findall(rf"^use (?!Rattle\.(?:{'|'.join(self.crates())})\.).*\{{(.*)\}}", self.read(path), re.MULTILINE)
+                      for name in names.split(",")}
         return found | {path.split("/")[-1].removesuffix(".edit") for path in self.files("crates", ".edit")}
