@@ -72,7 +72,7 @@ def main():
         return
     for pattern in PAGES + SOURCES:
         for path in sorted(Path(".").glob(pattern)):
-            if {"target", "out", "corpus"} & set(path.parts) or path.name in ("PORT.md", "ISSUES.md"):
+            if {"target", "out", "corpus"} & set(path.parts) or path.name == "PORT.md":
                 continue
             text, counts = path.read_text(), collections.Counter()
             is_page, fenced, lines = path.suffix == ".md", False, []
