@@ -1,8 +1,8 @@
 #!/usr/bin/env python3
 """Brings the names of definitions, lemmas and fields in pages and in the comments of host/ and include/ to their spelling since the port.
 
-Run once, at the top. What each name became is read from the commits that docs/PORT.md names: a file of specs/ or proofs/ declares the same things in the same
-order before port.py and after tools/port_names.py. A name in backticks changes wherever it stands as a whole word; elsewhere only one with a capital within,
+Run at the top, again where more names have changed. What each name became is read from the commits that docs/PORT.md names: a file of specs/ or proofs/ declares the same things in the same
+order before port.py and after tools/port_names.py; a spelling that changed after that is seen in the files as they stand. A name in backticks changes wherever it stands as a whole word; elsewhere only one with a capital within,
 since one with a dash may be a word of the language. Prints what changes, and the names that have become several things, which stay.
 """
 import collections
@@ -26,11 +26,16 @@ def declared(text):
     return [found[2] or found[3] for found in DECLARED.finditer(text) if not found[0].lstrip().startswith(("--", "use "))]
 
 
+def letters(name):
+    """What a respelling of a name leaves as it is."""
+    return name[:1] + re.sub("[-_]", "", name[1:]).lower()
+
+
 def renamed():
     """The names that changed, each with what it became."""
     lines = Path("docs/PORT.md").read_text().splitlines()
     landed, ported, unfinished = (re.search(r"[0-9a-f]{40}", line)[0] for line in lines[:3])
-    found = collections.defaultdict(set)
+    found, later = collections.defaultdict(set), {}
     names = subprocess.run(["git", "ls-tree", "-r", "--name-only", ported, "crates"], capture_output=True, text=True, check=True).stdout.split()
     for path in names:
         if not path.endswith(".antt") or path.endswith(("Proof.antt", "Lib.antt")):
@@ -45,6 +50,14 @@ def renamed():
                 continue
             for old, new in zip(one, other):
                 found[old].add(new)
+        if not Path(path).exists():
+            continue
+        now = declared(Path(path).read_text())
+        for name in set(other) - set(now):
+            alike = {other for other in now if letters(other) == letters(name)}
+            if len(alike) == 1:
+                later[name] = alike.pop()
+    found = {old: {later.get(new, new) for new in found[old]} for old in found}
     for several in sorted(old for old in found if len(found[old]) > 1):
         print(f"{several} became {' and '.join(sorted(found[several]))}")
     return {old: new for old, (new, *more) in found.items() if not more and old != new}
