@@ -1,11 +1,10 @@
 -- One pass that stops at each rank that a pointer names. Assumes nothing.
-use Prim.Native.Nat.{ℕ, ◌+◌, ◌-◌, ◌*◌, ◌^◌, ◌≤◌, ◌<◌}
+use Prim.Native.Nat.{ℕ, ◌+◌, ◌*◌, ◌^◌, ◌≤◌, ◌<◌}
 use mathlib.Core.Path.{◌≡◌, sym, ap, ◌∙◌}
-use mathlib.Core.Logic.{⊎_elim}
 use native.Mathlib.Nat.{le_refl}
 use native.Mathlib.Omega.{arith}
 use lib.ListN.{length}
-use borrow.Author.Tests.{not-true, not-false, leb-true, leb-false, eqb-true, eqb-false}
+use borrow.Author.Tests.{not-true, not-false}
 use Rattle.format.specs.Tools.{up_to}
 use Rattle.format.specs.Bytes.{field}
 use Rattle.laws.proofs.Bounds.{index_inside}
@@ -15,13 +14,11 @@ use Rattle.jump_pass.proofs.Groups.{readable}
 use Rattle.pointed_jumps.proofs.Held.{steps, laid, pointers-there}
 use Rattle.pointed_jumps.proofs.Pointed.{pointer}
 use Rattle.pointed_jumps.proofs.Come.{come_none, wrong_pass, wrong_pointer, wrong_count, come_on, wrong_end, come_end}
-use Rattle.pointed_jumps.proofs.check.pass.Goals.{After-difference, After-get_u32-next, After-pass_span-s, After-pass_span-s-2, At-loop-k, In-loop-k}
+use Rattle.pointed_jumps.proofs.check.pass.Goals.{After-difference, After-get_u32-next, After-pass_span-s, After-pass_span-s-2, At-loop-k, In-loop-k, then-next-rank-via-then-next-rank, then-next-rank-via-else-next-rank+then-words-next, then-not-s-via-then-not-s, then-not-s-via-else-not-s+then-s-k, then-not-s-2-via-then-not-s-2, then-not-s-2-via-else-not-s-2+then-s-ne0}
 use Rattle.pointed_jumps.proofs.check.pass.Goals as goal
 
 pub pointers_at-pointers-requires : goal.pointers_at-pointers-requires
 pointers_at-pointers-requires c =
-    let k = c.struct_known-1.given in
-        let m : c.args.v.second < 2 ^ 32 = k.1.1.1.1.1.1.1.1.1.0.fits in
     (omega arith, rw c.requires.1 (laid _ _ c.requires.0).wide)
 
 pub pointer_count-count-requires : goal.pointer_count-count-requires
@@ -38,166 +35,157 @@ span : (c : At-loop-k) (end : ℕ)
     → let a = c.args in
     c.loop-k.rank ≤ end → end ≤ a.v.words → Readable a.width a.v.second a.file.now c.loop-k.rank end c.loop-k.s
 span c end h m =
-        let z = laid _ _ c.requires.0 in
+    let z = laid _ _ c.requires.0 in
     let p = z.place in
     let g = c.loop-k.invariant.goes in
     let n = g.left in
     readable c.args.file.now c.args.v z c.requires.1 c.loop-k.rank end c.loop-k.s h m (omega arith) g.least
 
 -- ---- the next pointer
-module _ (c : tie.In-loop invariant-loop decreases-loop) where
-  abbrev start : tie.Start invariant-loop decreases-loop
-  start = c.before.before.before.before.before.before.before.before.before
+there : (c : In-loop-k) → let v = c.args.v in c.pointers_at-pointers.result ≡ v.second + v.width * v.words
+there c = c.pointers_at-pointers.ensures ∙ ap (λ (w : ℕ). c.args.v.second + w * c.args.v.words) c.requires.1
 
-  there : c.before.before.before.pointers-at.result ≡ start.args.v.second + start.args.v.width * start.args.v.words
-  there = c.before.before.before.pointers-at.ensures ∙ ap (λ (w : ℕ). start.args.v.second + w * start.args.v.words) start.requires.1
+below : (c : In-loop-k) → c.loop-k.k < up_to c.args.v.firsts c.args.v.step
+below c = rw c.pointer_count-count.ensures.0 at c.loop-k-test.true
 
-  below : c.before.loop.k < up_to start.args.v.firsts start.args.v.step
-  below = rw c.before.before.pointer-count.ensures.0 at c.loop-test.true
+inside : (c : In-loop-k) → c.pointers_at-pointers.result + 4 * c.loop-k.k + 4 ≤ length c.args.file.now
+inside c = let i = pointers-there _ _ c.requires.0 in let h = below c in let e = there c in omega arith
 
-  inside : c.before.before.before.pointers-at.result + 4 * c.before.loop.k + 4 ≤ length start.args.file.now
-  inside = let i = pointers-there _ _ start.requires.0 in let h = below in let e = there in omega arith
+least : (c : In-loop-k) → 1 ≤ c.args.v.step
+least c = (steps _ _ c.requires.0.allowed).0
 
-  least : 1 ≤ start.args.v.step
-  least = (steps _ _ start.requires.0.allowed).0
-
-named : (c : After-get_u32-next)
-    → let a = (start (AT.In-loop-k c)).args in
-    c.get_u32-next.result ≡ pointer a.file.now a.v c.loop-k.k
+named : (c : After-get_u32-next) → let a = c.args in c.get_u32-next.result ≡ pointer a.file.now a.v c.loop-k.k
 named c =
-    let a = (start (AT.In-loop-k c)).args in
-    c.get_u32-next.ensures.0 ∙ ap (λ (x : ℕ). field 4 (x + 4 * c.loop-k.k) a.file.now) (there (AT.In-loop-k c))
+    let a = c.args in
+    let there : c.pointers_at-pointers.result ≡ a.v.second + a.v.width * a.v.words
+    = c.pointers_at-pointers.ensures ∙ ap (λ (w : ℕ). a.v.second + w * a.v.words) c.requires.1 in
+    c.get_u32-next.ensures.0 ∙ ap (λ (x : ℕ). field 4 (x + 4 * c.loop-k.k) a.file.now) there
 
 pub returns-then-next-rank : goal.returns-then-next-rank
 returns-then-next-rank c =
-        let next = c.get_u32-next.result in
-    wrong_pointer _ _ (laid _ _ (start (goal.at.returns-then-next-rank c).In-loop-k).requires.0) (least (goal.at.returns-then-next-rank c).In-loop-k) c.loop-k.invariant (below (goal.at.returns-then-next-rank c).In-loop-k) (named (goal.at.returns-then-next-rank c).After-get_u32-next)
+    let m = goal.at.returns-then-next-rank c in
+    let next = c.get_u32-next.result in
+    wrong_pointer _ _ (laid _ _ c.requires.0) (least m.In-loop-k) c.loop-k.invariant (below m.In-loop-k) (named m.After-get_u32-next)
     (λ h p.
     let r = p.rank in
-    ⊎_elim (λ w. let t : next < c.loop-k.rank = w.taken in omega arith) (λ w. let t = leb-true (start (goal.at.returns-then-next-rank c).In-loop-k).args.v.words next w.1.taken in omega arith)
-    c.then-next-rank.branch)
+    elim c.then-next-rank.branch [
+      then-next-rank-via-then-next-rank w ↦ let t : next < c.loop-k.rank = w.if-next-rank.true in omega arith
+      | then-next-rank-via-else-next-rank+then-words-next w ↦ let t : c.args.v.words ≤ next = w.if-words-next.true in omega arith
+    ])
 
 pub pass_span-s-requires : goal.pass_span-s-requires
-pass_span-s-requires c =
-        (span (goal.at.pass_span-s-requires c).At-loop-k c.get_u32-next.result c.if-next-rank.false (lt-le (leb-false _ _ c.if-words-next.false-raw)), (start (goal.at.pass_span-s-requires c).In-loop-k).requires.2)
+pass_span-s-requires c = (span (goal.at.pass_span-s-requires c).At-loop-k c.get_u32-next.result c.if-next-rank.false (lt-le c.if-words-next.false), c.requires.2)
 
 -- the ranks before it are passed
-module _ (c : tie.After-pass-span invariant-loop decreases-loop) where
-  abbrev turn : tie.In-loop invariant-loop decreases-loop
-  turn = c.before.before.before.before
-
-  gone : let a = (start turn).args in
-      Goes a.v.width a.v.second a.file.now turn.before.loop.rank c.before.before.before.get-u32.result turn.before.loop.s c.pass-span.result
-  gone = rw (start turn).requires.1 at c.pass-span.ensures
-
-  onward : turn.before.loop.rank ≤ c.before.before.before.get-u32.result
-  onward = c.before.before.if1.false
-
-  low : c.before.before.before.get-u32.result < (start turn).args.v.words
-  low = leb-false _ _ c.before.if2.false
+gone : (c : After-pass_span-s)
+    → let a = c.args in
+    Goes a.v.width a.v.second a.file.now c.loop-k.rank c.get_u32-next.result c.loop-k.s c.pass_span-s.result
+gone c = rw c.requires.1 at c.pass_span-s.ensures
 
 pub overflow_mul-k-else-not-s : goal.overflow_mul-k-else-not-s
 overflow_mul-k-else-not-s c =
-    let l = turn (goal.at.overflow_mul-k-else-not-s c).After-pass_span-s in
-    let v = (start l).args.v in
-    let m : l.before.loop.k * v.step < v.firsts = index_inside _ _ l.before.loop.k (least l) (below l) in
-    let z = laid _ _ (start l).requires.0 in
+    let l = (goal.at.overflow_mul-k-else-not-s c).In-loop-k in
+    let v = c.args.v in
+    let m : c.loop-k.k * v.step < v.firsts = index_inside _ _ c.loop-k.k (least l) (below l) in
+    let z = laid _ _ c.requires.0 in
     let f : v.firsts ≤ 16777216 = omega arith in
-    let r : l.before.loop.k * v.step < 2 ^ 64 = omega arith in
+    let r : c.loop-k.k * v.step < 2 ^ 64 = omega arith in
     record { fits = r }
 
 pub overflow_add-s : goal.overflow_add-s
 overflow_add-s c =
-        let l = turn (goal.at.overflow_add-s c).After-pass_span-s in
-    let m = index_inside _ _ l.before.loop.k (least l) (below l) in
-    let g = (gone (goal.at.overflow_add-s c).After-pass_span-s).left in
-    let v = (start l).args.v in
-    let i : l.before.loop.s.left ≤ v.firsts = l.before.loop.invariant.goes.left in
-    let z = laid _ _ (start l).requires.0 in
+    let m = goal.at.overflow_add-s c in
+    let l = m.In-loop-k in
+    let b = index_inside _ _ c.loop-k.k (least l) (below l) in
+    let g = (gone m.After-pass_span-s).left in
+    let v = c.args.v in
+    let i : c.loop-k.s.left ≤ v.firsts = c.loop-k.invariant.goes.left in
+    let z = laid _ _ c.requires.0 in
     let f : v.firsts ≤ 16777216 = omega arith in
-    let r : c.pass_span-s.result.left + l.before.loop.k * v.step < 2 ^ 64 = omega arith in
+    let r : c.pass_span-s.result.left + c.loop-k.k * v.step < 2 ^ 64 = omega arith in
     record { fits = r }
 
 -- they are not right, or another number of jumps lies there
 pub returns-then-not-s : goal.returns-then-not-s
 returns-then-not-s c =
-        let l = turn (goal.at.returns-then-not-s c).After-pass_span-s in
-    let z = laid _ _ (start l).requires.0 in
+    let m = goal.at.returns-then-not-s c in
+    let l = m.In-loop-k in
+    let z = laid _ _ c.requires.0 in
     let right = c.pass_span-s.result.right in
-    ⊎_elim
-    (λ w. wrong_pass _ _ z (least l) l.before.loop.inv (onward (goal.at.returns-then-not-s c).After-pass_span-s) (lt-le (low (goal.at.returns-then-not-s c).After-pass_span-s)) (gone (goal.at.returns-then-not-s c).After-pass_span-s) (not-true right w.taken))
-    (λ w.
-    wrong_count _ _ z (least l) l.before.loop.inv (below l) (named (goal.at.returns-then-not-s c).After-get_u32-next) (onward (goal.at.returns-then-not-s c).After-pass_span-s) (low (goal.at.returns-then-not-s c).After-pass_span-s) (gone (goal.at.returns-then-not-s c).After-pass_span-s) (not-false right w.0.left)
-    (eqb-false _ _ (not-true _ w.2.taken)))
-    c.then-not-s.branch
+    let onward = c.if-next-rank.false in
+    let low = c.if-words-next.false in
+    let gone : Goes c.args.v.width c.args.v.second c.args.file.now c.loop-k.rank c.get_u32-next.result c.loop-k.s c.pass_span-s.result
+    = gone m.After-pass_span-s in
+    elim c.then-not-s.branch [
+      then-not-s-via-then-not-s w ↦ wrong_pass _ _ z (least l) c.loop-k.invariant onward (lt-le low) gone (not-true right w.if-not-s.true)
+      | then-not-s-via-else-not-s+then-s-k w ↦
+      wrong_count _ _ z (least l) c.loop-k.invariant (below l) (named m.After-get_u32-next) onward low gone (not-false right w.if-not-s.false) w.if-s-k.true
+    ]
 
 pub difference-requires : goal.difference-requires
-difference-requires c =
-        let o = start (turn (goal.at.difference-requires c).After-pass_span-s) in
-    entry_room o.args.v o.args.file.now c.get_u32-next.result (laid _ _ o.requires.0) o.requires.1 (low (goal.at.difference-requires c).After-pass_span-s)
+difference-requires c = entry_room c.args.v c.args.file.now c.get_u32-next.result (laid _ _ c.requires.0) c.requires.1 c.if-words-next.false
 
 -- the difference there
 found : (c : After-difference)
-    →     let a = (start (turn (AT.After-pass_span-s c))).args in
-    c.difference.result ≡ field a.v.width (a.v.second + a.v.width * c.get_u32-next.result) a.file.now
-found c = rw (start (turn (AT.After-pass_span-s c))).requires.1 at c.difference.ensures.0
+    → let a = c.args in c.difference.result ≡ field a.v.width (a.v.second + a.v.width * c.get_u32-next.result) a.file.now
+found c = rw c.requires.1 at c.difference.ensures.0
 
 pub returns-then-difference-ne0 : goal.returns-then-difference-ne0
 returns-then-difference-ne0 c =
-        let l = turn (goal.at.returns-then-difference-ne0 c).After-pass_span-s in
-    wrong_pointer _ _ (laid _ _ (start l).requires.0) (least l) l.before.loop.inv (below l) (named (goal.at.returns-then-difference-ne0 c).After-get_u32-next)
-    (λ h p. c.if-difference-ne0.true (found (goal.at.returns-then-difference-ne0 c).After-difference ∙ p.jump))
+    let m = goal.at.returns-then-difference-ne0 c in
+    let l = m.In-loop-k in
+    wrong_pointer _ _ (laid _ _ c.requires.0) (least l) c.loop-k.invariant (below l) (named m.After-get_u32-next)
+    (λ h p. c.if-difference-ne0.true (found m.After-difference ∙ p.jump))
 
 pub loop-k-preserved : goal.loop-k-preserved
 loop-k-preserved c =
-        let l = turn (goal.at.loop-k-preserved c).After-pass_span-s in
-    come_on _ _ (laid _ _ (start l).requires.0) (least l) l.before.loop.inv (below l) (named (goal.at.loop-k-preserved c).After-get_u32-next) (onward (goal.at.loop-k-preserved c).After-pass_span-s) (low (goal.at.loop-k-preserved c).After-pass_span-s) (gone (goal.at.loop-k-preserved c).After-pass_span-s)
+    let m = goal.at.loop-k-preserved c in
+    let l = m.In-loop-k in
+    come_on _ _ (laid _ _ c.requires.0) (least l) c.loop-k.invariant (below l) (named m.After-get_u32-next) c.if-next-rank.false c.if-words-next.false (gone m.After-pass_span-s)
     (not-false c.pass_span-s.result.right c.if-not-s.false)
-    (eqb-true _ _ (c.if-s-k.false))
-    (sym (found (goal.at.loop-k-preserved c).After-difference) ∙ c.if-difference-ne0.false)
+    c.if-s-k.false
+    (sym (found m.After-difference) ∙ c.if-difference-ne0.false)
 
 -- ---- after the last pointer
 pub pass_span-s-requires-2 : goal.pass_span-s-requires-2
-pass_span-s-requires-2 c =
-        (span (goal.at.pass_span-s-requires-2 c).At-loop-k c.args.v.words c.loop-k.invariant.rank (le_refl _), c.requires.2)
+pass_span-s-requires-2 c = (span (goal.at.pass_span-s-requires-2 c).At-loop-k c.args.v.words c.loop-k.invariant.rank (le_refl _), c.requires.2)
 
-module _ (c : tie.After-pass-span2 invariant-loop decreases-loop) where
-  abbrev first : tie.Start invariant-loop decreases-loop
-  first = c.before.before.before.before.before.before.before.before.before.before
+all : (c : After-pass_span-s-2) → up_to c.args.v.firsts c.args.v.step ≤ c.loop-k.k
+all c = rw c.pointer_count-count.ensures.0 at c.loop-k-test.false
 
-  all : up_to first.args.v.firsts first.args.v.step ≤ c.before.before.loop.k
-  all = rw c.before.before.before.pointer-count.ensures.0 at c.before.loop-test.false
-
-  ended : let a = first.args in
-      Goes a.v.width a.v.second a.file.now c.before.before.loop.rank a.v.words c.before.before.loop.s c.pass-span2.result
-  ended = rw first.requires.1 at c.pass-span2.ensures
+ended : (c : After-pass_span-s-2)
+    → let a = c.args in
+    Goes a.v.width a.v.second a.file.now c.loop-k.rank a.v.words c.loop-k.s c.pass_span-s-2.result
+ended c = rw c.requires.1 at c.pass_span-s-2.ensures
 
 pub returns-then-not-s-2 : goal.returns-then-not-s-2
 returns-then-not-s-2 c =
-        let i = c.loop-k.invariant in
-    let z = laid _ _ (first (goal.at.returns-then-not-s-2 c).After-pass_span-s-2).requires.0 in
-    let n = (steps _ _ (first (goal.at.returns-then-not-s-2 c).After-pass_span-s-2).requires.0.allowed).0 in
+    let s = (goal.at.returns-then-not-s-2 c).After-pass_span-s-2 in
+    let i = c.loop-k.invariant in
+    let z = laid _ _ c.requires.0 in
+    let n = (steps _ _ c.requires.0.allowed).0 in
     let right = c.pass_span-s-2.result.right in
-    ⊎_elim
-    (λ w. wrong_pass _ _ z n i i.rank (le_refl _) (ended (goal.at.returns-then-not-s-2 c).After-pass_span-s-2) (not-true right w.taken))
-    (λ w. wrong_end _ _ z n i (all (goal.at.returns-then-not-s-2 c).After-pass_span-s-2) (ended (goal.at.returns-then-not-s-2 c).After-pass_span-s-2) (not-false right w.0.left) (eqb-false _ _ (not-true _ w.2.taken)))
-    c.then-not-s-2.branch
+    elim c.then-not-s-2.branch [
+      then-not-s-2-via-then-not-s-2 w ↦ wrong_pass _ _ z n i i.rank (le_refl _) (ended s) (not-true right w.if-not-s-2.true)
+      | then-not-s-2-via-else-not-s-2+then-s-ne0 w ↦ wrong_end _ _ z n i (all s) (ended s) (not-false right w.if-not-s-2.false) w.if-s-ne0.true
+    ]
 
 pub overflow_add-result : goal.overflow_add-result
 overflow_add-result c =
-        let z = laid _ _ (first (goal.at.overflow_add-result c).After-pass_span-s-2).requires.0 in
-    let w : (first (goal.at.overflow_add-result c).After-pass_span-s-2).args.width ≤ 2 = rw (first (goal.at.overflow_add-result c).After-pass_span-s-2).requires.1 z.wide in
-    let m = reach_most (first (goal.at.overflow_add-result c).After-pass_span-s-2).requires.2 w in
-    let r : (first (goal.at.overflow_add-result c).After-pass_span-s-2).args.v.cells + (first (goal.at.overflow_add-result c).After-pass_span-s-2).args.reach < 2 ^ 64 = omega arith in
+    let z = laid _ _ c.requires.0 in
+    let w : c.args.width ≤ 2 = rw c.requires.1 z.wide in
+    let m = reach_most c.requires.2 w in
+    let r : c.args.v.cells + c.args.reach < 2 ^ 64 = omega arith in
     record { fits = r }
 
 pub returns : goal.returns
 returns c =
-        let i = c.loop-k.invariant in
-    let z = laid _ _ (first (goal.at.returns c).After-pass_span-s-2).requires.0 in
-    let n = (steps _ _ (first (goal.at.returns c).After-pass_span-s-2).requires.0.allowed).0 in
-    come_end _ _ z n i (all (goal.at.returns c).After-pass_span-s-2) (ended (goal.at.returns c).After-pass_span-s-2) (not-false c.pass_span-s-2.result.right c.if-not-s-2.false)
-    (eqb-true _ _ (c.if-s-ne0.false)) ((first (goal.at.returns c).After-pass_span-s-2).requires.2 ∙ ap (λ (w : ℕ). 256 ^ w) (first (goal.at.returns c).After-pass_span-s-2).requires.1)
+    let s = (goal.at.returns c).After-pass_span-s-2 in
+    let i = c.loop-k.invariant in
+    let z = laid _ _ c.requires.0 in
+    let n = (steps _ _ c.requires.0.allowed).0 in
+    come_end _ _ z n i (all s) (ended s) (not-false c.pass_span-s-2.result.right c.if-not-s-2.false) c.if-s-ne0.false
+    (c.requires.2 ∙ ap (λ (w : ℕ). 256 ^ w) c.requires.1)
 
 pub overflow_mul-k : goal.overflow_mul-k
 overflow_mul-k c = let h = inside c in record { fits = omega arith }

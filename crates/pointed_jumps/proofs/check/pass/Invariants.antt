@@ -1,6 +1,5 @@
 -- One pass that stops at each rank that a pointer names. Assumes nothing.
 use Prim.Native.Nat.{◌-◌}
-use Rattle.pointed_jumps.proofs.Pointed.{pointer}
 use Rattle.pointed_jumps.proofs.Come.{Come}
 use Rattle.pointed_jumps.proofs.check.pass.Given as goal
 

@@ -1,5 +1,4 @@
 -- The pointers, each from the one before. Assumes nothing.
-use Prim.Native.Nat.{◌-◌}
 use mathlib.Core.Path.{sym, ◌∙◌}
 use native.Mathlib.Nat.{mul-le-mul_right}
 use native.Mathlib.Omega.{arith}
@@ -70,7 +69,6 @@ overflow_add-at c =
     let t = c.requires.1 in
     let k = mul-le-mul_right c.args.z.words g.stands.wide in
     let p = c.pointers_at-at.ensures in
-    let i = c.struct_known-1.given in
     omega arith
 
 pub overflow_cast-rank : goal.overflow_cast-rank

@@ -1,10 +1,9 @@
 -- A rank with jump j there. Assumes nothing.
 use Prim.Native.Nat.{◌+◌}
 use mathlib.Core.Path.{ap}
-use mathlib.Core.Logic.{⊎_elim}
 use native.Mathlib.Omega.{arith}
-use borrow.Author.Tests.{ltb-true, ltb-false}
 use Rattle.pointed_jumps.proofs.Found.{first-at}
+use Rattle.pointed_jumps.proofs.search.at_jump.Goals.{then-most-rank-via-then-most-rank, then-most-rank-via-else-most-rank+then-rank-j}
 use Rattle.pointed_jumps.proofs.search.at_jump.Goals as goal
 
 -- A rank with jump j there. Assumes nothing.
@@ -13,13 +12,17 @@ returns-then-most-rank c =
     let a = c.args in
     let t = c.first_place.ensures in
     first-at a.file.now a.v a.rank a.j a.most _ t.0 t.1 t.2
-    (λ x y. ⊎_elim (λ z. let q = z.taken in absurd (omega arith)) (λ z. let q = ltb-true a.rank a.j z.1.taken in absurd (omega arith)) c.then-most-rank.branch)
+    (λ x y.
+    elim c.then-most-rank.branch [
+      then-most-rank-via-then-most-rank w ↦ let q = w.if-most-rank.true in absurd (omega arith)
+      | then-most-rank-via-else-most-rank+then-rank-j w ↦ let q = w.if-rank-j.true in absurd (omega arith)
+    ])
 
 pub returns : goal.returns
 returns c =
     let a = c.args in
     let m = c.if-most-rank.false in
-    let n = ltb-false a.rank a.j c.if-rank-j.false-raw in
+    let n = c.if-rank-j.false in
     let l = c.load_u32.ensures in
     let f = l.1 in
     record {

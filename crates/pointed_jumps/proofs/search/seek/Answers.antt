@@ -1,4 +1,6 @@
 -- The place of a position. Assumes nothing.
+use mathlib.Core.Path.{ap}
+use mathlib.Core.Bool.{not}
 use native.Mathlib.Omega.{arith}
 use Rattle.pointed_jumps.proofs.Found.{none, found_after}
 use Rattle.pointed_jumps.proofs.search.seek.Goals as goal
@@ -6,7 +8,7 @@ use Rattle.pointed_jumps.proofs.search.seek.Goals as goal
 -- The place of a position. Assumes nothing.
 pub returns-then-not-searchable : goal.returns-then-not-searchable
 returns-then-not-searchable c =
-        none c.args.file.now c.args.v c.args.width c.requires.2 c.if-not-searchable.true-raw c.searchable.ensures.1 c.args.p
+        none c.args.file.now c.args.v c.args.width c.requires.2 (ap not c.if-not-searchable.true) c.searchable.ensures.1 c.args.p
 
 pub jump_place-requires : goal.jump_place-requires
 jump_place-requires c =

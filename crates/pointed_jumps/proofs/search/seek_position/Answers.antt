@@ -1,4 +1,6 @@
 -- The position of a rank. Assumes nothing.
+use mathlib.Core.Path.{ap}
+use mathlib.Core.Bool.{not}
 use native.Mathlib.Omega.{arith}
 use Rattle.differences.proofs.Walked.{room}
 use Rattle.pointed_jumps.proofs.Found.{no_position, position-found}
@@ -7,7 +9,7 @@ use Rattle.pointed_jumps.proofs.search.seek_position.Goals as goal
 -- The position of a rank. Assumes nothing.
 pub returns-then-not-searchable : goal.returns-then-not-searchable
 returns-then-not-searchable c =
-        no_position c.args.file.now c.args.v c.args.width c.requires.3 c.if-not-searchable.true-raw c.searchable.ensures.1 c.args.rank
+        no_position c.args.file.now c.args.v c.args.width c.requires.3 (ap not c.if-not-searchable.true) c.searchable.ensures.1 c.args.rank
 
 pub pointed_place-from-requires : goal.pointed_place-from-requires
 pointed_place-from-requires c =

@@ -1,13 +1,12 @@
 -- The bytes of the parts, by the counts. Assumes nothing.
 use Prim.Native.Nat.{◌*◌, ◌≤◌}
 use mathlib.Core.Path.{refl, ◌∙◌}
-use mathlib.Core.Logic.{⊎_elim}
 use native.Mathlib.Nat.{mul-le-mul_right}
 use native.Mathlib.Omega.{arith}
 use borrow.Author.Tests.{le-leb, lt-leb}
 use Rattle.format.specs.PointedJumps.{pointed_kind}
 use Rattle.pointed_jumps.proofs.Held.{widths, steps}
-use Rattle.pointed_jumps.proofs.setting.part_bytes.Goals.{After-pointer_count-pointers}
+use Rattle.pointed_jumps.proofs.setting.part_bytes.Goals.{After-pointer_count-pointers, then-v, else-v}
 use Rattle.pointed_jumps.proofs.setting.part_bytes.Goals as goal
 
 -- The bytes of the parts, by the counts. Assumes nothing.
@@ -32,7 +31,7 @@ returns c =
     let n = c.pointer_count-pointers.ensures in
     let n1 = n.1 in
     record {
-      right = ⊎_elim (λ w. rw (le-leb _ _ w.0.taken) w.1) (λ w. let q = lt-leb _ _ w.0.left in rw q (w.1 ∙ q)) c.if-v.branch;
+      right = elim c.if-v.branch [ then-v w ↦ rw (le-leb _ _ w.if-v.true) w.result-is | else-v w ↦ let q = lt-leb _ _ w.if-v.false in rw q (w.result-is ∙ q) ];
       first = λ e. refl;
       second = λ e. rw n.0;
       first-most = omega arith;
