@@ -69,7 +69,7 @@ returns-then-next-rank c =
     (λ h p.
     let r = p.rank in
     elim c.then-next-rank.branch [
-      then-next-rank-via-then-next-rank w ↦ let t : next < c.loop-k.rank = w.if-next-rank.true in omega arith
+      | then-next-rank-via-then-next-rank w ↦ let t : next < c.loop-k.rank = w.if-next-rank.true in omega arith
       | then-next-rank-via-else-next-rank+then-words-next w ↦ let t : c.args.v.words ≤ next = w.if-words-next.true in omega arith
     ])
 
@@ -117,9 +117,9 @@ returns-then-not-s c =
     let gone : Goes c.args.v.width c.args.v.second c.args.file.now c.loop-k.rank c.get_u32-next.result c.loop-k.s c.pass_span-s.result
     = gone m.After-pass_span-s in
     elim c.then-not-s.branch [
-      then-not-s-via-then-not-s w ↦ wrong_pass _ _ z (least l) c.loop-k.invariant onward (lt-le low) gone (not-true right w.if-not-s.true)
+      | then-not-s-via-then-not-s w ↦ wrong_pass _ _ z (least l) c.loop-k.invariant onward (lt-le low) gone (not-true right w.if-not-s.true)
       | then-not-s-via-else-not-s+then-s-k w ↦
-      wrong_count _ _ z (least l) c.loop-k.invariant (below l) (named m.After-get_u32-next) onward low gone (not-false right w.if-not-s.false) w.if-s-k.true
+          wrong_count _ _ z (least l) c.loop-k.invariant (below l) (named m.After-get_u32-next) onward low gone (not-false right w.if-not-s.false) w.if-s-k.true
     ]
 
 pub difference-requires : goal.difference-requires
@@ -166,7 +166,7 @@ returns-then-not-s-2 c =
     let n = (steps _ _ c.requires.0.allowed).0 in
     let right = c.pass_span-s-2.result.right in
     elim c.then-not-s-2.branch [
-      then-not-s-2-via-then-not-s-2 w ↦ wrong_pass _ _ z n i i.rank (le_refl _) (ended s) (not-true right w.if-not-s-2.true)
+      | then-not-s-2-via-then-not-s-2 w ↦ wrong_pass _ _ z n i i.rank (le_refl _) (ended s) (not-true right w.if-not-s-2.true)
       | then-not-s-2-via-else-not-s-2+then-s-ne0 w ↦ wrong_end _ _ z n i (all s) (ended s) (not-false right w.if-not-s-2.false) w.if-s-ne0.true
     ]
 

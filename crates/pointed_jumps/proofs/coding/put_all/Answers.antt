@@ -6,7 +6,7 @@ use Rattle.pointed_jumps.proofs.coding.put_all.Goals as goal
 
 pub put_all-requires : goal.put_all-requires
 put_all-requires c =
-        let a = c.args in
+    let a = c.args in
     let w = widths a.width a.step c.requires.0 in
     (w.0, w.1, c.requires.1, room-alike _ _ (alike-back _ _ (alike a.width a.step)) a.e a.ps.now _ c.requires.2)
 

@@ -16,7 +16,7 @@ pointer_count-count-requires c = (given-of (goal.at.pointer_count-count-requires
 
 pub returns-then-count-eq0 : goal.returns-then-count-eq0
 returns-then-count-eq0 c =
-        let e = c.pointer_count-count.ensures.0 in
+    let e = c.pointer_count-count.ensures.0 in
     none_made c.args.width c.args.step c.args.z c.args.start c.args.dst.now (given-of (goal.at.returns-then-count-eq0 c).Start) (sym e ∙ c.if-count-eq0.true)
 
 pub pointers_at-at-requires : goal.pointers_at-at-requires
@@ -39,7 +39,7 @@ put_u32-requires c =
 
 pub loop-k-init : goal.loop-k-init
 loop-k-init c =
-        let f = c.if-count-eq0.false in
+    let f = c.if-count-eq0.false in
     let q = c.pointer_count-count.ensures in
     let m = q.1 in
     let g = given-of (goal.at.loop-k-init c).Start in
@@ -53,7 +53,7 @@ jump_after-rank-requires c = pointing_asks _ _ _ _ _ _ _ _ _ _ c.loop-k.invarian
 pub overflow_mul-k : goal.overflow_mul-k
 overflow_mul-k c =
     let h = c.loop-k-test.true in
-        let m = c.pointer_count-count.ensures.1 in
+    let m = c.pointer_count-count.ensures.1 in
     let g = given-of (goal.at.overflow_mul-k c).Start in
     let a = g.words in
     let b = g.most in
@@ -62,7 +62,7 @@ overflow_mul-k c =
 pub overflow_add-at : goal.overflow_add-at
 overflow_add-at c =
     let h = c.loop-k-test.true in
-        let m = c.pointer_count-count.ensures.1 in
+    let m = c.pointer_count-count.ensures.1 in
     let g = given-of (goal.at.overflow_add-at c).Start in
     let a = g.words in
     let b = g.most in
@@ -88,11 +88,11 @@ loop-k-smaller c = let h = c.loop-k-test.true in omega arith
 
 pub loop-k-preserved : goal.loop-k-preserved
 loop-k-preserved c =
-        pointing_turn _ _ _ _ _ _ _ _ _ _ c.loop-k.invariant c.loop-k-test.true _ c.jump_after-rank.ensures _ c.put_u32-in-loop-k.ensures
+    pointing_turn _ _ _ _ _ _ _ _ _ _ c.loop-k.invariant c.loop-k-test.true _ c.jump_after-rank.ensures _ c.put_u32-in-loop-k.ensures
 
 pub returns : goal.returns
 returns c =
-        let f = c.if-count-eq0.false in
+    let f = c.if-count-eq0.false in
     let m = c.pointer_count-count.ensures.1 in
     let g = given-of (goal.at.returns c).Start in
     let o = g.words in

@@ -14,7 +14,7 @@ returns-then-most-rank c =
     first-at a.file.now a.v a.rank a.j a.most _ t.0 t.1 t.2
     (λ x y.
     elim c.then-most-rank.branch [
-      then-most-rank-via-then-most-rank w ↦ let q = w.if-most-rank.true in absurd (omega arith)
+      | then-most-rank-via-then-most-rank w ↦ let q = w.if-most-rank.true in absurd (omega arith)
       | then-most-rank-via-else-most-rank+then-rank-j w ↦ let q = w.if-rank-j.true in absurd (omega arith)
     ])
 

@@ -16,7 +16,7 @@ overflow_mul-k c = let a = c.args in let m = div-le_self a.j a.v.step in record 
 
 pub overflow_add-pointers : goal.overflow_add-pointers
 overflow_add-pointers c =
-        let m = div-le_self c.args.j c.args.v.step in
+    let m = div-le_self c.args.j c.args.v.step in
     let n = mul-le-mul_right c.args.v.words c.requires.1 in
     let e = c.pointers_at-pointers.ensures in
     record { fits = omega arith }
@@ -29,7 +29,7 @@ overflow_sub-between c = let a = c.args in div-mul-le_self a.j a.v.step
 
 pub jump_after-rank-requires : goal.jump_after-rank-requires
 jump_after-rank-requires c =
-        let s = c.requires.2 in
+    let s = c.requires.2 in
     let n = s.words in
     let e = c.lesser.ensures in
     let m = min-le_right c.load_u32-pointer.result (c.args.v.words - 1) in
@@ -37,7 +37,7 @@ jump_after-rank-requires c =
 
 pub returns : goal.returns
 returns c =
-        let o = c.requires.3 in
+    let o = c.requires.3 in
     let l = c.load_u32-pointer in
     let g = rw c.pointers_at-pointers.ensures at l.ensures.0 in
     let x = rw c.lesser.ensures at c.jump_after-rank.ensures in

@@ -17,7 +17,7 @@ returns-then-v-eq0 c =
           let j = z.jumps in
           let s = z.step in
           elim c.then-v-eq0.branch [
-            then-v-eq0-via-then-v-eq0 w ↦ let y = w.if-v-eq0.true in absurd (omega arith)
+            | then-v-eq0-via-then-v-eq0 w ↦ let y = w.if-v-eq0.true in absurd (omega arith)
             | then-v-eq0-via-else-v-eq0+then-v-eq0-2 w ↦ let y = w.if-v-eq0-2.true in absurd (omega arith)
             | then-v-eq0-via-else-v-eq0+else-v-eq0-2+then-v-eq0-3 w ↦ let y = w.if-v-eq0-3.true in absurd (omega arith)
           ],
