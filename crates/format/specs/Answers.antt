@@ -1,7 +1,5 @@
 -- What a call hands back (document 01, "The signal list"), and the number and values of each case of a declared answer. Assumes nothing.
 use Rattle.std.specs.Prelude.{ℕ, zero, suc, Bool, true, false, List, [], ◌∷◌, ◌++◌, length, drop}
-use Rattle.format.specs.declared.Position.{Position}
-use Rattle.format.specs.declared.Rank.{Rank}
 use Rattle.format.specs.declared.CellAnswer.{CellAnswer}
 use Rattle.format.specs.declared.CellAnswer.TheVariants as ca
 use Rattle.format.specs.declared.RankAnswer.{RankAnswer}

@@ -1,4 +1,6 @@
 // The declared types of the archive (document 01). Their meaning is in specs/; there is no code here.
+#![tactic(auto)]
+
 pub mod signals;
 
 // A position in the picture: LP in source document 000.
