@@ -11,7 +11,7 @@ use Rattle.laws.proofs.Descent.{cells_add, stored_add}
 use Rattle.levels.specs.Levels.{entries}
 use Rattle.levels.proofs.Reading.{length-entries}
 use Rattle.levels.proofs.Bounded.{cells_of, level-cells}
-use Rattle.descent.specs.Descent.{sub32, halves, counted, passed, left_of, place_after, page_down, levels_down}
+use Rattle.descent.specs.Descent.{sub32, halves, counted, passed, place_after, page_down, levels_down}
 
 -- ---- the count, entry by entry
 

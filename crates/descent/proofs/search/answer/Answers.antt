@@ -6,7 +6,7 @@ use Rattle.descent.proofs.search.answer.Goals as goal
 -- `answer` meets its contract. Assumes nothing.
 pub returns-then-asked-eq-RUN : goal.returns-then-asked-eq-RUN
 returns-then-asked-eq-RUN c =
-            let a = c.args in
+    let a = c.args in
     rw (eq-eqb a.asked 2 c.if-asked-eq-RUN.true)
     (c.halves.ensures
     ∙ ap₂ halves (ap (λ (e : ℕ). a.before + e) (c.long.ensures.0 ∙ c.less-own.ensures))
@@ -14,10 +14,10 @@ returns-then-asked-eq-RUN c =
 
 pub returns-then-asked-own : goal.returns-then-asked-own
 returns-then-asked-own c =
-        let t = rw c.less-own.ensures at c.if-asked-own.true in
+    let t = rw c.less-own.ensures at c.if-asked-own.true in
     rw (ne_eqb c.args.asked 2 c.if-asked-eq-RUN.false, t, c.long-then-asked-own.ensures.0, c.less-own.ensures)
 
 pub returns : goal.returns
 returns c =
-        let t = rw c.less-own.ensures at c.if-asked-own.false in
+    let t = rw c.less-own.ensures at c.if-asked-own.false in
     rw (ne_eqb c.args.asked 2 c.if-asked-eq-RUN.false, t, c.long-2.ensures.0)

@@ -1,5 +1,5 @@
 -- `entries_passed` meets its contract. Assumes nothing.
-use Rattle.std.proofs.Common.{◌-◌, ◌∙◌, arith}
+use Rattle.std.proofs.Common.{◌∙◌, arith}
 use Rattle.descent.proofs.Counting.{counting_first, counting_on, counting_end}
 use Rattle.descent.proofs.search.entries_passed.Goals as goal
 
