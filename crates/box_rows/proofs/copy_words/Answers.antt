@@ -1,5 +1,4 @@
 -- Each turn copies a word. Assumes nothing.
-use Prim.Native.Nat.{◌-◌}
 use Rattle.box_rows.proofs.Copied.{copy_start, copy_turn, copy_end}
 use Rattle.box_rows.proofs.copy_words.Goals as goal
 

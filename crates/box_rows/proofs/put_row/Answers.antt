@@ -1,6 +1,13 @@
 -- Each turn puts the words of stored cells, or E up to the next one, and the cells that are left give the row. Assumes nothing.
 use Prim.Native.Nat.{◌+◌, ◌-◌, ◌*◌, ◌^◌, ◌≤◌, ◌<◌}
 use mathlib.Core.Path.{◌≡◌, refl}
+use mathlib.Core.List.{[], ◌∷◌}
+use types.Run.{OneOf}
+use denote.Enum.Declared.{tag_of}
+use Rattle.format.specs.contracts.RankAnswer.{the_type}
+use Rattle.format.specs.declared.Rank.{Rank}
+use Rattle.format.specs.declared.RankAnswer.{RankAnswer}
+use Rattle.format.specs.declared.RankAnswer.TheVariants as ra
 use mir.Val.{Fits}
 use mir.Syntax.{w32}
 use native.Mathlib.Omega.{arith}
@@ -11,6 +18,12 @@ use borrow.Author.Rules.{rules}
 use Rattle.box_rows.proofs.put_row.Goals.{After-empty_ahead-m, After-stored_ahead-m, In-loop-k, Start}
 use Rattle.box_rows.proofs.put_row.Goals as goal
 
+-- an answer that is no rank is one of the others
+no_rank : (a : RankAnswer) → ((r : Rank) → a ≡ ra.Rank r → ⊥) → OneOf (1 ∷ (2 ∷ [])) (tag_of the_type a)
+no_rank (ra.Rank r) h = absurd (h r refl)
+no_rank (ra.Empty n) h = search rules
+no_rank (ra.Refused n) h = search rules
+
 -- where the words stand
 place : (c : Start) → Fits w32 c.args.v.place
 place c = search rules
@@ -19,7 +32,7 @@ place c = search rules
 inside : (c : In-loop-k) (m : Prim.Native.Nat.ℕ) → c.loop-k.k + m ≤ c.args.s.words + c.args.n
     → c.loop-k.p + m ≤ c.args.v.cells
 inside c m h =
-        let l = c.loop-k in
+    let l = c.loop-k in
     row_inside c.args.file.now c.args.v c.args.from c.args.n c.args.s.words c.args.dst.now l.dst l.c l.p l.k l.invariant m c.args.v.cells h c.requires.inside
 
 few : (c : In-loop-k) → c.args.v.cells ≤ 16777216
@@ -43,7 +56,7 @@ overflow_add-end c = let h = c.requires.fits in search rules
 
 pub loop-k-init : goal.loop-k-init
 loop-k-init c =
-        row_start c.args.file.now c.args.v c.args.from c.args.n c.args.s.words c.args.dst.now c.args.s.cursor c.requires.ready
+    row_start c.args.file.now c.args.v c.args.from c.args.n c.args.s.words c.args.dst.now c.args.s.cursor c.requires.ready
 
 pub rank_from-sought-requires : goal.rank_from-sought-requires
 rank_from-sought-requires c = (c.requires.view, cell c, c.loop-k.invariant.ready)
@@ -53,8 +66,8 @@ overflow_sub-end c = let k = c.loop-k-test.true in omega arith
 
 pub empty_ahead-m-requires : goal.empty_ahead-m-requires
 empty_ahead-m-requires c =
-        let r = c.rank_from-sought in
-    stands-past c.args.file.now c.args.v c.requires.view c.loop-k.p (cell (goal.at.empty_ahead-m-requires c).In-loop-k) r.result.cursor r.ensures.1 r.result.answer r.ensures.0 c.in_default.in_default-own.keys2
+    let r = c.rank_from-sought in
+    stands-past c.args.file.now c.args.v c.requires.view c.loop-k.p (cell (goal.at.empty_ahead-m-requires c).In-loop-k) r.result.cursor r.ensures.1 r.result.answer r.ensures.0 (no_rank r.result.answer c.in_default.not-Rank)
 
 pub fill_from-requires : goal.fill_from-requires
 fill_from-requires c =
@@ -92,7 +105,7 @@ loop-k-smaller-in_default c =
 
 pub loop-k-preserved-in_default : goal.loop-k-preserved-in_default
 loop-k-preserved-in_default c =
-        let l = c.loop-k in
+    let l = c.loop-k in
     let r = c.rank_from-sought in
     let a = c.empty_ahead-m in
     let h = more (goal.at.loop-k-preserved-in_default c).After-empty_ahead-m in
@@ -105,8 +118,12 @@ loop-k-preserved-in_default c =
 -- the cursor stands at the rank
 here : (c : After-stored_ahead-m) → (c.rank_from-sought.result.cursor.rank < c.args.v.words) × (c.rank_from-sought.result.cursor.at ≡ c.loop-k.p) × (c.rank_from-sought.result.cursor.rank ≡ c.in-Rank.rank.0)
 here c =
-        let r = c.rank_from-sought in
-    stands_here c.args.file.now c.args.v c.requires.view c.loop-k.p (cell (AT.In-loop-k c)) r.result.cursor r.ensures.1 r.result.answer r.ensures.0 _ c.in-Rank.is
+    let l = c.loop-k in
+    let t = c.loop-k-test.true in
+    let i = row_inside c.args.file.now c.args.v c.args.from c.args.n c.args.s.words c.args.dst.now l.dst l.c l.p l.k l.invariant 1 c.args.v.cells (omega arith) c.requires.inside in
+    let k : l.p < c.args.v.cells = omega arith in
+    let r = c.rank_from-sought in
+    stands_here c.args.file.now c.args.v c.requires.view c.loop-k.p k r.result.cursor r.ensures.1 r.result.answer r.ensures.0 _ c.in-Rank.is
 
 -- the stored cells of a turn
 many : (c : After-stored_ahead-m) → c.loop-k.k + c.stored_ahead-m.result ≤ c.args.s.words + c.args.n
@@ -117,7 +134,7 @@ overflow_sub-end-in-loop-k c = let k = c.loop-k-test.true in omega arith
 
 pub overflow_cast-end-in-loop-k : goal.overflow_cast-end-in-loop-k
 overflow_cast-end-in-loop-k c =
-            let k = c.loop-k-test.true in
+    let k = c.loop-k-test.true in
     let i = inside (goal.at.overflow_cast-end-in-loop-k c).In-loop-k (c.args.s.words + c.args.n - c.loop-k.k) (omega arith) in
     let f = few (goal.at.overflow_cast-end-in-loop-k c).In-loop-k in
     search rules
@@ -130,7 +147,7 @@ overflow_add-words c = let at = place (goal.at.overflow_add-words c).Start in se
 
 pub copy_words-requires : goal.copy_words-requires
 copy_words-requires c =
-            let r = c.rank_from-sought in
+    let r = c.rank_from-sought in
     let h = here (goal.at.copy_words-requires c).After-stored_ahead-m in
     let w = words-there c.args.file.now c.args.v c.requires.view r.result.cursor c.loop-k.p c.stored_ahead-m.result r.ensures.1.ready h.0 h.1 c.stored_ahead-m.ensures.2 in
     let e = h.2 in
@@ -141,27 +158,27 @@ copy_words-requires c =
 
 pub overflow_add-k-in-loop-k : goal.overflow_add-k-in-loop-k
 overflow_add-k-in-loop-k c =
-        let h = offset (goal.at.overflow_add-k-in-loop-k c).In-loop-k in
+    let h = offset (goal.at.overflow_add-k-in-loop-k c).In-loop-k in
     let i = inside (goal.at.overflow_add-k-in-loop-k c).In-loop-k _ (many (goal.at.overflow_add-k-in-loop-k c).After-stored_ahead-m) in
     let f = few (goal.at.overflow_add-k-in-loop-k c).In-loop-k in
     record { fits = omega arith }
 
 pub overflow_add-p-in-loop-k : goal.overflow_add-p-in-loop-k
 overflow_add-p-in-loop-k c =
-        let i = inside (goal.at.overflow_add-p-in-loop-k c).In-loop-k _ (many (goal.at.overflow_add-p-in-loop-k c).After-stored_ahead-m) in
+    let i = inside (goal.at.overflow_add-p-in-loop-k c).In-loop-k _ (many (goal.at.overflow_add-p-in-loop-k c).After-stored_ahead-m) in
     let f = few (goal.at.overflow_add-p-in-loop-k c).In-loop-k in
     search rules
 
 pub loop-k-smaller : goal.loop-k-smaller
 loop-k-smaller c =
-        let k = c.loop-k-test.true in
+    let k = c.loop-k-test.true in
     let e = c.stored_ahead-m.ensures.0 in
     let m = many (goal.at.loop-k-smaller c).After-stored_ahead-m in
     omega arith
 
 pub loop-k-preserved : goal.loop-k-preserved
 loop-k-preserved c =
-            let l = c.loop-k in
+    let l = c.loop-k in
     let r = c.rank_from-sought in
     let y = r.ensures.1.ready in
     let m = c.stored_ahead-m.result in
@@ -172,5 +189,5 @@ loop-k-preserved c =
 
 pub returns : goal.returns
 returns c =
-        let l = c.loop-k in
+    let l = c.loop-k in
     row-end c.args.file.now c.args.v c.args.from c.args.n c.args.s.words c.args.dst.now l.dst l.c l.p l.k l.invariant c.args.s refl c.loop-k-test.false
