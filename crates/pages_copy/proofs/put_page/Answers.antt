@@ -26,15 +26,15 @@ room-here c =
     omega arith
 
 -- from the cursor's entry to the last of them
-apart-here : (c : After-get_pair-y)
+apart-here : (c : After-get_pair-y) (w : Behind c.args.file.now c.args.v c.args.c c.runs_behind-m.result)
     → let a = c.args in
     let x = c.get_pair-x.result in
     let y = c.get_pair-y.result in
-    Apart (N a.file.now a.v a.c c.runs_behind-m.result (runs_here (AT.Else-m-eq0 c))) x y (y.first - x.first) (y.second - x.second)
+    Apart (N a.file.now a.v a.c c.runs_behind-m.result w) x y (y.first - x.first) (y.second - x.second)
     (y.first - x.first - (y.second - x.second))
-apart-here c =
+apart-here c w =
     let a = c.args in
-    page_apart a.file.now a.v a.c c.runs_behind-m.result (runs_here (AT.Else-m-eq0 c)) c.before.get-pair.result c.get_pair-y.result
+    page_apart a.file.now a.v a.c c.runs_behind-m.result w c.get_pair-x.result c.get_pair-y.result
     c.get_pair-x.ensures.0 c.get_pair-y.ensures.0
 
 -- what the encoder is in its page
@@ -47,24 +47,24 @@ sound-here c =
     let r = s.empty-most in
     (omega arith, omega arith, omega arith)
 
-fits-here : (c : After-wrapping_sub_u32-second)
+fits-here : (c : After-wrapping_sub_u32-second) (w : Behind c.args.file.now c.args.v c.args.c c.runs_behind-m.result) (r : c.runs_behind-m.result ≤ left_after c.args.step c.args.e.left)
     → let a = c.args in
     let x = c.get_pair-x.result in
     let y = c.get_pair-y.result in
     let m = c.runs_behind-m.result in
     Fits a.c a.e (y.first - x.first) (y.first - x.first - (y.second - x.second)) m × (a.e.second + 8 * m ≤ length a.dst.now)
     × (length (copied a.file.now (a.v.second + 8 * (a.c.next - 1)) c.wrapping_sub_u32-first.result c.wrapping_sub_u32-second.result a.e.second m a.dst.now) ≡ length a.dst.now)
-fits-here c =
+fits-here c w r =
         let a = c.args in
     let x = c.get_pair-x in
     let y = c.get_pair-y in
         let h = c.if-m-eq0.false in
     let f = c.wrapping_sub_u32-first in
     let g = c.wrapping_sub_u32-second in
-    page-fits a.file.now a.v a.c _ (runs_here (AT.Else-m-eq0 c)) x.result y.result x.ensures.0 y.ensures.0 a.step a.e c.requires.3 c.requires.4 (room-here (AT.Else-m-eq0 c))
+    page-fits a.file.now a.v a.c _ w x.result y.result x.ensures.0 y.ensures.0 a.step a.e c.requires.3 c.requires.4 r
     (omega arith) a.dst.now a.left c.requires.5 c.requires.6 c.if-left-ranks.false f.result g.result f.ensures.value (omega arith) g.ensures.value (omega arith)
 
-further-here : (c : After-wrapping_sub_u32-second)
+further-here : (c : After-wrapping_sub_u32-second) (w : Behind c.args.file.now c.args.v c.args.c c.runs_behind-m.result) (r : c.runs_behind-m.result ≤ left_after c.args.step c.args.e.left)
     → let a = c.args in
     let x = c.get_pair-x.result in
     let y = c.get_pair-y.result in
@@ -75,14 +75,14 @@ further-here : (c : After-wrapping_sub_u32-second)
       e = encoder_on a.e (y.first - x.first) (y.first - x.first - (y.second - x.second)) m (left_after a.step a.e.left - (m - 1));
     })
     (copied a.file.now (a.v.second + 8 * (a.c.next - 1)) c.wrapping_sub_u32-first.result c.wrapping_sub_u32-second.result a.e.second m a.dst.now)
-further-here c =
+further-here c w r =
         let a = c.args in
     let x = c.get_pair-x in
     let y = c.get_pair-y in
         let h = c.if-m-eq0.false in
     let f = c.wrapping_sub_u32-first in
     let g = c.wrapping_sub_u32-second in
-    page-further a.file.now a.v a.c _ (runs_here (AT.Else-m-eq0 c)) x.result y.result x.ensures.0 y.ensures.0 a.step a.e c.requires.3 c.requires.4 (room-here (AT.Else-m-eq0 c))
+    page-further a.file.now a.v a.c _ w x.result y.result x.ensures.0 y.ensures.0 a.step a.e c.requires.3 c.requires.4 r
     (omega arith) a.dst.now a.left c.requires.5 c.requires.6 c.if-left-ranks.false f.result g.result f.ensures.value (omega arith) g.ensures.value (omega arith)
 
 pub returns-then-m-eq0 : goal.returns-then-m-eq0
@@ -98,13 +98,13 @@ pub get_pair-y-requires : goal.get_pair-y-requires
 get_pair-y-requires c = entry_there _ _ _ _ (runs_here (goal.at.get_pair-y-requires c).Else-m-eq0) _ (le_refl _)
 
 pub overflow_sub-cells : goal.overflow_sub-cells
-overflow_sub-cells c = let t = (apart-here (goal.at.overflow_sub-cells c).After-get_pair-y).first in omega arith
+overflow_sub-cells c = let t = (apart-here (goal.at.overflow_sub-cells c).After-get_pair-y (runs_here (goal.at.overflow_sub-cells c).Else-m-eq0)).first in omega arith
 
 pub overflow_sub-ranks : goal.overflow_sub-ranks
-overflow_sub-ranks c = let t = (apart-here (goal.at.overflow_sub-ranks c).After-get_pair-y).second in omega arith
+overflow_sub-ranks c = let t = (apart-here (goal.at.overflow_sub-ranks c).After-get_pair-y (runs_here (goal.at.overflow_sub-ranks c).Else-m-eq0)).second in omega arith
 
 pub overflow_sub-ranks-2 : goal.overflow_sub-ranks-2
-overflow_sub-ranks-2 c = let t = (apart-here (goal.at.overflow_sub-ranks-2 c).After-get_pair-y).stored in omega arith
+overflow_sub-ranks-2 c = let t = (apart-here (goal.at.overflow_sub-ranks-2 c).After-get_pair-y (runs_here (goal.at.overflow_sub-ranks-2 c).Else-m-eq0)).stored in omega arith
 
 pub returns-then-left-ranks : goal.returns-then-left-ranks
 returns-then-left-ranks c = let a = c.args in none-further _ _ a.c a.e a.left a.dst.now
@@ -127,7 +127,7 @@ overflow_cast-m-2 c = let r = runs_here (goal.at.overflow_cast-m-2 c).Else-m-eq0
 pub copy_pairs-requires : goal.copy_pairs-requires
 copy_pairs-requires c =
     let t = entry_there _ _ _ _ (runs_here (goal.at.copy_pairs-requires c).Else-m-eq0) _ (le_refl _) in
-    (omega arith, (fits-here (goal.at.copy_pairs-requires c).After-wrapping_sub_u32-second).1)
+    (omega arith, (fits-here (goal.at.copy_pairs-requires c).After-wrapping_sub_u32-second (runs_here (goal.at.copy_pairs-requires c).Else-m-eq0) (room-here (goal.at.copy_pairs-requires c).Else-m-eq0)).1)
 
 pub overflow_sub-m : goal.overflow_sub-m
 overflow_sub-m c = let h = c.if-m-eq0.false in omega arith
@@ -136,7 +136,7 @@ pub overflow_sub-room : goal.overflow_sub-room
 overflow_sub-room c = let t = c.runs_behind-m.ensures.0 in omega arith
 
 pub run_on-requires : goal.run_on-requires
-run_on-requires c = (fits-here (goal.at.run_on-requires c).After-wrapping_sub_u32-second).0
+run_on-requires c = (fits-here (goal.at.run_on-requires c).After-wrapping_sub_u32-second (runs_here (goal.at.run_on-requires c).Else-m-eq0) (room-here (goal.at.run_on-requires c).Else-m-eq0)).0
 
 pub returns : goal.returns
-returns c = rw (c.run_on.ensures, c.left_after-room.ensures, c.copy_pairs.ensures) (further-here (goal.at.returns c).After-wrapping_sub_u32-second)
+returns c = rw (c.run_on.ensures, c.left_after-room.ensures, c.copy_pairs.ensures) (further-here (goal.at.returns c).After-wrapping_sub_u32-second (runs_here (goal.at.returns c).Else-m-eq0) (room-here (goal.at.returns c).Else-m-eq0))

@@ -11,7 +11,7 @@ use Rattle.page_walk.proofs.Allowed.{page-step}
 use Rattle.page_walk.proofs.Walk.{next-along}
 use Rattle.page_entries.proofs.OneEntry.{keeps_pages}
 use Rattle.pages_copy.proofs.Turn.{reached_on, past-last, reached_last, some-last, same-last}
-use Rattle.pages_copy.proofs.put_runs.Goals.{After-along_run-last, After-put_run-arg-1, After-stretch-k}
+use Rattle.pages_copy.proofs.put_runs.Goals.{After-along_run-last, After-stretch-k}
 use Rattle.pages_copy.proofs.put_runs.Goals as goal
 
 pub loop-left-init : goal.loop-left-init
@@ -53,7 +53,7 @@ stretch-out c =
         let a = c.args in
     let l = c.loop-left in
     let k = c.stretch-k.result in
-    let q = cells-here (AT.After-stretch-k c) in
+    let q = cells l.c k l.left c.loop-left-test.true c.stretch-k.ensures in
     let o = c.put_run-e in
     let b = a.file.now in
     written_turn (next b a.v) (pages_coder a.step) (next-along b a.v) l.c l.e k l.left q (keeps_pages a.step) a.dst.now a.c a.e a.n l.dst _
@@ -94,7 +94,7 @@ overflow_sub-left-in-loop-left-2 c =
 
 pub loop-left-smaller : goal.loop-left-smaller
 loop-left-smaller c =
-    let q = cells-here (goal.at.loop-left-smaller c).After-put_run-arg-1 in
+    let q = cells-here (goal.at.loop-left-smaller c).After-stretch-k in
     let m = q.most in
     let s = q.some in
     omega arith
