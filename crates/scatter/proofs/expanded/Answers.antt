@@ -1,6 +1,6 @@
 use Prim.Native.Nat.{ℕ, ◌+◌, ◌-◌, ◌≤◌, ◌<◌}
 use mathlib.Core.Path.{◌≡◌, refl, sym, ap, ◌∙◌}
-use mathlib.Core.List.{◌++◌}
+use mathlib.Core.List.{List, ◌++◌}
 use native.Mathlib.Omega.{arith}
 use lib.ListN.{length, get_or, take, drop}
 use lib.Seq.{length-take-le}
@@ -27,22 +27,29 @@ next : (c : After-positions-c)
     → Taken c.args.file.now c.args.v c.positions-c.result c.loop-rank.rank c.batch_of-n.result
     c.loop-rank.batch c.positions-c.new.out
 next c =
-        let l = c.loop-rank in
+    let l = c.loop-rank in
     let n = c.batch_of-n.ensures.1 in
-    taken c.args.file.now c.args.v l.c _ l.rank _ l.batch _ (rw l.invariant.2 n) (fits (AT.After-batch_of-n c)) l.invariant.3
+    let h = c.batch_of-n.ensures.0 in
+    let k = c.loop-rank-test.true in
+    taken c.args.file.now c.args.v l.c _ l.rank _ l.batch _ (rw l.invariant.2 n) (omega arith) l.invariant.3
     c.positions-c.ensures.0 c.positions-c.ensures.1
 
 -- the batch's last position
-abbrev last : tie.After-positions invariant-loop decreases-loop → ℕ
-last c = let n = c.before.before.batch-of.result in get_or (c.positions.new.1.1.1.0 ++ drop n c.before.before.before.before.before.before.loop.batch) (n - 1) 0
+abbrev last_in : List ℕ → List ℕ → ℕ → ℕ
+last_in out batch n = get_or (out ++ drop n batch) (n - 1) 0
+
+abbrev last : After-positions-c → ℕ
+last c = last_in c.positions-c.new.out c.loop-rank.batch c.batch_of-n.result
 
 up_to : (c : After-positions-c)
     → Cut c.loop-rank.filled c.args.v.cells (last c)
     (take c.batch_of-n.result (drop c.loop-rank.rank (positions_of c.args.file.now)))
     (drop (c.loop-rank.rank + c.batch_of-n.result) (positions_of c.args.file.now))
 up_to c =
-        let l = c.loop-rank in
-    batch_cut c.args.file.now c.args.v c.requires.0 l.filled l.rank c.batch_of-n.result _ (some (AT.After-batch_of-n c)) (fits (AT.After-batch_of-n c))
+    let l = c.loop-rank in
+    let h = c.batch_of-n.ensures.0 in
+    let k = c.loop-rank-test.true in
+    batch_cut c.args.file.now c.args.v c.requires.0 l.filled l.rank c.batch_of-n.result _ (c.batch_of-n.ensures.2 (omega arith)) (omega arith)
     (next c).front l.invariant.5
 
 pub start-c-requires : goal.start-c-requires
@@ -78,9 +85,6 @@ offset_bounds-batch-n c = let h = c.batch_of-n.ensures.1 in search rules
 pub bounds-batch-n : goal.bounds-batch-n
 bounds-batch-n c = let h = some (goal.at.bounds-batch-n c).After-batch_of-n in let k = c.batch_of-n.ensures.1 in omega arith
 
--- UNKNOWN overflow-cast-end
--- cast-end c = let h = (up_to c.before).high in search rules
-
 pub overflow_add-end : goal.overflow_add-end
 overflow_add-end c = let h = (up_to (goal.at.overflow_add-end c).After-positions-c).high in search rules
 
@@ -94,28 +98,24 @@ fill_range-requires c =
     (omega arith, omega arith)
 
 -- the cells up to the last position are filled
-size : (c : After-fill_range) → c.args.v.cells ≤ length c.loop-rank.dst
-size c = let k = c.requires.1 in let e = c.loop-rank.invariant.1 in omega arith
-
-same_size : (c : After-fill_range) → length c.fill_range.new.dst ≡ length c.args.dst.now
-same_size c =
+same_size : (c : After-fill_range) (low : c.loop-rank.filled ≤ last_in c.positions-c.new.out c.loop-rank.batch c.batch_of-n.result) (high : last_in c.positions-c.new.out c.loop-rank.batch c.batch_of-n.result < c.args.v.cells)
+    → length c.fill_range.new.dst ≡ length c.args.dst.now
+same_size c low high =
     let v = c.args.v in
     let l = c.loop-rank in
-    let u = up_to (AT.After-positions-c c) in
-    let h = u.high in
-    let k = u.low in
-    length-filled v.empty v.cells l.filled (last (AT.After-positions-c c) + 1) l.dst _ (omega arith) (omega arith) (size c) c.fill_range.ensures ∙ l.invariant.1
+    let k = c.requires.1 in
+    let e = l.invariant.1 in
+    length-filled v.empty v.cells l.filled (last_in c.positions-c.new.out c.loop-rank.batch c.batch_of-n.result + 1) l.dst _ (omega arith) (omega arith) (omega arith) c.fill_range.ensures ∙ e
 
-blanked : (c : After-fill_range)
-    → blank c.args.v.empty c.args.v.cells (last (AT.After-positions-c c) + 1) c.fill_range.new.dst
+blanked : (c : After-fill_range) (low : c.loop-rank.filled ≤ last_in c.positions-c.new.out c.loop-rank.batch c.batch_of-n.result) (high : last_in c.positions-c.new.out c.loop-rank.batch c.batch_of-n.result < c.args.v.cells)
+    → blank c.args.v.empty c.args.v.cells (last_in c.positions-c.new.out c.loop-rank.batch c.batch_of-n.result + 1) c.fill_range.new.dst
     ≡ blank c.args.v.empty c.args.v.cells c.loop-rank.filled c.loop-rank.dst
-blanked c =
+blanked c low high =
     let v = c.args.v in
     let l = c.loop-rank in
-    let u = up_to (AT.After-positions-c c) in
-    let h = u.high in
-    let k = u.low in
-    blank_filled v.empty v.cells l.filled (last (AT.After-positions-c c) + 1) l.dst _ (omega arith) (omega arith) (size c) c.fill_range.ensures
+    let k = c.requires.1 in
+    let e = l.invariant.1 in
+    blank_filled v.empty v.cells l.filled (last_in c.positions-c.new.out c.loop-rank.batch c.batch_of-n.result + 1) l.dst _ (omega arith) (omega arith) (omega arith) c.fill_range.ensures
 
 pub slice_bounds-batch-end-in-loop-rank : goal.slice_bounds-batch-end-in-loop-rank
 slice_bounds-batch-end-in-loop-rank c = rw ((next (goal.at.slice_bounds-batch-end-in-loop-rank c).After-positions-c).size, c.loop-rank.invariant.2) c.batch_of-n.ensures.1
@@ -129,7 +129,7 @@ scatter_batch-requires c =
     let u = up_to (goal.at.scatter_batch-requires c).After-positions-c in
     let h = u.high in
     let k = c.requires.1 in
-    let e = same_size (goal.at.scatter_batch-requires c).After-fill_range in (
+    let e = same_size (goal.at.scatter_batch-requires c).After-fill_range u.low u.high in (
       c.requires.0,
       rw t.count (fits (goal.at.scatter_batch-requires c).After-batch_of-n),
       rw t.front (below_widen (last (goal.at.scatter_batch-requires c).After-positions-c + 1) (length c.fill_range.new.dst) (take c.batch_of-n.result (drop c.loop-rank.rank (positions_of c.args.file.now)))
@@ -156,7 +156,7 @@ loop-rank-preserved c =
     let u = up_to (goal.at.loop-rank-preserved c).After-positions-c in
     let h = u.high in
     let k = c.requires.1 in
-        let z = same_size (goal.at.loop-rank-preserved c).After-fill_range in
+        let z = same_size (goal.at.loop-rank-preserved c).After-fill_range u.low u.high in
     let low : last (goal.at.loop-rank-preserved c).After-positions-c + 1 ≤ c.args.v.cells = omega arith in
     let e = rw t.front at c.scatter_batch.ensures in (
       fits (goal.at.loop-rank-preserved c).After-batch_of-n,
@@ -166,7 +166,7 @@ loop-rank-preserved c =
       low,
       u.rest,
       expand_turned c.args.file.now c.args.v c.requires.0 l.dst c.fill_range.new.dst _ l.filled (last (goal.at.loop-rank-preserved c).After-positions-c + 1) l.rank n (fits (goal.at.loop-rank-preserved c).After-batch_of-n)
-          (omega arith) low u.below (blanked (goal.at.loop-rank-preserved c).After-fill_range) e ∙ l.invariant.6,
+          (omega arith) low u.below (blanked (goal.at.loop-rank-preserved c).After-fill_range u.low u.high) e ∙ l.invariant.6,
     )
 
 pub fill_range-requires-2 : goal.fill_range-requires-2

@@ -11,9 +11,6 @@ use Rattle.scatter.proofs.scatter_batch.Goals as goal
 pub loop-i-init : goal.loop-i-init
 loop-i-init c = (omega arith, refl, rw add-zero)
 
--- UNKNOWN overflow-cast-to
--- cast-to c = let f = c.shared-slice-known3.given c.before.before.loop.i in search rules
-
 pub get_u32-requires : goal.get_u32-requires
 get_u32-requires c =
         let l = c.loop-i in
