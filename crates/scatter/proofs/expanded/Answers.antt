@@ -57,7 +57,7 @@ start-c-requires c = (seen c.args.file.now c.args.v c.requires.0).header.counted
 
 pub loop-rank-init : goal.loop-rank-init
 loop-rank-init c =
-        let o = c.requires.0 in (
+    let o = c.requires.0 in (
       omega arith,
       refl,
       refl,
@@ -125,7 +125,7 @@ slice_bounds-scatter_batch-end c = sym (next (goal.at.slice_bounds-scatter_batch
 
 pub scatter_batch-requires : goal.scatter_batch-requires
 scatter_batch-requires c =
-            let t = next (goal.at.scatter_batch-requires c).After-positions-c in
+    let t = next (goal.at.scatter_batch-requires c).After-positions-c in
     let u = up_to (goal.at.scatter_batch-requires c).After-positions-c in
     let h = u.high in
     let k = c.requires.1 in
@@ -138,25 +138,25 @@ scatter_batch-requires c =
 
 pub overflow_add-rank : goal.overflow_add-rank
 overflow_add-rank c =
-        let h = fits (goal.at.overflow_add-rank c).After-batch_of-n in
+    let h = fits (goal.at.overflow_add-rank c).After-batch_of-n in
     let w = (seen c.args.file.now c.args.v c.requires.0).header.counted in
     omega (arith, w.words-most, w.cells-most)
 
 pub loop-rank-smaller : goal.loop-rank-smaller
 loop-rank-smaller c =
-        let h = fits (goal.at.loop-rank-smaller c).After-batch_of-n in
+    let h = fits (goal.at.loop-rank-smaller c).After-batch_of-n in
     let z = some (goal.at.loop-rank-smaller c).After-batch_of-n in
     omega arith
 
 pub loop-rank-preserved : goal.loop-rank-preserved
 loop-rank-preserved c =
-        let l = c.loop-rank in
+    let l = c.loop-rank in
     let n = c.batch_of-n.result in
-        let t = next (goal.at.loop-rank-preserved c).After-positions-c in
+    let t = next (goal.at.loop-rank-preserved c).After-positions-c in
     let u = up_to (goal.at.loop-rank-preserved c).After-positions-c in
     let h = u.high in
     let k = c.requires.1 in
-        let z = same_size (goal.at.loop-rank-preserved c).After-fill_range u.low u.high in
+    let z = same_size (goal.at.loop-rank-preserved c).After-fill_range u.low u.high in
     let low : last (goal.at.loop-rank-preserved c).After-positions-c + 1 ≤ c.args.v.cells = omega arith in
     let e = rw t.front at c.scatter_batch.ensures in (
       fits (goal.at.loop-rank-preserved c).After-batch_of-n,
@@ -175,7 +175,7 @@ fill_range-requires-2 c = let l = c.loop-rank in let e = l.invariant.1 in let k 
 pub returns : goal.returns
 unfolding blank
 returns c =
-        let b = c.args.file.now in
+    let b = c.args.file.now in
     let v = c.args.v in
     let l = c.loop-rank in
     c.fill_range-2.ensures

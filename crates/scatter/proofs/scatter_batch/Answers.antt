@@ -1,4 +1,4 @@
-use Prim.Native.Nat.{◌-◌, ◌<◌}
+use Prim.Native.Nat.{◌<◌}
 use mathlib.Core.Path.{refl, sym, ◌∙◌}
 use native.Mathlib.Nat.{add-zero}
 use native.Mathlib.Omega.{arith}
@@ -13,13 +13,13 @@ loop-i-init c = (omega arith, refl, rw add-zero)
 
 pub get_u32-requires : goal.get_u32-requires
 get_u32-requires c =
-        let l = c.loop-i in
+    let l = c.loop-i in
     word-there c.args.file.now c.args.v c.requires.0 c.args.rank (length c.args.at.now) l.i c.requires.1 c.loop-i-test.true
 
 -- the position lies in the destination
 inside : (c : After-get_u32) → get_or c.args.at.now c.loop-i.i 0 < length c.loop-i.dst
 inside c =
-        let l = c.loop-i in
+    let l = c.loop-i in
     rw l.invariant.1 (below_at (length c.args.dst.now) c.args.at.now l.i c.loop-i-test.true c.requires.2)
 
 pub offset_bounds-dst-to : goal.offset_bounds-dst-to
@@ -30,7 +30,7 @@ bounds-dst-to c = inside c
 
 pub loop-i-preserved : goal.loop-i-preserved
 loop-i-preserved c =
-        let l = c.loop-i in
+    let l = c.loop-i in
     let h = c.loop-i-test.true in (
       omega arith,
       length-set l.dst _ c.get_u32.result ∙ l.invariant.1,
