@@ -13,7 +13,7 @@ use Rattle.pages_copy.proofs.put_page.Goals as goal
 -- m runs are behind the cursor's in its page
 runs_here : (c : Else-m-eq0) → let a = c.args in Behind a.file.now a.v a.c c.runs_behind-m.result
 runs_here c =
-        let a = c.args in
+    let a = c.args in
     let m = c.runs_behind-m in
     let h = c.if-m-eq0.false in
     behind a.file.now a.v _ c.requires.1 a.c c.requires.2 m.result (omega arith) (m.ensures.1 (omega arith))
@@ -55,10 +55,10 @@ fits-here : (c : After-wrapping_sub_u32-second) (w : Behind c.args.file.now c.ar
     Fits a.c a.e (y.first - x.first) (y.first - x.first - (y.second - x.second)) m × (a.e.second + 8 * m ≤ length a.dst.now)
     × (length (copied a.file.now (a.v.second + 8 * (a.c.next - 1)) c.wrapping_sub_u32-first.result c.wrapping_sub_u32-second.result a.e.second m a.dst.now) ≡ length a.dst.now)
 fits-here c w r =
-        let a = c.args in
+    let a = c.args in
     let x = c.get_pair-x in
     let y = c.get_pair-y in
-        let h = c.if-m-eq0.false in
+    let h = c.if-m-eq0.false in
     let f = c.wrapping_sub_u32-first in
     let g = c.wrapping_sub_u32-second in
     page-fits a.file.now a.v a.c _ w x.result y.result x.ensures.0 y.ensures.0 a.step a.e c.requires.3 c.requires.4 r
@@ -76,10 +76,10 @@ further-here : (c : After-wrapping_sub_u32-second) (w : Behind c.args.file.now c
     })
     (copied a.file.now (a.v.second + 8 * (a.c.next - 1)) c.wrapping_sub_u32-first.result c.wrapping_sub_u32-second.result a.e.second m a.dst.now)
 further-here c w r =
-        let a = c.args in
+    let a = c.args in
     let x = c.get_pair-x in
     let y = c.get_pair-y in
-        let h = c.if-m-eq0.false in
+    let h = c.if-m-eq0.false in
     let f = c.wrapping_sub_u32-first in
     let g = c.wrapping_sub_u32-second in
     page-further a.file.now a.v a.c _ w x.result y.result x.ensures.0 y.ensures.0 a.step a.e c.requires.3 c.requires.4 r

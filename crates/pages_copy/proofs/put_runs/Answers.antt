@@ -17,7 +17,7 @@ use Rattle.pages_copy.proofs.put_runs.Goals as goal
 pub loop-left-init : goal.loop-left-init
 unfolding coder
 loop-left-init c =
-        let a = c.args in
+    let a = c.args in
     (written_begin (next a.file.now a.v) (pages_coder a.step) a.dst.now a.c a.e a.n c.requires.3 c.requires.4, c.requires.2)
 
 -- the cells of the stretch
@@ -27,7 +27,7 @@ cells-here c = let l = c.loop-left in cells l.c c.stretch-k.result l.left c.loop
 pub put_run-e-requires : goal.put_run-e-requires
 unfolding coder
 put_run-e-requires c =
-        let a = c.args in
+    let a = c.args in
     let l = c.loop-left in
     let k = c.stretch-k.result in
     let q = cells-here (goal.at.put_run-e-requires c).After-stretch-k in
@@ -50,7 +50,7 @@ stretch-out : (c : After-along_run-last)
     c.put_run-e.result (c.loop-left.left - c.stretch-k.result)
 unfolding coder
 stretch-out c =
-        let a = c.args in
+    let a = c.args in
     let l = c.loop-left in
     let k = c.stretch-k.result in
     let q = cells l.c k l.left c.loop-left-test.true c.stretch-k.ensures in
@@ -64,7 +64,7 @@ stretch-out c =
 pub put_page-w-requires : goal.put_page-w-requires
 unfolding coder
 put_page-w-requires c =
-        let a = c.args in
+    let a = c.args in
     let l = c.loop-left in
     let k = c.stretch-k.result in
     let q = cells-here (goal.at.put_page-w-requires c).After-stretch-k in
@@ -102,7 +102,7 @@ loop-left-smaller c =
 pub loop-left-preserved : goal.loop-left-preserved
 unfolding carried
 loop-left-preserved c =
-        let a = c.args in
+    let a = c.args in
     let l = c.loop-left in
     let k = c.stretch-k.result in
     let q = cells-here (goal.at.loop-left-preserved c).After-stretch-k in

@@ -1,4 +1,3 @@
-use Rattle.std.proofs.Common.{◌-◌}
 use Rattle.parts.specs.Carried.{Reached}
 use Rattle.parts.proofs.Carried.{Written}
 use Rattle.page_walk.specs.Steps.{next}
