@@ -1,4 +1,4 @@
 // The positions of a checked file with one cell laid over them, into the parts of a new file.
 pub mod edited;
-pub mod runs;
+pub mod run_parts;
 pub mod walk;

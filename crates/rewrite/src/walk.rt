@@ -8,7 +8,7 @@ ghost use Rattle.kinds.specs.Steps.{next_of, walked, stepped_by};
 ghost use Rattle.kinds.specs.Coding.{coder, taken_all};
 ghost use Rattle.rewrite.specs.Walk.{along, added};
 
-use super::runs::put_runs;
+use super::run_parts::put_runs;
 use edits::Edit;
 use format::{Setting, View};
 use kinds::coding::{put_all, take_all};

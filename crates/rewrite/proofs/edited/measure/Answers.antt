@@ -2,6 +2,7 @@ use Prim.Native.Nat.{◌-◌}
 use mathlib.Core.Path.{◌≡◌, ap, ◌∙◌}
 use native.Mathlib.Omega.{arith}
 use Rattle.format.specs.Accepted.{positions_of}
+use Rattle.parts.specs.declared.Cursor.{Cursor}
 use Rattle.parts.specs.Encoder.{begun}
 use Rattle.kinds.specs.Steps.{start_of, walked, stepped_by}
 use Rattle.kinds.specs.Coding.{taken_all}
@@ -65,9 +66,13 @@ all-encoder c =
     let a = c.args in
     let p = c.requires in
     let t = edit-along a.file.now a.v p.0 a.x p.1 a.s 0 0 p.2 (omega arith) (omega arith) in
+    let begin : Cursor = start_of a.file.now a.v in
+    let e : c.measure_ranks-front.result.e ≡ taken_all a.s (begun 0 0) (walked a.file.now a.v begin a.x.before)
+    = ap (λ (w : Walk). w.e) c.measure_ranks-front.ensures ∙ along_encoder _ _ _ _ _ _ ∙ rw (c.begin-e.ensures, c.start-c.ensures) in
+    let u : c.measure_ranks-front.result.c ≡ stepped_by a.file.now a.v begin a.x.before
+    = ap (λ (w : Walk). w.c) c.measure_ranks-front.ensures ∙ along-cursor _ _ _ _ _ _ ∙ rw c.start-c.ensures in
     ap (λ (w : Walk). w.e) c.measure_ranks-all.ensures ∙ along_encoder _ _ _ _ _ _
-    ∙ rw (c.measure_added-e.ensures, c.skip-c.ensures, front-encoder (AT.After-measure_ranks-front c), front-cursor (AT.After-measure_ranks-front c))
-    (edit-all a.file.now a.v p.0 a.x p.1 a.s 0 0 t)
+    ∙ rw (c.measure_added-e.ensures, c.skip-c.ensures, e, u) (edit-all a.file.now a.v p.0 a.x p.1 a.s 0 0 t)
 
 pub measured-requires : goal.measured-requires
 measured-requires c =

@@ -9,7 +9,7 @@ use Rattle.kinds.specs.Coding.{coder, taken_all}
 use Rattle.kinds.proofs.Laws.{codes}
 use Rattle.kinds.proofs.Counts.{next-along}
 use Rattle.rewrite.specs.Walk.{along}
-use Rattle.rewrite.proofs.runs.put_runs.Goals as goal
+use Rattle.rewrite.proofs.run_parts.put_runs.Goals as goal
 
 pub loop-left-init : goal.loop-left-init
 unfolding walked
