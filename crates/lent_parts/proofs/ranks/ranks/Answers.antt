@@ -27,7 +27,8 @@ returns-then-range_number-ne0 c =
 -- the words of the range are there
 ends : (c : After-word_at-to) → (c.word_at-from.result ≤ c.word_at-to.result) × (c.word_at-to.result ≤ length c.args.file.now)
 ends c =
-    let o = inside (AT.After-range_number c) c.if-range_number-ne0.false in
+    let a = c.args in
+    let o = ranged a.file.now _ _ c.check-found.ensures a.a.0 a.c.0 (sym c.range_number.ensures ∙ c.if-range_number-ne0.false) in
     let h = o.order in
     let e = c.word_at-from.ensures in
     let f = c.word_at-to.ensures in

@@ -22,18 +22,23 @@ next : (c : After-positions-c)
     → Taken c.args.first.now c.args.v c.positions-c.result c.loop-rank.rank c.batch_of-n.result
     c.loop-rank.here c.positions-c.new.out
 next c =
-        let l = c.loop-rank in
+    let l = c.loop-rank in
+    let h = c.batch_of-n.ensures.0 in
+    let k = c.loop-rank-test.true in
+    let f : l.rank + c.batch_of-n.result ≤ c.args.v.words = omega arith in
     taken c.args.first.now c.args.v l.c _ l.rank _ l.here _ (rw l.invariant.1 c.batch_of-n.ensures.1)
-    (fits (AT.After-batch_of-n c))
-    l.invariant.3 c.positions-c.ensures.0 c.positions-c.ensures.1
+    f l.invariant.3 c.positions-c.ensures.0 c.positions-c.ensures.1
 
 next-second : (c : After-positions-d)
     → Taken c.args.second.now c.args.w c.positions-d.result c.loop-rank.rank c.batch_of-n.result
     c.loop-rank.there c.positions-d.new.out
 next-second c =
-        let l = c.loop-rank in
+    let l = c.loop-rank in
+    let h = c.batch_of-n.ensures.0 in
+    let k = c.loop-rank-test.true in
+    let f : l.rank + c.batch_of-n.result ≤ c.args.v.words = omega arith in
     taken c.args.second.now c.args.w l.d _ l.rank _ l.there _ (rw l.invariant.2 c.batch_of-n.ensures.1)
-    (rw c.requires.count at (fits (AT.After-batch_of-n c)))
+    (rw c.requires.count at f)
     l.invariant.4 c.positions-d.ensures.0 c.positions-d.ensures.1
 
 pub start-c-requires : goal.start-c-requires
