@@ -17,9 +17,10 @@ runs_joined-requires-2 c = (
   c.requires.0,
   (ranks-there c.args.file.now c.args.v c.requires.0 c.args.x c.requires.1).1,
   λ e.
-            let m = cells-most c.args.file.now c.args.v c.requires.0 c.args.x c.requires.1 in
+      let m = cells-most c.args.file.now c.args.v c.requires.0 c.args.x c.requires.1 in
       let q = c.stored_position-m.ensures.1 in
       omega arith,
+)
 
 pub returns : goal.returns
 returns c = lost-one c.args.file.now c.args.v c.requires.0 c.args.x c.requires.1 c.args.end _ _ c.if-x.false c.stored_position-m.ensures.0 c.runs_joined-2.ensures
