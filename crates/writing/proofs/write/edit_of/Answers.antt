@@ -1,10 +1,23 @@
+use mathlib.Core.Path.{◌≡◌, refl, subst}
+use mathlib.Core.List.{[], ◌∷◌}
 use native.Mathlib.Omega.{arith}
-use mathlib.Core.Path.{refl, subst}
+use types.Run.{OneOf}
+use denote.Enum.Declared.{tag_of}
+use borrow.Author.Rules.{rules}
+use Rattle.format.specs.contracts.RankAnswer.{the_type}
+use Rattle.format.specs.declared.Rank.{Rank}
 use Rattle.format.specs.declared.RankAnswer.{RankAnswer}
+use Rattle.format.specs.declared.RankAnswer.TheVariants as ra
 use Rattle.format.specs.Answers.{rank_says}
 use Rattle.search.specs.Searched.{RankSearched}
 use Rattle.writing.proofs.Writing.{place-answer, below-place, empty-there, stored_there, edit-empty, edit-stored, rank-small}
 use Rattle.writing.proofs.write.edit_of.Goals as goal
+
+-- an answer that is no rank is one of the others
+no_rank : (a : RankAnswer) → ((r : Rank) → a ≡ ra.Rank r → ⊥) → OneOf (1 ∷ (2 ∷ [])) (tag_of the_type a)
+no_rank (ra.Rank r) h = absurd (h r refl)
+no_rank (ra.Empty n) h = search rules
+no_rank (ra.Refused n) h = search rules
 
 pub returns-in_default : goal.returns-in_default
 returns-in_default c =
@@ -13,7 +26,7 @@ returns-in_default c =
     let f = c.find-found in
     let r = c.rank_answer-answer in
     let s = place-answer g.file.now g.v w.0 g.p.0 g.word w.1 f.result f.ensures r.result r.ensures in
-    let a = empty-there g.file.now g.v w.0 g.p.0 g.word w.1 r.result c.in_default.in_default-own.keys2 s in
+    let a = empty-there g.file.now g.v w.0 g.p.0 g.word w.1 r.result (no_rank r.result c.in_default.not-Rank) s in
     edit-empty g.file.now g.v w.0 g.p.0 g.word w.1 a _
     (below-place g.file.now g.v w.0 g.p.0 g.word w.1 f.result f.ensures) _ refl
 
