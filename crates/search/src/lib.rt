@@ -1,5 +1,7 @@
 // The lookups over a view of a file: here a place that a search found becomes an answer. `rank_in`, `position_in` and `cell_in` are safe on any bytes and
 // any view.
+#![tactic(auto)]
+
 ghost use Rattle.std.specs.Prelude.{◌≡◌, ◌<◌, get_or};
 ghost use Rattle.format.specs.Answers.{cell_says, rank_says, position_says};
 ghost use Rattle.format.specs.Accepted.{positions_of};
