@@ -1,5 +1,7 @@
 // The opened file (document 01, "The calls"): it refers to the caller's bytes and keeps the header's numbers. The lookups through it search without
 // checking again.
+#![tactic(auto)]
+
 ghost use Rattle.std.specs.Prelude.{◌≡◌};
 ghost use Rattle.format.specs.Answers.{cell_says, rank_says, position_says};
 ghost use Rattle.format.specs.Opened.{opening, OpeningOf, OpenedCell, OpenedRank, OpenedPosition};
