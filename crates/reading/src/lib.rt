@@ -1,4 +1,6 @@
 // A file read: its number, the words of all cells, the three lookups and a box of words.
+#![tactic(auto)]
+
 pub mod boxes;
 pub mod check;
 pub mod expand;

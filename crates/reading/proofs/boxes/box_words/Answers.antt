@@ -42,7 +42,7 @@ returns-then-dst-count c =
 pub put_box-requires : goal.put_box-requires
 put_box-requires c =
     let a = c.args in
-        let d = c.read_dimensions-d in
+    let d = c.read_dimensions-d in
     let n = c.box_count-count in
     let some = c.if-count-eq0.false in
     let e = counted a.file.now a.low a.high a.dst.now d.result n.result (accepted (goal.at.put_box-requires c).Else-found-ne0) d.ensures n.ensures.0 some in (
