@@ -1,4 +1,6 @@
 // What the lister prints for an input (document 01, "The sample picture").
+#![tactic(auto)]
+
 pub mod measure;
 
 ghost use Rattle.std.specs.Prelude.{◌≤◌, length};

@@ -1,5 +1,5 @@
 -- `put_ranks` meets its contract: the lines that are left, put on, give the whole. Assumes nothing.
-use Prim.Native.Nat.{◌+◌, ◌-◌, ◌*◌}
+use Prim.Native.Nat.{◌+◌, ◌*◌}
 use mathlib.Core.Path.{◌≡◌, refl, ◌∙◌}
 use native.Mathlib.Omega.{arith}
 use Rattle.format.specs.Bytes.{field}
@@ -15,7 +15,7 @@ start-c-requires c = (seen c.args.file.now c.args.v c.requires.0).holds.counted.
 
 pub loop-rank-init : goal.loop-rank-init
 loop-rank-init c =
-        let o = c.requires.0 in (
+    let o = c.requires.0 in (
       omega arith,
       refl,
       rw c.start-c.ensures (walk_start c.args.file.now c.args.v o),
@@ -24,11 +24,11 @@ loop-rank-init c =
 
 pub get_u32-word-requires : goal.get_u32-word-requires
 get_u32-word-requires c =
-        word-inside c.args.file.now c.args.v c.requires.0 c.loop-rank.rank c.loop-rank-test.true
+    word-inside c.args.file.now c.args.v c.requires.0 c.loop-rank.rank c.loop-rank-test.true
 
 pub put_line-to-requires : goal.put_line-to-requires
 put_line-to-requires c =
-        let a = c.args in
+    let a = c.args in
     let l = c.loop-rank in
     let w : c.get_u32-word.result ≡ field 4 (a.v.place + 4 * l.rank) a.file.now
     = c.get_u32-word.ensures.0 in
@@ -37,14 +37,14 @@ put_line-to-requires c =
 
 pub next-c-requires : goal.next-c-requires
 next-c-requires c =
-        (seen c.args.file.now c.args.v c.requires.0).holds.counted.allowed
+    (seen c.args.file.now c.args.v c.requires.0).holds.counted.allowed
 
 pub overflow_add-rank : goal.overflow_add-rank
 overflow_add-rank c = let h = c.loop-rank-test.true in search rules
 
 pub loop-rank-preserved : goal.loop-rank-preserved
 loop-rank-preserved c =
-        let a = c.args in
+    let a = c.args in
     let o = c.requires.0 in
     let l = c.loop-rank in
     let h = c.loop-rank-test.true in
@@ -59,5 +59,5 @@ loop-rank-preserved c =
 
 pub returns : goal.returns
 returns c =
-        let l = c.loop-rank in
+    let l = c.loop-rank in
     lines_end c.args.file.now c.args.v c.requires.0 c.args.out.now c.args.at l.rank l.to l.out c.loop-rank-test.false l.invariant.3

@@ -9,7 +9,7 @@ put_bytes-at-requires c = omega (arith, length-refused c.args.number)
 
 pub put_number-requires : goal.put_number-requires
 put_number-requires c =
-        number-room c.args.number c.args.out.now _ _ c.put_bytes-at.ensures c.requires
+    number-room c.args.number c.args.out.now _ _ c.put_bytes-at.ensures c.requires
 
 pub returns : goal.returns
 returns c =

@@ -1,5 +1,5 @@
 -- `ranks_length` meets its contract: the bytes counted and those of the lines that are left. Assumes nothing.
-use Prim.Native.Nat.{◌+◌, ◌-◌, ◌*◌}
+use Prim.Native.Nat.{◌+◌, ◌*◌}
 use mathlib.Core.Path.{◌≡◌}
 use native.Mathlib.Omega.{arith}
 use Rattle.format.specs.Bytes.{field}
@@ -15,12 +15,12 @@ start-c-requires c = (seen c.args.file.now c.args.v c.requires.0).holds.counted.
 
 pub loop-rank-init : goal.loop-rank-init
 loop-rank-init c =
-        let o = c.requires.0 in
+    let o = c.requires.0 in
     (omega arith, rw c.start-c.ensures (walk_start c.args.file.now c.args.v o), omega arith)
 
 pub get_u32-word-requires : goal.get_u32-word-requires
 get_u32-word-requires c =
-        word-inside c.args.file.now c.args.v c.requires.0 c.loop-rank.rank c.loop-rank-test.true
+    word-inside c.args.file.now c.args.v c.requires.0 c.loop-rank.rank c.loop-rank-test.true
 
 -- the word that the line tells
 word_read : (c : After-line_length-total)
@@ -30,7 +30,7 @@ word_read c = c.get_u32-word.ensures.0
 
 pub overflow_add-total : goal.overflow_add-total
 overflow_add-total c =
-        let l = c.loop-rank in
+    let l = c.loop-rank in
     let t = total_turn c.args.file.now c.args.v c.requires.0 l.rank l.c _ c.loop-rank-test.true l.invariant.1 (word_read c) l.total l.invariant.2 in
     let m = ranks-most c.args.file.now c.args.v c.requires.0 c.requires.1 in
     let e = c.line_length-total.ensures in
@@ -38,14 +38,14 @@ overflow_add-total c =
 
 pub next-c-requires : goal.next-c-requires
 next-c-requires c =
-        (seen c.args.file.now c.args.v c.requires.0).holds.counted.allowed
+    (seen c.args.file.now c.args.v c.requires.0).holds.counted.allowed
 
 pub overflow_add-rank : goal.overflow_add-rank
 overflow_add-rank c = let h = c.loop-rank-test.true in search rules
 
 pub loop-rank-preserved : goal.loop-rank-preserved
 loop-rank-preserved c =
-        let a = c.args in
+    let a = c.args in
     let o = c.requires.0 in
     let l = c.loop-rank in
     let h = c.loop-rank-test.true in
@@ -55,5 +55,5 @@ loop-rank-preserved c =
 
 pub returns : goal.returns
 returns c =
-        let l = c.loop-rank in
+    let l = c.loop-rank in
     total-end c.args.file.now c.args.v c.requires.0 l.rank l.total c.loop-rank-test.false l.invariant.2
