@@ -1,4 +1,6 @@
 // A picture's lent words, chunk by chunk: measured, and put out.
+#![tactic(auto)]
+
 ghost use Rattle.std.specs.Prelude.{◌≡◌, true, ◌⊎◌, ◌+◌, ◌*◌, ◌≤◌, min, length};
 ghost use Rattle.format.specs.Kinds.{setting_allowed};
 ghost use Rattle.format.specs.Bytes.{bytes_of};

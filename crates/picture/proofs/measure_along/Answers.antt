@@ -1,5 +1,4 @@
 -- `measure_along` meets its contract: the encoder that goes on with the cells that are left ends as from the first cell on. Assumes nothing.
-use Prim.Native.Nat.{◌-◌}
 use mathlib.Core.Path.{◌≡◌, refl, sym, ap, subst, ◌∙◌}
 use native.Mathlib.Omega.{arith}
 use mathlib.Core.Bool.{true}

@@ -1,5 +1,4 @@
 -- `put_out` meets its contract: the cells that are left, put out, give the whole. Assumes nothing.
-use Prim.Native.Nat.{◌-◌}
 use mathlib.Core.Path.{refl, sym, ◌∙◌}
 use native.Mathlib.Omega.{arith}
 use lib.ListN.{length}
