@@ -1,4 +1,6 @@
 // A picture's words into a file.
+#![tactic(auto)]
+
 ghost use Rattle.std.specs.Prelude.{◌≡◌, length};
 ghost use Rattle.format.specs.Answers.{leaves};
 ghost use Rattle.format.specs.Picture.{cells};

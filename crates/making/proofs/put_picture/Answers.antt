@@ -24,15 +24,15 @@ put_header-requires c =
 
 pub put_out-requires : goal.put_out-requires
 put_out-requires c =
-        let l = laid (goal.at.put_out-requires c).Start in
+    let l = laid (goal.at.put_out-requires c).Start in
     let f = l.fitting in
     (c.requires.1.allowed, c.requires.1.few, omega arith, omega arith, l.apart, words-room _ _ _ _ _ _ (four (goal.at.put_out-requires c).Start) c.requires.0 c.requires.1 _ c.put_header.ensures)
 
 pub put_derived-requires : goal.put_derived-requires
 put_derived-requires c =
-        (c.requires.1.allowed, omega arith, derivable_then _ _ _ _ _ _ (four (goal.at.put_derived-requires c).Start) c.requires.0 c.requires.1 _ c.put_header.ensures _ c.put_out.ensures)
+    (c.requires.1.allowed, omega arith, derivable_then _ _ _ _ _ _ (four (goal.at.put_derived-requires c).Start) c.requires.0 c.requires.1 _ c.put_header.ensures _ c.put_out.ensures)
 
 pub returns : goal.returns
 returns c =
-        file-there _ _ _ _ _ _ (four (goal.at.returns c).Start) c.requires.0 c.requires.1 _ c.put_header.ensures _ c.put_out.ensures _
+    file-there _ _ _ _ _ _ (four (goal.at.returns c).Start) c.requires.0 c.requires.1 _ c.put_header.ensures _ c.put_out.ensures _
     c.put_derived.ensures
