@@ -9,7 +9,7 @@ returns-then-v-r c = record { answer = refused BEYOND; right = position_past _ _
 
 pub returns : goal.returns
 returns c =
-        let at = c.placed_position.result in
+    let at = c.placed_position.result in
     record {
       answer = position_from at _;
       right = position-found _ _ _ at c.if-v-r.false c.placed_position.ensures;
