@@ -1,4 +1,6 @@
 // Ranks of a file of kind 4 or 6 put out in kind 4 or 6 at the file's width: behind the first of them the jumps and differences are those of the file.
+#![tactic(auto)]
+
 ghost use Rattle.std.specs.Prelude.{◌≡◌, ◌+◌, ◌*◌, ◌^◌, ◌<◌, length};
 ghost use Rattle.parts.specs.Cursor.{walked_as, stepped_as};
 ghost use Rattle.parts.specs.Batch.{Along, RoomAll};

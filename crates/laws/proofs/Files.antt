@@ -20,7 +20,7 @@ use Rattle.format.specs.Accepted.{setting_of, dimensions_of, empty_of, words_cou
 use Rattle.laws.proofs.Stored.{Rising, rising-stored, stored-kept, length-kept_le, placed-stored, below-kept}
 use Rattle.laws.proofs.Tools.{same_refl}
 use Rattle.laws.proofs.Bytes.{length-bytes_of, numbers_of-bytes_of}
-use Rattle.laws.proofs.Settings.{setting, small-setting, kind_allowed_lem}
+use Rattle.laws.proofs.Settings.{small-setting, kind_allowed_lem}
 use Rattle.laws.proofs.Parts.{Known, known}
 use Rattle.laws.proofs.Header.{Small, Read, read_header}
 use Rattle.laws.proofs.Limits.{small-dims}

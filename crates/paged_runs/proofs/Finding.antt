@@ -1,5 +1,5 @@
 -- Over parts that hold stored positions the searches find the place among them. Assumes nothing.
-use Rattle.std.proofs.Common.{◌≡◌, ℕ, ◌+◌, ◌-◌, ◌*◌, ◌/◌, ◌%◌, ◌^◌, ◌<◌, ◌≤◌, true, List, ◌∷◌, length, get_or, drop, sym, refl, ap, ◌∙◌, arith, lt-ltb, le-leb}
+use Rattle.std.proofs.Common.{◌≡◌, ℕ, ◌+◌, ◌-◌, ◌*◌, ◌/◌, ◌%◌, ◌^◌, ◌<◌, true, List, ◌∷◌, length, get_or, drop, sym, ap, ◌∙◌, arith, lt-ltb, le-leb}
 use Rattle.format.specs.declared.View.{View}
 use Rattle.format.specs.Answers.{given}
 use Rattle.format.specs.Runs.{Span, runs, spans, positions_from}

@@ -1,6 +1,5 @@
 -- A search for the last number that is at most x, by counts: one turn, and its end. Assumes nothing.
-use Rattle.std.proofs.Common.{◌≡◌, ℕ, zero, suc, ◌+◌, ◌-◌, ◌*◌, ◌/◌, ◌<◌, ◌≤◌, Bool, true, false, leb, List, length, sym, refl, ap, ◌∙◌, ap₂, ⊎_elim, true≢false, mul_assoc, eq-or-lt_of_le, mul-le-mul_left, mul-zero, mul-suc, add-one, arith, le-leb, leb-false, leb-true}
-use borrow.Author.Tests.{lt-leb}
+use Rattle.std.proofs.Common.{◌≡◌, ℕ, zero, suc, ◌+◌, ◌-◌, ◌*◌, ◌/◌, ◌<◌, ◌≤◌, Bool, true, false, leb, List, length, sym, refl, ap, ◌∙◌, ⊎_elim, true≢false, mul_assoc, eq-or-lt_of_le, mul-le-mul_left, mul-zero, mul-suc, add-one, arith, le-leb, leb-false, leb-true}
 use Rattle.format.specs.Tools.{pick}
 use Rattle.laws.proofs.Tools.{cases}
 use Rattle.wire.specs.Wire.{whole}

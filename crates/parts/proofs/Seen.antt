@@ -16,7 +16,7 @@ use Rattle.laws.proofs.Limits.{small-dims}
 use Rattle.laws.proofs.Files.{HeaderRight, positions-back, kept_back}
 use Rattle.laws.proofs.Acceptance.{header-right, accepted, accepted_has_file}
 use Rattle.laws.proofs.Check.{counts_by, by_body, length-numbers_of}
-use Rattle.parts.specs.Holds.{Counted, said, rises, parts_of, parts_right, Holds, kind_of, ViewOf, HeaderView, first_bytes, second_bytes}
+use Rattle.parts.specs.Holds.{Counted, said, rises, parts_of, parts_right, Holds, kind_of, ViewOf, HeaderView, second_bytes}
 
 -- ---- the tests of a check as types
 

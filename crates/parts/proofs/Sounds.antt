@@ -1,5 +1,5 @@
 -- What the code needs of an encoder holds at the beginning, and is kept along rising positions by a kind that adds little. Assumes nothing.
-use Rattle.std.proofs.Common.{◌≡◌, ℕ, zero, suc, ◌+◌, ◌-◌, ◌≤◌, Bool, true, false, not, eqb, length, arith}
+use Rattle.std.proofs.Common.{◌≡◌, ℕ, zero, suc, ◌+◌, ◌≤◌, Bool, true, false, not, eqb, length, arith}
 use Rattle.parts.specs.declared.Encoder.{Encoder}
 use Rattle.parts.specs.Encoder.{Coder, if_zero, begun, run_ends, taken_by}
 use Rattle.parts.specs.Ready.{passed, Sound, Next, Keeps}

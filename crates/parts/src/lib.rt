@@ -1,5 +1,7 @@
 // What the kinds share (document 01, "The file"). A kind's code reads and writes the two parts of a file, wherever the header ends and whatever the calls
 // make of it; specs/ has its contract.
+#![tactic(auto)]
+
 pub mod encode;
 pub mod search;
 pub mod walk;

@@ -1,4 +1,6 @@
 // Kind 2, positions (document 01, "The file").
+#![tactic(auto)]
+
 pub mod check;
 pub mod coding;
 pub mod search;

@@ -1,5 +1,5 @@
 -- Positions that are far from the one before: a loop that counts them, and one that lists the ends of runs. Assumes nothing.
-use Rattle.std.proofs.Common.{◌≡◌, ℕ, zero, suc, ◌+◌, ◌-◌, ◌<◌, ◌≤◌, true, false, leb, List, [], ◌∷◌, ◌++◌, length, get_or, take, drop, set, refl, append-nil, zero-add, arith, length-drop, drop-cons, take-suc-set}
+use Rattle.std.proofs.Common.{◌≡◌, ℕ, zero, suc, ◌+◌, ◌-◌, ◌<◌, ◌≤◌, leb, List, [], ◌∷◌, ◌++◌, length, get_or, take, drop, set, refl, append-nil, zero-add, arith, length-drop, drop-cons, take-suc-set}
 use lib.Seq.{take-set-le, append_snoc}
 use Rattle.format.specs.Tools.{pick}
 use Rattle.laws.proofs.Tools.{cases}

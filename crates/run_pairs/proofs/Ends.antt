@@ -1,26 +1,26 @@
 -- The pairs of the runs that end among the positions of a batch, by the list of the ends. Assumes nothing.
 use Prim.Native.Nat.{ℕ, zero, suc, ◌+◌, ◌-◌, ◌*◌, ◌≤◌, ◌<◌}
 use mathlib.Core.Path.{◌≡◌, refl, sym, ap, ap₂, ◌∙◌}
-use mathlib.Core.Bool.{Bool, true, false, not}
+use mathlib.Core.Bool.{not}
 use mathlib.Core.List.{List, [], ◌∷◌, ◌++◌}
-use native.Mathlib.Nat.{add-zero, zero-add}
+use native.Mathlib.Nat.{zero-add}
 use native.Mathlib.Numerals.{add-one}
 use native.Mathlib.Omega.{arith}
 use lib.ListN.{length, get_or, drop, length-append, drop_of_length-le}
 use lib.Seq.{drop-cons}
 use lib.Dec.{leb}
-use Rattle.format.specs.Tools.{pick, Below}
+use Rattle.format.specs.Tools.{Below}
 use Rattle.laws.proofs.Tools.{cases}
 use Rattle.laws.proofs.Stored.{Rising}
 use Rattle.stores.specs.Put.{put, pair}
 use Rattle.stores.proofs.Laws.{put_nil, put-append, length-pair}
 use Rattle.parts.specs.declared.Encoder.{Encoder}
-use Rattle.parts.specs.Encoder.{run_ends, taken_by}
+use Rattle.parts.specs.Encoder.{taken_by}
 use Rattle.parts.specs.Ready.{put_by}
 use Rattle.parts.specs.Batch.{added_first_by, added_second_by, put_all_by, Along, RoomAll}
 use Rattle.rises.specs.Far.{ends_after, ends_of}
 use Rattle.parts.proofs.Taken.{room_tail, put-all_cons}
-use Rattle.run_pairs.specs.Coding.{run_pair, runs_coder, end_pairs}
+use Rattle.run_pairs.specs.Coding.{runs_coder, end_pairs}
 use Rattle.run_pairs.proofs.Adds.{run-pair, first-pair, first-none}
 use Rattle.run_pairs.proofs.Further.{ends-far}
 

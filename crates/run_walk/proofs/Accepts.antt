@@ -1,6 +1,6 @@
 -- The check along runs, as the loop goes: it passes exactly for runs in strict order that end below cells and hold as many stored cells as there are words.
 -- Assumes nothing.
-use Rattle.std.proofs.Common.{◌≡◌, ℕ, zero, suc, ◌+◌, ◌-◌, ◌*◌, ◌<◌, ◌≤◌, Bool, true, false, not, ◌||◌, eqb, ltb, leb, List, [], ◌∷◌, sym, refl, ap, ◌∙◌, zero-add, arith, ltb-false, ltb-true, le-ltb, lt-ltb, eq-eqb, ne_eqb, eqb-true, le-leb, leb-false, leb-true}
+use Rattle.std.proofs.Common.{◌≡◌, ℕ, zero, suc, ◌+◌, ◌-◌, ◌*◌, ◌≤◌, Bool, true, false, not, ◌||◌, eqb, ltb, leb, List, [], ◌∷◌, sym, refl, ap, ◌∙◌, zero-add, arith, ltb-false, ltb-true, le-ltb, lt-ltb, eq-eqb, ne_eqb, eqb-true, le-leb, leb-false, leb-true}
 use borrow.Author.Tests.{eqb-false, not-true}
 use Rattle.format.specs.Tools.{both}
 use Rattle.format.specs.Runs.{Run}
@@ -9,7 +9,7 @@ use Rattle.laws.proofs.RunsBack.{least_empty, InOrder', last_end, last_empty}
 use Rattle.wire.specs.declared.Pair.{Pair}
 use Rattle.wire.specs.Wire.{field_pair}
 use Rattle.rises.specs.Falls.{fallen, follows, pair_falls}
-use Rattle.run_walk.proofs.Pairs.{unlike, pair_at, pairs, pairs_cons, pairs_none}
+use Rattle.run_walk.proofs.Pairs.{unlike, pairs, pairs_cons, pairs_none}
 
 -- the pair does not follow on: V is below the least, or no cell of the run is stored
 unfoldable pub wrong : ℕ → ℕ → Run → Bool

@@ -1,5 +1,5 @@
 -- A stretch of a run and one step from there, by the numbers that the code assigns. Assumes nothing.
-use Rattle.std.proofs.Common.{◌≡◌, ℕ, ◌+◌, ◌-◌, ◌*◌, ◌^◌, ◌<◌, ◌≤◌, List, sym, ◌∙◌, arith, le-ltb}
+use Rattle.std.proofs.Common.{◌≡◌, ℕ, ◌+◌, ◌-◌, ◌*◌, ◌^◌, ◌<◌, ◌≤◌, List, sym, ◌∙◌, le-ltb}
 use Rattle.format.specs.declared.View.{View}
 use Rattle.wire.specs.declared.Pair.{Pair}
 use Rattle.wire.specs.Wire.{pair_at, add32}

@@ -1,5 +1,5 @@
 -- The encoder puts out the parts of kind 1. Assumes nothing.
-use Rattle.std.proofs.Common.{◌≡◌, ℕ, suc, ◌+◌, ◌-◌, ◌/◌, Bool, true, false, not, eqb, List, [], ◌∷◌, ◌++◌, length, sym, refl, ap, ◌∙◌, ap₂, append-nil, arith}
+use Rattle.std.proofs.Common.{◌≡◌, ℕ, suc, ◌/◌, Bool, true, false, not, eqb, List, [], ◌∷◌, ◌++◌, length, sym, refl, ◌∙◌, ap₂, append-nil, arith}
 use Rattle.format.specs.Tools.{pick, unless}
 use Rattle.format.specs.Bytes.{bytes_of}
 use Rattle.format.specs.Runs.{Run, run_at, runs_from, runs, flat_runs, run_parts, runs_kind}

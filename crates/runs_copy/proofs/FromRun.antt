@@ -6,7 +6,6 @@ use Rattle.laws.proofs.Tools.{cases}
 use Rattle.wire.specs.declared.Pair.{Pair}
 use Rattle.wire.specs.Wire.{pair_at, field_pair}
 use Rattle.wire.proofs.Laws.{pair-there}
-use Rattle.stores.specs.Put.{pair}
 use Rattle.parts.specs.declared.Cursor.{Cursor}
 use Rattle.parts.specs.declared.Encoder.{Encoder}
 use Rattle.parts.specs.Cursor.{walked_as, stepped_as}

@@ -1,4 +1,6 @@
 // The cells of a picture: the positions of the stored ones, and their words.
+#![tactic(auto)]
+
 pub mod tally;
 
 ghost use Rattle.std.specs.Prelude.{◌≡◌, ◌++◌, ◌+◌, ◌*◌, ◌-◌, ◌≤◌, ◌^◌, length, take, drop, eqb};

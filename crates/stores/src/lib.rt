@@ -1,4 +1,6 @@
 // Numbers stored in bytes, lowest byte first, where there is room for them, and bytes copied.
+#![tactic(auto)]
+
 pub mod copy;
 
 ghost use Rattle.std.specs.Prelude.{◌≡◌, ◌+◌, ◌≤◌, length};

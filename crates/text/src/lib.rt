@@ -1,4 +1,6 @@
 // Text put into a buffer: each function answers the place after it.
+#![tactic(auto)]
+
 ghost use Rattle.std.specs.Prelude.{◌≡◌, [], ◌∷◌, ◌++◌, ◌≤◌, length};
 ghost use Rattle.format.specs.Lister.{decimal, line};
 ghost use Rattle.text.specs.Text.{Room, TextPut};

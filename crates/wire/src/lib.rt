@@ -1,4 +1,6 @@
 // Numbers in bytes, lowest byte first. `get` asks that the bytes are there; `load` gives 0 where they are not all there.
+#![tactic(auto)]
+
 pub mod numbers;
 
 ghost use Rattle.std.specs.Prelude.{◌≡◌, ◌+◌, ◌*◌, ◌≤◌, ◌<◌, ◌^◌, length};

@@ -1,4 +1,6 @@
 // The stored words of a file, 4 bytes each by rank.
+#![tactic(auto)]
+
 ghost use Rattle.std.specs.Prelude.{◌≡◌, not, ◌+◌, ◌*◌, ◌≤◌, ◌<◌, length, drop, eqb};
 ghost use Rattle.format.specs.Tools.{every};
 ghost use Rattle.format.specs.Bytes.{numbers_of};

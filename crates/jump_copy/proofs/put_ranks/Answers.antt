@@ -24,7 +24,7 @@ returns-then-n-eq0 c =
 
 pub put_all-at-requires : goal.put_all-at-requires
 put_all-at-requires c =
-        let a = c.args in
+    let a = c.args in
     let h = c.requires.0.1 in
     let z = pos_of_ne-zero c.if-n-eq0.false in (
       h.laid.narrow,
@@ -38,7 +38,7 @@ overflow_sub-n c = pos_of_ne-zero c.if-n-eq0.false
 
 pub ranks_on-last-requires : goal.ranks_on-last-requires
 ranks_on-last-requires c =
-        let z = pos_of_ne-zero c.if-n-eq0.false in
+    let z = pos_of_ne-zero c.if-n-eq0.false in
     let m = c.requires.1.most in
     (c.requires.0, record { rank = c.requires.1.rank; steps = c.requires.1.steps; most = omega arith })
 
@@ -86,7 +86,7 @@ overflow_add-v c = let i = jumps_in (goal.at.overflow_add-v c).After-ranks_on-la
 
 pub copy-requires : goal.copy-requires
 copy-requires c =
-        let i = jumps_in (goal.at.copy-requires c).After-ranks_on-last in
+    let i = jumps_in (goal.at.copy-requires c).After-ranks_on-last in
     let k = (rooms (goal.at.copy-requires c).After-ranks_on-last).0 in
     let n = length-first (goal.at.copy-requires c).After-ranks_on-last in
     (omega arith, omega arith)
@@ -106,7 +106,7 @@ overflow_mul-width-2 c = let i = differences-in (goal.at.overflow_mul-width-2 c)
 
 pub copy-requires-2 : goal.copy-requires-2
 copy-requires-2 c =
-        let i = differences-in (goal.at.copy-requires-2 c).After-ranks_on-last in
+    let i = differences-in (goal.at.copy-requires-2 c).After-ranks_on-last in
     let k = (rooms (goal.at.copy-requires-2 c).After-ranks_on-last).1 in
     let n = length-first (goal.at.copy-requires-2 c).After-ranks_on-last in
     let m = ap length c.copy.ensures ∙ length-put _ _ _ in

@@ -17,7 +17,7 @@ below c =
 
 pub walk-place-requires : goal.walk-place-requires
 walk-place-requires c =
-        let a = c.args in (
+    let a = c.args in (
       walk-room a.file.now a.v c.requires.0.0 c.requires.0.1 a.c c.requires.1.rank (here (goal.at.walk-place-requires c).Start) a.n (below (goal.at.walk-place-requires c).Start),
       omega arith,
       walk-within a.file.now a.v c.requires.0.0 c.requires.0.1 a.c c.requires.1.rank (here (goal.at.walk-place-requires c).Start) a.n (below (goal.at.walk-place-requires c).Start),
@@ -25,21 +25,21 @@ walk-place-requires c =
 
 pub overflow_add-c : goal.overflow_add-c
 overflow_add-c c =
-        let a = c.args in
+    let a = c.args in
     let k = (walk-room a.file.now a.v c.requires.0.0 c.requires.0.1 a.c c.requires.1.rank (here (goal.at.overflow_add-c c).Start) a.n (below (goal.at.overflow_add-c c).Start)).rank in
     record { fits = omega arith }
 
 pub overflow_cast-c : goal.overflow_cast-c
 overflow_cast-c c =
-            let a = c.args in
+    let a = c.args in
     record { fits = walk-position a.file.now a.v c.requires.0.0 c.requires.0.1 a.c c.requires.1.rank (here (goal.at.overflow_cast-c c).Start) a.n (below (goal.at.overflow_cast-c c).Start) c.walk-place.result _ c.walk-place.ensures (omega arith) }
 
 pub overflow_cast-c-2 : goal.overflow_cast-c-2
 overflow_cast-c-2 c =
-            let a = c.args in
+    let a = c.args in
     record { fits = walk-taken a.file.now a.v c.requires.0.0 c.requires.0.1 a.c c.requires.1.rank (here (goal.at.overflow_cast-c-2 c).Start) a.n (below (goal.at.overflow_cast-c-2 c).Start) c.walk-place.result _ c.walk-place.ensures (omega arith) }
 
 pub returns : goal.returns
 returns c =
-            let a = c.args in
+    let a = c.args in
     walk_steps a.file.now a.v c.requires.0.0 c.requires.0.1 a.c c.requires.1.rank (here (goal.at.returns c).Start) a.n (below (goal.at.returns c).Start) c.walk-place.result _ c.walk-place.ensures (omega arith)

@@ -1,7 +1,6 @@
 -- `list_cells` meets its contract: what is listed, then the stored cells that are left, stays the same. Assumes nothing.
-use Prim.Native.Nat.{◌+◌, ◌-◌, ◌<◌}
+use Prim.Native.Nat.{◌+◌, ◌<◌}
 use mathlib.Core.Path.{◌≡◌, ◌∙◌}
-use mathlib.Core.Logic.{⊎_elim}
 use native.Mathlib.Omega.{arith}
 use lib.ListN.{length, set, length-set}
 use Rattle.stored_cells.proofs.Stored.{cell-empty, cell-stored}

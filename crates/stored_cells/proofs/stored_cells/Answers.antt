@@ -1,5 +1,4 @@
 -- `stored_cells` meets its contract: what is listed, then the stored cells that are left, are all stored cells. Assumes nothing.
-use Prim.Native.Nat.{◌-◌}
 use mathlib.Core.Path.{refl, sym, ◌∙◌}
 use native.Mathlib.Nat.{add-zero}
 use native.Mathlib.Omega.{arith}

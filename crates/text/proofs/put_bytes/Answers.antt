@@ -1,5 +1,4 @@
 -- `put_bytes` meets its contract: the bytes that are left, put on, give the whole. Assumes nothing.
-use Prim.Native.Nat.{◌-◌}
 use mathlib.Core.Path.{refl, sym, ◌∙◌}
 use native.Mathlib.Nat.{add-zero}
 use native.Mathlib.Omega.{arith}

@@ -1,5 +1,5 @@
 -- `put_decimal` meets its contract: the digits of the rest, put on, give the whole. Assumes nothing.
-use Prim.Native.Nat.{◌+◌, ◌-◌, ◌≤◌}
+use Prim.Native.Nat.{◌+◌, ◌≤◌}
 use mathlib.Core.Path.{◌≡◌}
 use lib.ListN.{length}
 use Rattle.format.specs.Lister.{decimal}

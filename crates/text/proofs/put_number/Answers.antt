@@ -9,11 +9,11 @@ use Rattle.text.proofs.put_number.Goals as goal
 -- `put_number` meets its contract. Assumes nothing.
 pub put_decimal-end-requires : goal.put_decimal-end-requires
 put_decimal-end-requires c =
-        room-first (decimal c.args.n) (c.args.after ∷ []) c.args.dst.now c.args.at c.requires
+    room-first (decimal c.args.n) (c.args.after ∷ []) c.args.dst.now c.args.at c.requires
 
 pub bounds-dst-end : goal.bounds-dst-end
 bounds-dst-end c =
-        let k = room-then (decimal c.args.n) (c.args.after ∷ []) c.args.dst.now _ c.args.at _ c.requires c.put_decimal-end.ensures in
+    let k = room-then (decimal c.args.n) (c.args.after ∷ []) c.args.dst.now _ c.args.at _ c.requires c.put_decimal-end.ensures in
     omega arith
 
 pub overflow_add-result : goal.overflow_add-result

@@ -1,4 +1,4 @@
-use Rattle.std.proofs.Common.{◌≡◌, ℕ, List, [], length, get_or, sym, ap, ◌∙◌, ap₂, ⊎_elim, arith}
+use Rattle.std.proofs.Common.{◌≡◌, ℕ, List, [], length, get_or, sym, ap, ◌∙◌, ap₂, arith}
 use Rattle.format.specs.Bytes.{bytes, bytes_of}
 use Rattle.stores.specs.Put.{put}
 use Rattle.stores.proofs.Laws.{put_nil, length-put}
@@ -22,7 +22,7 @@ first-put c =
 -- the base that the offsets are from
 base : (c : After-take_group-at) → let a = c.args in c.take_group-at.result.base ≡ if_zero a.e.left (get_or a.ps.now 0 0) a.e.base
 base c =
-        let a = c.args in
+    let a = c.args in
     ap (λ (x : Encoder). x.base) c.take_group-at.ensures ∙ base_group a.step a.e a.ps.now c.requires.0 a.width c.requires.4
 
 pub bounds-ps-0 : goal.bounds-ps-0
@@ -30,12 +30,12 @@ bounds-ps-0 c = let s = c.requires.0.some in omega arith
 
 pub put_u32-requires : goal.put_u32-requires
 put_u32-requires c =
-        let a = c.args in
+    let a = c.args in
     room-first a.step a.e a.ps.now c.requires.0 a.width (length a.dst.now) c.requires.1 c.if-e-eq0.true
 
 pub put_offsets-requires : goal.put_offsets-requires
 put_offsets-requires c =
-        let a = c.args in
+    let a = c.args in
     let n = ap length (first-put (goal.at.put_offsets-requires c).Joined-e-eq0) ∙ length-put a.dst.now a.e.first _ in (
       rw (base (goal.at.put_offsets-requires c).After-take_group-at) (rising-base a.step a.e a.ps.now c.requires.0),
       rw n (room-second a.step a.e a.ps.now c.requires.0 a.width (length a.dst.now) c.requires.1),
@@ -45,7 +45,7 @@ put_offsets-requires c =
 
 pub returns : goal.returns
 returns c =
-        let a = c.args in (
+    let a = c.args in (
       c.take_group-at.ensures,
       c.put_offsets.ensures
           ∙ ap₂ (λ (x : List ℕ) (b : ℕ). put x a.e.second (bytes_of a.width (offsets_over b a.ps.now))) (first-put (goal.at.returns c).Joined-e-eq0) (base (goal.at.returns c).After-take_group-at)

@@ -8,7 +8,7 @@ use Rattle.base_groups.proofs.coding.take_group.Goals as goal
 -- the numbers do not wrap
 small : (c : After-with_base-e) → let a = c.args in Sized a.width c.with_base-e.result a.ps.now
 small c =
-        let a = c.args in
+    let a = c.args in
     sized a.step a.e a.ps.now c.requires.0 a.width c.with_base-e.result c.requires.2 c.with_base-e.ensures
 
 pub bounds-ps-0 : goal.bounds-ps-0
@@ -55,7 +55,7 @@ overflow_sub-last-2 c = let z = (small (goal.at.overflow_sub-last-2 c).After-wit
 
 pub returns : goal.returns
 returns c =
-        let a = c.args in
+    let a = c.args in
     let o = c.requires.0 in
     rw (c.still_fits.ensures, c.with_base-e.ensures)
     (taken_group a.width a.step a.e a.ps.now (passed a.e) 16777216 c.requires.3 o.some o.served o.along.rising)

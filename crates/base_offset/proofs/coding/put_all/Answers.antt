@@ -1,4 +1,4 @@
-use Prim.Native.Nat.{◌+◌, ◌-◌}
+use Prim.Native.Nat.{◌+◌}
 use native.Mathlib.Omega.{arith}
 use lib.ListN.{length}
 use Rattle.parts.proofs.Taken.{write_begin, write-end}
@@ -15,13 +15,13 @@ use Rattle.base_offset.proofs.coding.put_all.Goals as goal
 turn : (c : After-served)
     → let a = c.args in let l = c.loop-i in Cut (due a.step l.e.left) l.i (length a.ps.now) (l.i + c.served.result)
 turn c =
-        let l = c.loop-i in
+    let l = c.loop-i in
     cut (due c.args.step l.e.left) l.i (length c.args.ps.now) c.served.result (due-some _ _ (allows _ _ c.requires.0).step-least)
     c.loop-i-test.true c.served.ensures
 
 pub loop-i-init : goal.loop-i-init
 loop-i-init c =
-        write_begin (coder c.args.width c.args.step) c.args.ps.now c.args.e c.args.dst.now c.requires.1 c.requires.2
+    write_begin (coder c.args.width c.args.step) c.args.ps.now c.args.e c.args.dst.now c.requires.1 c.requires.2
 
 pub overflow_add-end : goal.overflow_add-end
 overflow_add-end c = let t = (turn c).inside in search rules
@@ -34,7 +34,7 @@ slice_bounds-put_group-end c = let t = (turn (goal.at.slice_bounds-put_group-end
 
 pub put_group-e-requires : goal.put_group-e-requires
 put_group-e-requires c =
-        let l = c.loop-i in
+    let l = c.loop-i in
     let t = turn (goal.at.put_group-e-requires c).After-served in
     let a = allows _ _ c.requires.0 in (
       one-base c.args.width c.args.step c.args.ps.now c.args.e l.e l.i _ t l.invariant.measured,
@@ -53,7 +53,7 @@ loop-i-smaller c =
 
 pub loop-i-preserved : goal.loop-i-preserved
 loop-i-preserved c =
-        let l = c.loop-i in
+    let l = c.loop-i in
     let o = c.put_group-e in
     let a = allows _ _ c.requires.0 in
     write_group c.args.width c.args.step c.args.ps.now c.args.e c.args.dst.now l.e l.dst l.i _ (turn (goal.at.loop-i-preserved c).After-served) l.invariant

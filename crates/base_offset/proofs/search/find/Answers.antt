@@ -1,9 +1,7 @@
 use Prim.Native.Nat.{◌-◌, ◌*◌, ◌<◌}
 use mathlib.Core.Path.{sym, ◌∙◌}
-use mathlib.Core.Logic.{⊎_elim}
 use native.Mathlib.Nat.{min-le_left, min-le_right, pos_of_ne-zero}
 use native.Mathlib.Omega.{arith}
-use borrow.Author.Tests.{leb-true, leb-false}
 use Rattle.base_offset.proofs.Searched.{AtBase, AtGroup, product-fits, find_before, find_outside, find_no_group, rank-within, find_here, find_absent}
 use Rattle.base_offset.proofs.search.find.Goals.{After-last_offset, After-load_u32-base, Else-v-start, then-wanted-base-via-then-wanted-base, then-wanted-base-via-else-wanted-base+then-v-start}
 use Rattle.base_offset.proofs.search.find.Goals as goal
@@ -17,7 +15,7 @@ started c = omega arith
 
 at-group : (c : After-last_offset)
     → let a = c.args in
-        AtGroup a.file.now a.v a.p.0 c.last_at_most-j.result c.load_u32-base.result c.lesser-n.result c.last_offset.result
+    AtGroup a.file.now a.v a.p.0 c.last_at_most-j.result c.load_u32-base.result c.lesser-n.result c.last_offset.result
 at-group c =
     record {
       at_base = record { last = c.last_at_most-j.ensures; is = c.load_u32-base.ensures.0 };
@@ -34,7 +32,7 @@ overflow_mul-start c = record { fits = product-fits _ _ (omega arith) (omega ari
 pub returns-then-wanted-base : goal.returns-then-wanted-base
 returns-then-wanted-base c =
     elim c.then-wanted-base.branch [
-      then-wanted-base-via-then-wanted-base w ↦ find_before (at_base (goal.at.returns-then-wanted-base c).After-load_u32-base) w.if-wanted-base.true
+      | then-wanted-base-via-then-wanted-base w ↦ find_before (at_base (goal.at.returns-then-wanted-base c).After-load_u32-base) w.if-wanted-base.true
       | then-wanted-base-via-else-wanted-base+then-v-start w ↦ find_outside (at_base (goal.at.returns-then-wanted-base c).After-load_u32-base) w.if-v-start.true
     ]
 

@@ -10,7 +10,7 @@ counts_right-requires c = let a = allows _ _ c.requires.0 in (omega arith, omega
 
 pub overflow_mul-result-2 : goal.overflow_mul-result-2
 overflow_mul-result-2 c =
-        let v = c.args.v in
+    let v = c.args.v in
     let a = allows v.width v.step c.requires.0 in
     let m = entries_fit v.width v.seconds a.width-most (omega arith) in
     record { fits = omega arith }
@@ -18,7 +18,7 @@ overflow_mul-result-2 c =
 pub returns : goal.returns
 unfolding based_kind
 returns c =
-        let v = c.args.v in
+    let v = c.args.v in
     let m = entries_fit v.width v.seconds (allows v.width v.step c.requires.0).width-most (omega arith) in
     record {
       right = c.counts_right.ensures;

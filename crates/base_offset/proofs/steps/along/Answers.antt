@@ -1,6 +1,5 @@
 use Prim.Native.Nat.{◌+◌, ◌*◌, ◌<◌}
 use mathlib.Core.Path.{◌≡◌, ap, ◌∙◌}
-use mathlib.Core.Logic.{⊎_elim}
 use native.Mathlib.Omega.{arith}
 use lib.ListN.{length, drop}
 use lib.Dec.{ltb}
@@ -36,13 +35,13 @@ bounds-out-0 c =
 
 pub overflow_add-c : goal.overflow_add-c
 overflow_add-c c =
-        let n = length c.args.out.now in
+    let n = length c.args.out.now in
     cases (ltb 1 n)
     (λ e. let t = (c.requires.there (ltb-true 1 n e)).ranks in search rules)
     (λ e. let t = ltb-false 1 n e in search rules)
 
 pub returns : goal.returns
 returns c =
-            let a = c.args in
+    let a = c.args in
     let f = filled (goal.at.returns c).Joined-more-gt0 in
     along_batch a.file.now a.v a.c (length a.out.now) c.next.result c.if-more-gt0.out c.requires f.0 f.1 c.next.ensures

@@ -1,6 +1,5 @@
 use Prim.Native.Nat.{◌+◌, ◌-◌}
 use mathlib.Core.Path.{◌≡◌, refl, ap, subst, ◌∙◌}
-use mathlib.Core.Bool.{true}
 use native.Mathlib.Omega.{arith}
 use lib.ListN.{length}
 use Rattle.parts.proofs.Batches.{batch_start, batch_end, length-walked_as}
@@ -61,7 +60,7 @@ pub loop-i-preserved : goal.loop-i-preserved
 loop-i-preserved c =
     let a = c.args in
     let l = c.loop-i in
-        let t = turn (goal.at.loop-i-preserved c).After-ranks_ahead in
+    let t = turn (goal.at.loop-i-preserved c).After-ranks_ahead in
     let m = t.more in
     let e = l.invariant.1 in
     let o = c.along-c in

@@ -37,7 +37,7 @@ room : (c : Else-h-l)
     * product (drop (c.loop-i.i + 1) c.args.d.extents)
     ≤ product c.args.d.extents
 room c =
-        let l = c.loop-i in
+    let l = c.loop-i in
     count_room l.count l.i c.args.d.extents c.args.low c.args.high c.loop-i-test.true (search rules, search rules, search rules) _ l.invariant.1 c.if-e-h.false
 
 next : (c : Else-h-l)
@@ -78,7 +78,7 @@ loop-i-preserved c =
 
 pub returns : goal.returns
 returns c =
-        let l = c.loop-i in
+    let l = c.loop-i in
     let m = most (goal.at.returns c).Start in
     let k = count_small _ l.count l.i c.args.d.extents m.0 l.invariant.1 in
     (whole (goal.at.returns c).At-loop-i l.count (count-end l.count l.i c.args.d.extents _ _ (rw (four (goal.at.returns c).Start).0 c.loop-i-test.false)), le_trans k m.1)

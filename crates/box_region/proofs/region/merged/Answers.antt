@@ -12,28 +12,28 @@ four c = (search rules, search rules, search rules)
 
 pub overflow_mul-result : goal.overflow_mul-result
 overflow_mul-result c =
-        let k = row-few c.args.r (four (goal.at.overflow_mul-result c).Start) c.requires.0 in
+    let k = row-few c.args.r (four (goal.at.overflow_mul-result c).Start) c.requires.0 in
     record { fits = omega arith }
 
 pub overflow_mul-result-2 : goal.overflow_mul-result-2
 overflow_mul-result-2 c =
-        let k = row-few c.args.r (four (goal.at.overflow_mul-result-2 c).Start) c.requires.0 in
+    let k = row-few c.args.r (four (goal.at.overflow_mul-result-2 c).Start) c.requires.0 in
     let l = row_low c.args.r (four (goal.at.overflow_mul-result-2 c).Start) c.requires.0 in
     let h = row-high c.args.r (four (goal.at.overflow_mul-result-2 c).Start) c.requires.0 in
     record { fits = omega arith }
 
 pub overflow_mul-result-3 : goal.overflow_mul-result-3
 overflow_mul-result-3 c =
-        let k = row-few c.args.r (four (goal.at.overflow_mul-result-3 c).Start) c.requires.0 in
+    let k = row-few c.args.r (four (goal.at.overflow_mul-result-3 c).Start) c.requires.0 in
     let h = row-high c.args.r (four (goal.at.overflow_mul-result-3 c).Start) c.requires.0 in
     record { fits = omega arith }
 
 pub overflow_add-result : goal.overflow_add-result
 overflow_add-result c =
-        let k = row-few c.args.r (four (goal.at.overflow_add-result c).Start) c.requires.0 in
+    let k = row-few c.args.r (four (goal.at.overflow_add-result c).Start) c.requires.0 in
     let h = row-high c.args.r (four (goal.at.overflow_add-result c).Start) c.requires.0 in
     record { fits = omega arith }
 
 pub returns : goal.returns
 returns c =
-        merged_same c.args.r (four (goal.at.returns c).Start) c.requires.0 c.requires.1 c.requires.2
+    merged_same c.args.r (four (goal.at.returns c).Start) c.requires.0 c.requires.1 c.requires.2

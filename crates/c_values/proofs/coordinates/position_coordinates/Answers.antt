@@ -39,8 +39,8 @@ returns-then-dst-lt-DIMS c =
 
 pub returns : goal.returns
 returns c =
-        let a = c.args in
-        let cs = same_extents a.dims _ a.extents.now c.four.ensures (λ (d : Dimensions). coordinates_at d a.place) c.coordinates_inside-at.ensures in
+    let a = c.args in
+    let cs = same_extents a.dims _ a.extents.now c.four.ensures (λ (d : Dimensions). coordinates_at d a.place) c.coordinates_inside-at.ensures in
     out-given (lent (goal.at.returns c).After-coordinates_number-number) a.place a.dst.now (sym (number (goal.at.returns c).After-coordinates_number-number) ∙ c.if-number-ne0.false) _ _ cs c.if-dst-lt-DIMS.false c.put_numbers.ensures
 
 pub four-requires : goal.four-requires

@@ -8,7 +8,7 @@ returns-then-dst c = let a = c.args in told_small a.file.now a.dst.now c.if-dst.
 
 pub returns : goal.returns
 returns c =
-        let a = c.args in
+    let a = c.args in
     let v = c.read_view-v in
     let d = c.read_dimensions-d in
     told_given a.file.now a.dst.now _ _ (numbers_told a.file.now v.result d.result v.ensures d.ensures) c.if-dst.false

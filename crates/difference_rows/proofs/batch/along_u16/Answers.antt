@@ -9,7 +9,7 @@ use Rattle.difference_rows.proofs.batch.along_u16.Goals as goal
 
 pub loop-i-init : goal.loop-i-init
 loop-i-init c =
-        let a = c.args in
+    let a = c.args in
     (omega arith, rw (sub-zero (length a.out.now)) (going_begin 2 a.start a.second a.file.now a.c 0 (length a.out.now) a.out.now c.requires))
 
 pub bounds-out-i : goal.bounds-out-i
@@ -36,7 +36,7 @@ difference-d-requires c = (omega arith, omega arith, (room c).inside)
 
 pub loop-i-preserved : goal.loop-i-preserved
 loop-i-preserved c =
-        let a = c.args in
+    let a = c.args in
     let l = c.loop-i in
     let n = l.invariant.1.left.same in
     let h = c.loop-i-test.true in

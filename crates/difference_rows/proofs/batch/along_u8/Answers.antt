@@ -8,7 +8,7 @@ use Rattle.difference_rows.proofs.batch.along_u8.Goals as goal
 
 pub loop-i-init : goal.loop-i-init
 loop-i-init c =
-        let a = c.args in
+    let a = c.args in
     (omega arith, rw (sub-zero (length a.out.now)) (going_begin 1 a.start a.second a.file.now a.c 0 (length a.out.now) a.out.now c.requires))
 
 pub block_u8-c-requires : goal.block_u8-c-requires

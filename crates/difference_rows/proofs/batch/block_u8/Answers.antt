@@ -14,12 +14,12 @@ no_jump-requires c = c.requires.0
 
 pub each_u8-requires : goal.each_u8-requires
 each_u8-requires c =
-        let e : c.args.from + 16 - c.args.from ≡ 16 = omega arith in
+    let e : c.args.from + 16 - c.args.from ≡ 16 = omega arith in
     (rw e c.requires.0, omega arith, c.requires.1)
 
 pub returns-then-not-no_jump : goal.returns-then-not-no_jump
 returns-then-not-no_jump c =
-        let e : c.args.from + 16 - c.args.from ≡ 16 = omega arith in
+    let e : c.args.from + 16 - c.args.from ≡ 16 = omega arith in
     rw e at c.each_u8.ensures
 
 pub loop-k-init : goal.loop-k-init
@@ -53,7 +53,7 @@ no_jump c = sym c.no_jump.ensures ∙ c.if-not-no_jump.false
 
 pub loop-k-preserved : goal.loop-k-preserved
 loop-k-preserved c =
-            let a = c.args in
+    let a = c.args in
     let l = c.loop-k in
     let h = c.loop-k-test.true in
     let e : 16 - l.k ≡ suc (16 - (l.k + 1)) = omega arith in

@@ -8,7 +8,7 @@ use Rattle.difference_rows.proofs.batch.each_u8.Goals as goal
 
 pub loop-i-init : goal.loop-i-init
 loop-i-init c =
-        let a = c.args in
+    let a = c.args in
     (c.requires.1, going_begin 1 a.start a.second a.file.now a.c a.from (a.end - a.from) a.out.now c.requires.0)
 
 pub bounds-out-i : goal.bounds-out-i
@@ -35,7 +35,7 @@ difference-d-requires c = (omega arith, omega arith, (room c).inside)
 
 pub loop-i-preserved : goal.loop-i-preserved
 loop-i-preserved c =
-        let a = c.args in
+    let a = c.args in
     let l = c.loop-i in
     let n = l.invariant.1.left.same in
     let h = c.loop-i-test.true in

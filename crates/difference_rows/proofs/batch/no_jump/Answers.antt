@@ -1,5 +1,5 @@
 -- Whether 16 differences hold no jump. Assumes nothing.
-use Rattle.std.proofs.Common.{◌≡◌, ◌+◌, ◌-◌, arith}
+use Rattle.std.proofs.Common.{◌≡◌, ◌+◌, arith}
 use Rattle.differences.specs.Walk.{Room}
 use Rattle.differences.proofs.Sums.{earlier, plain_start, plain-next}
 use Rattle.difference_rows.proofs.batch.no_jump.Goals.{In-loop-k}

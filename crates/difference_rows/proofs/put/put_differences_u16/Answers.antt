@@ -12,7 +12,7 @@ loop-i-init c = (omega arith, refl, refl)
 pub stored_difference-d-requires : goal.stored_difference-d-requires
 stored_difference-d-requires c =
     let l = c.loop-i in
-        (rising_le 0 16777216 c.args.ps.now (l.i - 1) l.i c.requires.0 (omega arith) c.loop-i-test.true, omega arith, omega arith)
+    (rising_le 0 16777216 c.args.ps.now (l.i - 1) l.i c.requires.0 (omega arith) c.loop-i-test.true, omega arith, omega arith)
 
 -- the next difference has room
 room : (c : In-loop-i)
@@ -31,7 +31,7 @@ put_u16-requires c = let r = room (goal.at.put_u16-requires c).In-loop-i in omeg
 
 pub loop-i-preserved : goal.loop-i-preserved
 loop-i-preserved c =
-        let a = c.args in
+    let a = c.args in
     let l = c.loop-i in
     let h = c.loop-i-test.true in
     let o = c.put_u16.ensures in (

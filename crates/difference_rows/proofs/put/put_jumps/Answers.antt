@@ -1,7 +1,6 @@
 -- What is left to put out gives the whole; as long as a jump is left, a position is left. Assumes nothing.
-use Rattle.std.proofs.Common.{◌≡◌, ◌+◌, ◌-◌, ◌*◌, ◌<◌, ◌≤◌, length, drop, sym, refl, ap, ◌∙◌, arith, rules}
+use Rattle.std.proofs.Common.{◌+◌, ◌-◌, ◌<◌, ◌≤◌, length, drop, sym, refl, ap, ◌∙◌, arith, rules}
 use Rattle.laws.proofs.Positions.{rising_le}
-use Rattle.stores.specs.Put.{put}
 use Rattle.stores.proofs.Laws.{length-put}
 use Rattle.difference_rows.specs.Later.{later_jumps}
 use Rattle.difference_rows.proofs.PutTurns.{jump_left, place-next, jump_next, put-none}

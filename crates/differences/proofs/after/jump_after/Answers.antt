@@ -1,5 +1,4 @@
 -- The rank of a jump, group by group. Assumes nothing.
-use Prim.Native.Nat.{◌-◌}
 use native.Mathlib.Omega.{arith}
 use Rattle.differences.proofs.Sums.{earlier}
 use Rattle.differences.proofs.JumpsAfter.{onward_start, onward_group, found_later}

@@ -1,5 +1,5 @@
 -- The rank of a jump, rank by rank. Assumes nothing.
-use Prim.Native.Nat.{◌+◌, ◌-◌}
+use Prim.Native.Nat.{◌+◌}
 use native.Mathlib.Omega.{arith}
 use Rattle.differences.proofs.Sums.{earlier}
 use Rattle.differences.proofs.JumpsAfter.{onward_start, onward-rank, found_later, found_here, found-last}

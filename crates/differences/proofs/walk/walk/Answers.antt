@@ -1,5 +1,4 @@
 -- A walk from a place on, group by group. Assumes nothing.
-use Prim.Native.Nat.{◌-◌}
 use native.Mathlib.Nat.{le_refl, sub_self}
 use native.Mathlib.Omega.{arith}
 use Rattle.differences.proofs.Walked.{walked_start, walked_further}
@@ -8,7 +7,7 @@ use Rattle.differences.proofs.walk.walk.Goals as goal
 
 pub loop-r-init : goal.loop-r-init
 loop-r-init c =
-        let a = c.args in
+    let a = c.args in
     let f = a.from in (
       le_refl _,
       c.requires.1,

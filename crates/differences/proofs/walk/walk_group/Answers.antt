@@ -15,7 +15,7 @@ take_group-requires c =
 
 pub returns-then-n-eq128 : goal.returns-then-n-eq128
 returns-then-n-eq128 c =
-        let e = c.if-n-eq128.true in
+    let e = c.if-n-eq128.true in
     let t = c.take_group.ensures in
     let w = t.1 (c.args.r + 1) c.requires.1 in
     let p = w.position in
@@ -24,7 +24,7 @@ returns-then-n-eq128 c =
 
 pub returns-then-jumps-eq0 : goal.returns-then-jumps-eq0
 returns-then-jumps-eq0 c =
-        let a = c.args in
+    let a = c.args in
     let x = c.sum_behind-behind.ensures in
     let x1 = x.1 in
     let p = c.requires.1.position in
@@ -35,7 +35,7 @@ returns-then-jumps-eq0 c =
 
 pub returns : goal.returns
 returns c =
-        let a = c.args in
+    let a = c.args in
     let z = c.few_zeros-jumps.ensures in
     let x = c.sum_behind-behind.ensures in
     let t = c.past_jumps.ensures in

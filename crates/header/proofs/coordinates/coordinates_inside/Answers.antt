@@ -25,14 +25,14 @@ pos c =
 
 pub loop-i-init : goal.loop-i-init
 loop-i-init c =
-        let p = c.args.p.0 in
+    let p = c.args.p.0 in
     let h = four (goal.at.loop-i-init c).Start in
     let l : length c.args.d.extents ≤ most_dimensions = omega arith in
     (omega arith, refl, row-end 4 p c.args.d.extents _ l, inside-end 4 p c.args.d.extents _ l, room-end 4 p c.args.d.extents l)
 
 pub loop-i-preserved : goal.loop-i-preserved
 loop-i-preserved c =
-        let l = c.loop-i in
+    let l = c.loop-i in
     let es = c.args.d.extents in
     let k = l.i - 1 in
     let up : l.i ≡ k + 1 = omega arith in
@@ -49,7 +49,7 @@ loop-i-preserved c =
 pub returns : goal.returns
 unfolding coordinates_at
 returns c =
-        let l = c.loop-i in
+    let l = c.loop-i in
     let none : l.i ≡ 0 = omega arith in
     back_end l.rest c.args.p.0 c.args.d.extents l.at (l.invariant.1 ∙ sym (four (goal.at.returns c).Start)) (rw none at l.invariant.2) (rw none at l.invariant.3) (rw none at l.invariant.4) (few (goal.at.returns c).Start)
 

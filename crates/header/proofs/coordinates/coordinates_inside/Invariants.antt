@@ -1,7 +1,7 @@
 -- The loop's invariant: the coordinates found so far lie inside, and with what is left they give the position. Assumes nothing.
 use mathlib.Core.Path.{◌≡◌}
 use mathlib.Core.Bool.{true}
-use Prim.Native.Nat.{◌-◌, ◌*◌, ◌≤◌}
+use Prim.Native.Nat.{◌*◌, ◌≤◌}
 use lib.ListN.{length, drop}
 use Rattle.format.specs.Picture.{product, row_order, inside_extents, most_dimensions}
 use Rattle.header.proofs.coordinates.coordinates_inside.Given as goal

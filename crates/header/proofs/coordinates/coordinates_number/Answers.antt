@@ -12,10 +12,10 @@ returns-then-cells-eq0 c = number_extent c.args.d c.args.p.0 (sym c.cell_count-c
 
 pub returns-then-cells-p : goal.returns-then-cells-p
 returns-then-cells-p c =
-        let n = c.cell_count-cells.ensures.0 in
+    let n = c.cell_count-cells.ensures.0 in
     number-beyond c.args.d c.args.p.0 (some (goal.at.returns-then-cells-p c).Else-cells-eq0) (omega arith)
 
 pub returns : goal.returns
 returns c =
-        let n = c.cell_count-cells.ensures.0 in
+    let n = c.cell_count-cells.ensures.0 in
     number-none c.args.d c.args.p.0 (some (goal.at.returns c).Else-cells-eq0) (omega arith)

@@ -1,6 +1,6 @@
 -- The loop's invariant: the coordinates and extents that are left, from the position so far, give the whole. Assumes nothing.
 use mathlib.Core.Path.{◌≡◌, refl, sym, ◌∙◌}
-use Prim.Native.Nat.{suc, ◌+◌, ◌-◌, ◌*◌, ◌≤◌, ◌<◌}
+use Prim.Native.Nat.{suc, ◌+◌, ◌*◌, ◌≤◌, ◌<◌}
 use native.Mathlib.Omega.{arith}
 use lib.ListN.{length, drop, get_or}
 use borrow.Author.Rules.{rules}
@@ -34,7 +34,7 @@ room : (c : Else-e-a)
     * product (drop (c.loop-i.i + 1) c.args.d.extents)
     ≤ product c.args.d.extents
 room c =
-        let l = c.loop-i in
+    let l = c.loop-i in
     let f : (length c.args.d.extents ≡ most_dimensions) × (length c.args.at ≡ most_dimensions) = (search rules, search rules) in
     room_turn l.i l.p c.args.d.extents c.args.at (omega arith) _ l.invariant.3 (below c)
 
@@ -56,7 +56,7 @@ loop-i-init c = (omega arith, refl, refl, omega arith)
 
 pub returns-then-e-a : goal.returns-then-e-a
 returns-then-e-a c =
-        let l = c.loop-i in
+    let l = c.loop-i in
     let f = four (goal.at.returns-then-e-a c).Start in
     position-beyond c.args.d c.args.at (some (goal.at.returns-then-e-a c).Else-cell_count-eq0) f.1
     (sym l.invariant.2 ∙ inside_stop l.i l.p c.args.d.extents c.args.at (omega arith) (omega arith))
@@ -69,7 +69,7 @@ overflow_add-p c = let n = next c in record { fits = omega arith }
 
 pub loop-i-preserved : goal.loop-i-preserved
 loop-i-preserved c =
-        let l = c.loop-i in
+    let l = c.loop-i in
     let f = four (goal.at.loop-i-preserved c).Start in
     let h : l.i < length c.args.d.extents = omega arith in (
       omega arith,
@@ -80,7 +80,7 @@ loop-i-preserved c =
 
 pub returns : goal.returns
 returns c =
-        let l = c.loop-i in
+    let l = c.loop-i in
     let f = four (goal.at.returns c).Start in
     let h : length c.args.d.extents ≤ l.i = omega arith in
     position-given c.args.d c.args.at (some (goal.at.returns c).Else-cell_count-eq0) f.1 l.p

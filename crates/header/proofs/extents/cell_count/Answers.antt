@@ -1,6 +1,5 @@
 -- The loop's invariant: the product so far, continued over the extents that are left, gives the whole. Assumes nothing.
 use mathlib.Core.Path.{◌≡◌, sym, ap, ◌∙◌}
-use mathlib.Core.Logic.{⊎_elim}
 use Prim.Native.Nat.{ℕ, ◌+◌, ◌-◌, ◌*◌, ◌≤◌}
 use mir.Val.{Fits}
 use mir.Syntax.{w32}
@@ -48,7 +47,7 @@ loop-i-init c =
 
 pub returns-then-e-ne1 : goal.returns-then-e-ne1
 returns-then-e-ne1 c =
-        let f = four (goal.at.returns-then-e-ne1 c).Start in
+    let f = four (goal.at.returns-then-e-ne1 c).Start in
     let none : c.args.d.count - c.loop-i.i ≡ 0 = omega arith in
     (whole (goal.at.returns-then-e-ne1 c).In-loop-i 0 (count-refused _ _ _ _ (omega arith) (past-refused _ _ none c.if-e-ne1.true)), omega arith)
 
@@ -69,7 +68,7 @@ returns-then-cells-gt16777216 c =
 pub loop-i-preserved : goal.loop-i-preserved
 loop-i-preserved c =
     let l = c.loop-i in
-        let e = c.args.d.extents in
+    let e = c.args.d.extents in
     let f = four (goal.at.loop-i-preserved c).Start in
     let m = c.args.d.count in
     let small : l.cells * get_or e l.i 0 ≤ 16777216 = omega arith in
@@ -80,7 +79,7 @@ loop-i-preserved c =
 pub returns : goal.returns
 returns c =
     let l = c.loop-i in
-        let f = four (goal.at.returns c).Start in (
+    let f = four (goal.at.returns c).Start in (
       sym (count-end c.args.d.count l.cells l.i c.args.d.extents (omega arith)) ∙ l.invariant.2
           ∙ count-cells c.args.d (omega arith) (omega arith) f,
       omega arith,

@@ -2,7 +2,7 @@
 use mathlib.Core.Path.{◌≡◌}
 use Prim.Native.Nat.{◌-◌, ◌≤◌}
 use lib.ListN.{drop}
-use Rattle.format.specs.Picture.{cells, most_dimensions}
+use Rattle.format.specs.Picture.{most_dimensions}
 use Rattle.header.specs.CellCount.{count_from}
 use Rattle.header.proofs.extents.cell_count.Given as goal
 

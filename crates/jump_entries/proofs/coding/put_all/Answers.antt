@@ -29,13 +29,13 @@ room c = c.requires.3
 
 pub returns-then-ps-eq0 : goal.returns-then-ps-eq0
 returns-then-ps-eq0 c =
-        let a = c.args in
+    let a = c.args in
     let n = c.if-ps-eq0.true in
     write-end (jumps_coder a.width) a.ps.now a.e a.dst.now a.e a.dst.now 0 (omega arith) (begins (goal.at.returns-then-ps-eq0 c).Start)
 
 pub put_one-at-requires : goal.put_one-at-requires
 put_one-at-requires c =
-        let a = c.args in
+    let a = c.args in
     let n = write-next (jumps_coder a.width) a.ps.now a.e a.dst.now a.e a.dst.now 0 (pos_of_ne-zero c.if-ps-eq0.false) (begins (goal.at.put_one-at-requires c).Start) in
     (n.0, n.1, c.requires.0, c.requires.1)
 

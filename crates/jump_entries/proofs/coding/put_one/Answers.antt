@@ -2,7 +2,6 @@ use Rattle.parts.proofs.Taking.{put_both}
 use Rattle.jump_entries.proofs.Adds.{second-size, adds_jump, adds_none}
 use Rattle.jump_entries.specs.Coding.{difference_at, jumps_coder}
 use mathlib.Core.Path.{◌≡◌, refl, sym, ap, ap₂, ◌∙◌}
-use mathlib.Core.Logic.{⊎_elim}
 use lib.ListN.{length}
 use Rattle.laws.proofs.Bytes.{length-bytes}
 use mathlib.Core.List.{List}
@@ -20,10 +19,13 @@ first-put : (c : Joined-d-eq0)
     → let a = c.args in c.if-d-eq0.dst ≡ put a.dst.now a.e.first ((jumps_coder a.width).first a.e a.p)
 first-put c =
     let a = c.args in
-    elim c.if-d-eq0.branch [ then-d-eq0 w ↦ let t : difference_at a.width a.e a.p ≡ 0 = sym c.difference_at-d.ensures ∙ w.if-d-eq0.true in
-    w.dst-is ∙ w.put_u32.ensures ∙ ap (put a.dst.now a.e.first) (sym (adds_jump a.width a.e a.p t)) | else-d-eq0 w ↦ w.dst-is
-    ∙ sym (put_nil a.dst.now a.e.first)
-    ∙ ap (put a.dst.now a.e.first) (sym (adds_none a.width a.e a.p (λ z. w.if-d-eq0.false (c.difference_at-d.ensures ∙ z)))) ]
+    elim c.if-d-eq0.branch [
+      | then-d-eq0 w ↦ let t : difference_at a.width a.e a.p ≡ 0 = sym c.difference_at-d.ensures ∙ w.if-d-eq0.true in
+          w.dst-is ∙ w.put_u32.ensures ∙ ap (put a.dst.now a.e.first) (sym (adds_jump a.width a.e a.p t))
+      | else-d-eq0 w ↦ w.dst-is
+          ∙ sym (put_nil a.dst.now a.e.first)
+          ∙ ap (put a.dst.now a.e.first) (sym (adds_none a.width a.e a.p (λ z. w.if-d-eq0.false (c.difference_at-d.ensures ∙ z))))
+    ]
 
 pub put_u32-requires : goal.put_u32-requires
 put_u32-requires c =

@@ -31,7 +31,7 @@ overflow_add-least c =
 
 pub returns-then-zeros-eq0 : goal.returns-then-zeros-eq0
 returns-then-zeros-eq0 c =
-        let x = c.sum.ensures in
+    let x = c.sum.ensures in
     group_goes _ _ _ _ _ _ c.requires.0 c.if-i-gt0.true c.if-end-i-eq128.true
     (sym (none-counted _ _ _ _ 128 c.zeros.ensures.0) ∙ eq-eqb _ 0 c.if-zeros-eq0.true) x.0 x.1
 

@@ -30,7 +30,7 @@ overflow_add-result c =
 
 pub returns-then-d-ne0 : goal.returns-then-d-ne0
 returns-then-d-ne0 c =
-        let a = c.args in
+    let a = c.args in
     let m = c.requires.0.least in
     let d = c.difference-d.ensures in
     let d1 = d.1 in
@@ -45,7 +45,7 @@ returns-then-d-ne0 c =
 
 pub returns-then-left-eq0 : goal.returns-then-left-eq0
 returns-then-left-eq0 c =
-        let a = c.args in
+    let a = c.args in
     let m = c.requires.0.least in
     record {
       left = le_refl _;
@@ -64,10 +64,10 @@ get_u32-jump-requires c = let z = c.requires.0 in jump-inside _ (pos_of_ne-zero 
 
 pub returns-then-jump-least : goal.returns-then-jump-least
 returns-then-jump-least c =
-        let a = c.args in
+    let a = c.args in
     let z = c.requires.0 in
     let m = z.least in
-        record {
+    record {
       left = le_refl _;
       least = omega arith;
       same = λ words bound h.
@@ -85,10 +85,10 @@ overflow_add-result-2 c =
 
 pub returns : goal.returns
 returns c =
-        let a = c.args in
+    let a = c.args in
     let z = c.requires.0 in
     let n = reach_most c.requires.1 z.wide in
-        let r = c.get_u32-jump.ensures in
+    let r = c.get_u32-jump.ensures in
     let r1 = r.1 in
     let h = pos_of_ne-zero c.if-left-eq0.false in
     let j = below_jump a.width a.second a.file.now a.k c.difference-d.ensures.0 c.if-d-ne0.false in

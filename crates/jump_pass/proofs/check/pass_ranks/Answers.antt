@@ -1,5 +1,5 @@
 -- A pass over some ranks: two at once, or one. Assumes nothing.
-use Prim.Native.Nat.{◌+◌, ◌-◌}
+use Prim.Native.Nat.{◌+◌}
 use mathlib.Core.Path.{◌≡◌, refl}
 use mathlib.Core.Bool.{true}
 use native.Mathlib.Nat.{pos_of_ne-zero, le_refl}
@@ -11,13 +11,13 @@ use Rattle.jump_pass.proofs.check.pass_ranks.Goals as goal
 
 pub loop-k-init : goal.loop-k-init
 loop-k-init c =
-        let a = c.args in
+    let a = c.args in
     let z = c.requires.0 in
     (le_refl _, z.onward, refl, goes_nowhere a.width a.second a.file.now a.i (record { least = a.s.least; left = a.s.left; right = true }) z.least refl)
 
 pub both_near-two-requires : goal.both_near-two-requires
 both_near-two-requires c =
-        let z = c.requires.0 in
+    let z = c.requires.0 in
     let n = z.inside in
     let r = z.ranks in
     let h = c.loop-k-test.true in
@@ -49,7 +49,7 @@ loop-k-preserved-then-two-ne0 c =
 
 pub pass_rank-t-requires : goal.pass_rank-t-requires
 pass_rank-t-requires c =
-        let a = c.args in
+    let a = c.args in
     let l = c.loop-k in
     let h = c.loop-k-test.true in (
       readable_part c.requires.0 (omega arith) (omega arith) l.invariant.3.left
@@ -82,7 +82,7 @@ loop-k-preserved c =
 
 pub pass_rank-requires : goal.pass_rank-requires
 pass_rank-requires c =
-        let a = c.args in
+    let a = c.args in
     let l = c.loop-k in
     let h = c.if-k-end.true in (
       readable_part c.requires.0 (omega arith) (omega arith) l.invariant.3.left

@@ -1,7 +1,6 @@
 -- A pass over some ranks, group by group. Assumes nothing.
-use Prim.Native.Nat.{◌+◌, ◌-◌, ◌≤◌}
+use Prim.Native.Nat.{◌+◌, ◌≤◌}
 use mathlib.Core.Path.{◌≡◌, refl}
-use mathlib.Core.Bool.{true}
 use native.Mathlib.Omega.{arith}
 use borrow.Author.Tests.{not-true, not-false}
 use Rattle.jump_pass.proofs.Groups.{goes_on, goes_wrong, goes_nowhere, goes_from, readable_part}
@@ -20,7 +19,7 @@ overflow_add-next c = let m = ends c in let r = c.requires.0.ranks in omega arit
 
 pub pass_group-t-requires : goal.pass_group-t-requires
 pass_group-t-requires c =
-        let g = c.loop-k.invariant.2 in
+    let g = c.loop-k.invariant.2 in
     (readable_part c.requires.0 (omega arith) (ends c) g.left g.least, c.requires.1)
 
 pub returns-then-not-t : goal.returns-then-not-t

@@ -25,7 +25,7 @@ there : (c : After-step_to-at)
     Seeks a.file.now a.v a.width a.p a.from.rank a.from.reached t.rank t.reached
 there c ls y =
     let a = c.args in
-        let w = c.walk-far in
+    let w = c.walk-far in
     let i = seeks_passed a.file.now a.v a.width a.from a.p c.step_to-near.result c.step_to-near.ensures.passed ls y in
     let m = w.ensures.most in
     let h = c.requires.2 in
@@ -34,7 +34,7 @@ there c ls y =
 
 pub returns-then-target-near : goal.returns-then-target-near
 returns-then-target-near c =
-            let a = c.args in
+    let a = c.args in
     let t = c.step_to-near.result in
     let m = c.step_to-near.ensures.passed.most in
     found_from a.file.now a.v a.width a.from a.p c.requires.2 t.rank t.reached (near (goal.at.returns-then-target-near c).After-step_to-near) _
@@ -43,7 +43,7 @@ returns-then-target-near c =
 
 pub walk-far-requires : goal.walk-far-requires
 walk-far-requires c =
-        let z = c.requires in
+    let z = c.requires in
     let h = z.2 in
     let y = c.step_to-near.ensures.passed in
     let m = y.most in
@@ -56,7 +56,7 @@ step_to-at-requires c =
 
 pub returns-then-at-target : goal.returns-then-at-target
 returns-then-at-target c =
-            let a = c.args in
+    let a = c.args in
     let t = c.step_to-at.result in
     let h = c.if-at-target.true in
     found_from a.file.now a.v a.width a.from a.p c.requires.2 t.rank t.reached (there (goal.at.returns-then-at-target c).After-step_to-at) _
@@ -70,7 +70,7 @@ overflow_cast-result-2 c =
 
 pub returns : goal.returns
 returns c =
-            let a = c.args in
+    let a = c.args in
     let t = c.step_to-at.result in
     let m = c.step_to-at.ensures.passed.most in
     found_from a.file.now a.v a.width a.from a.p c.requires.2 t.rank t.reached (there (goal.at.returns c).After-step_to-at) _

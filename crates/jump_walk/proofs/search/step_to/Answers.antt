@@ -1,5 +1,5 @@
 -- On from a place rank by rank. Assumes nothing.
-use Rattle.std.proofs.Common.{◌-◌, arith}
+use Rattle.std.proofs.Common.{arith}
 use Rattle.differences.proofs.Walked.{room}
 use Rattle.jump_walk.proofs.Passed.{passed_start, passed-next}
 use Rattle.jump_walk.proofs.Found.{next-below}
@@ -7,7 +7,7 @@ use Rattle.jump_walk.proofs.search.step_to.Goals as goal
 
 pub loop-k-init : goal.loop-k-init
 loop-k-init c =
-        let a = c.args in
+    let a = c.args in
     (passed_start a.file.now a.v a.width a.from a.p c.requires.2 c.requires.4, omega arith, omega arith)
 
 pub returns-then-p-s : goal.returns-then-p-s
@@ -24,7 +24,7 @@ returns-then-r-v c =
 
 pub advance-s-requires : goal.advance-s-requires
 advance-s-requires c =
-        let z = c.requires in
+    let z = c.requires in
     let i = c.loop-k.invariant.0 in
     (room c.args.file.now z.0 z.1 z.3 (omega arith) (next-below i.most c.if-r-v.false), i.within)
 

@@ -1,4 +1,4 @@
-use Rattle.std.proofs.Common.{◌-◌, refl, ◌∙◌, arith, length-set}
+use Rattle.std.proofs.Common.{refl, ◌∙◌, arith, length-set}
 use Rattle.parts.proofs.Batches.{batch_start, batch_turn, batch_end}
 use Rattle.jump_walk.proofs.steps.each.Goals as goal
 

@@ -31,18 +31,18 @@ few : (c : After-walk-place) → c.walk-place.result.reached.taken < 2 ^ 32
 few c =
     let m = c.walk-place.ensures.within.taken in
     let g = gone c in
-        let h = c.if-v-rank.false in
+    let h = c.if-v-rank.false in
     let q : c.args.v.words < 2 ^ 32 = omega arith in
     omega arith
 
 pub walk-place-requires : goal.walk-place-requires
 walk-place-requires c =
-        let n = c.if-rank-c.false in
+    let n = c.if-rank-c.false in
     (room (goal.at.walk-place-requires c).Else-not-all_there, omega arith, record { position = omega arith; taken = n })
 
 pub returns : goal.returns
 returns c =
-                        let a = c.args in
+    let a = c.args in
     let q = small (goal.at.returns c).Else-v-rank in
     leap_over a.file.now a.v a.p a.c 128 (room (goal.at.returns c).Else-not-all_there) c.if-v-rank.false q.0 q.1 c.requires (there (goal.at.returns c).After-walk-place) (few (goal.at.returns c).After-walk-place) c.if-p-at.false
 

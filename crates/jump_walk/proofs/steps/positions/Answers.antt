@@ -15,20 +15,20 @@ two c =
 
 pub along_u8-requires : goal.along_u8-requires
 along_u8-requires c =
-        rw c.if-v-eq1.true at (c.all_there.ensures (c.if-not-all_there.false))
+    rw c.if-v-eq1.true at (c.all_there.ensures (c.if-not-all_there.false))
 
 pub returns-then-v-eq1 : goal.returns-then-v-eq1
 returns-then-v-eq1 c =
-        let a = c.args in
+    let a = c.args in
     rw (← next-at a.file.now a.v c.if-v-eq1.true (omega arith) (omega arith))
     (filled_batch (next_at 1 a.v.start a.v.second a.file.now) a.c a.out.now c.along_u8.ensures)
 
 pub along_u16-requires : goal.along_u16-requires
 along_u16-requires c =
-        rw (two (goal.at.along_u16-requires c).Else-v-eq1) at (c.all_there.ensures (c.if-not-all_there.false))
+    rw (two (goal.at.along_u16-requires c).Else-v-eq1) at (c.all_there.ensures (c.if-not-all_there.false))
 
 pub returns : goal.returns
 returns c =
-        let a = c.args in
+    let a = c.args in
     rw (← next-at a.file.now a.v (two (goal.at.returns c).Else-v-eq1) (omega arith) (omega arith))
     (filled_batch (next_at 2 a.v.start a.v.second a.file.now) a.c a.out.now c.along_u16.ensures)

@@ -1,5 +1,5 @@
 -- What is left of the walk gives the whole, and the ranks ahead fall. Assumes nothing.
-use Rattle.std.proofs.Common.{◌-◌, refl, ◌∙◌, arith}
+use Rattle.std.proofs.Common.{refl, ◌∙◌, arith}
 use Rattle.parts.proofs.Sought.{sought-end, sought-there}
 use Rattle.jump_walk.specs.Steps.{next}
 use Rattle.jump_walk.proofs.steps.seek.Goals as goal

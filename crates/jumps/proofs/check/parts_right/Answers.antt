@@ -18,7 +18,7 @@ split : (c : After-starts_right)
     → let a = c.args in
     (t : Bool) → c.starts_right.result ≡ t → parts_right (jumps_kind a.v.width a.v.step) a.file.now a.v ≡ both t (passes_from a.v a.file.now 0 0 0)
 split c t e =
-        let s = below_elements 256 c.args.file.now (λ i. (c.type_inv.file i).fits) in
+    let s = below_elements 256 c.args.file.now (λ i. (c.type_inv.file i).fits) in
     parts_split c.args.file.now c.args.v s c.requires t (sym e ∙ c.starts_right.ensures)
 
 pub starts_right-requires : goal.starts_right-requires

@@ -5,7 +5,7 @@ use Rattle.jumps.proofs.coding.put_all.Goals as goal
 pub put_all-requires : goal.put_all-requires
 unfolding coder
 put_all-requires c =
-        let w = widths c.args.width c.args.step c.requires.0 in
+    let w = widths c.args.width c.args.step c.requires.0 in
     (w.0, w.1, c.requires.1, c.requires.2)
 
 pub returns : goal.returns

@@ -4,7 +4,7 @@ use Rattle.jumps.proofs.coding.take_all.Goals as goal
 
 pub take_all-requires : goal.take_all-requires
 take_all-requires c =
-        let w = widths c.args.width c.args.step c.requires.0 in
+    let w = widths c.args.width c.args.step c.requires.0 in
     (w.0, w.1, c.requires.1)
 
 pub returns : goal.returns

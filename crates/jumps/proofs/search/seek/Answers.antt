@@ -26,5 +26,5 @@ seek_from-requires c =
 
 pub returns : goal.returns
 returns c =
-        let f = c.first_place in
+    let f = c.first_place in
     found_first c.args.file.now c.args.v c.args.width c.requires.2 f.result c.args.p _ f.ensures.0 f.ensures.1 c.seek_from.ensures

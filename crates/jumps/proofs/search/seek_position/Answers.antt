@@ -17,13 +17,13 @@ returns-then-file-second c = position-short c.args.file.now c.args.v c.args.widt
 
 pub walk-place-requires : goal.walk-place-requires
 walk-place-requires c =
-        let f = c.first_place.ensures in
+    let f = c.first_place.ensures in
     let n = f.0 in
     (room c.args.file.now c.requires.0 c.requires.1 c.if-file-second.false (omega arith) c.requires.2, omega arith, rw n f.2)
 
 pub returns : goal.returns
 returns c =
-        let f = c.first_place in
+    let f = c.first_place in
     let z = c.walk-place.ensures in
     position-found c.args.file.now c.args.v c.args.width c.requires.3 f.result c.args.rank _ _ f.ensures.0 f.ensures.1 c.requires.2 z
     (z.all (omega arith))

@@ -1,5 +1,4 @@
 use mathlib.Core.Path.{refl, ◌∙◌}
-use mathlib.Core.Logic.{⊎_elim}
 use native.Mathlib.Nat.{mul-le-mul_right}
 use native.Mathlib.Omega.{arith}
 use borrow.Author.Tests.{le-leb, lt-leb}
@@ -10,7 +9,7 @@ use Rattle.jumps.proofs.setting.part_bytes.Goals.{else-v, then-v}
 
 pub overflow_mul-result-2 : goal.overflow_mul-result-2
 overflow_mul-result-2 c =
-        let m = mul-le-mul_right c.args.v.seconds (widths c.args.v.width c.args.v.step c.requires.0).1 in
+    let m = mul-le-mul_right c.args.v.seconds (widths c.args.v.width c.args.v.step c.requires.0).1 in
     record { fits = omega arith }
 
 pub returns : goal.returns

@@ -73,7 +73,7 @@ compare-s-requires c = let l = c.requires.low in omega arith
 
 pub loop-i-preserved : goal.loop-i-preserved
 loop-i-preserved c =
-        let o = c.loop-i in
+    let o = c.loop-i in
     let a = c.args in
     let p = c.requires in
     let n = length-entries a.start a.file.now in

@@ -53,7 +53,7 @@ level_right-requires c =
 
 pub returns-then-not-level_right : goal.returns-then-not-level_right
 returns-then-not-level_right c =
-        let a = c.args in
+    let a = c.args in
     let p = c.requires in
     let e = c.index-page.ensures.0 in
     let o = c.loop-under in
@@ -70,14 +70,14 @@ returns-then-not-level_right c =
 
 pub loop-under-smaller : goal.loop-under-smaller
 loop-under-smaller c =
-        let e = c.index-page.ensures.0 in
+    let e = c.index-page.ensures.0 in
     let l = c.requires.low in
     let t = rw e at c.loop-under-test.true in
     rw e (omega (arith, up_to_half c.loop-under.under c.args.v.step l))
 
 pub loop-under-preserved : goal.loop-under-preserved
 loop-under-preserved c =
-        let a = c.args in
+    let a = c.args in
     let p = c.requires in
     let e = c.index-page.ensures.0 in
     let o = c.loop-under in
@@ -90,7 +90,7 @@ loop-under-preserved c =
 
 pub returns : goal.returns
 returns c =
-        let a = c.args in
+    let a = c.args in
     let p = c.requires in
     let e = c.index-page.ensures.0 in
     let i = c.loop-under.invariant in

@@ -41,7 +41,7 @@ add-s-requires c =
 
 pub loop-rest-preserved : goal.loop-rest-preserved
 loop-rest-preserved c =
-            let a = c.args in
+    let a = c.args in
     let l = c.loop-rest in
     let t = c.loop-rest-test.true in
     let h = c.requires.0.step-least in

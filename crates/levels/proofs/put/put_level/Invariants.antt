@@ -1,4 +1,3 @@
-use Prim.Native.Nat.{◌-◌}
 use Rattle.levels.proofs.Filling.{Filling}
 use Rattle.levels.proofs.put.put_level.Given as goal
 

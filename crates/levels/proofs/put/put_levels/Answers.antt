@@ -35,7 +35,7 @@ put_level-requires c =
 
 pub loop-under-smaller : goal.loop-under-smaller
 loop-under-smaller c =
-        let a = c.args in
+    let a = c.args in
     let e = c.index-page.ensures.0 in
     let l = c.loop-under in
     let t = rw e at c.loop-under-test.true in
@@ -43,7 +43,7 @@ loop-under-smaller c =
 
 pub loop-under-preserved : goal.loop-under-preserved
 loop-under-preserved c =
-        let a = c.args in
+    let a = c.args in
     let e = c.index-page.ensures.0 in
     let l = c.loop-under in
     let t = rw e at c.loop-under-test.true in

@@ -1,4 +1,3 @@
-use Prim.Native.Nat.{◌-◌}
 use mathlib.Core.Path.{◌≡◌}
 use Rattle.levels.specs.LevelZero.{LevelZero}
 use Rattle.levels.proofs.Climbing.{with_upper}

@@ -1,4 +1,4 @@
-use Rattle.std.proofs.Common.{◌-◌, length, sym, refl, ap, ◌∙◌, arith, rules}
+use Rattle.std.proofs.Common.{length, sym, refl, ap, ◌∙◌, arith, rules}
 use Rattle.laws.proofs.Positions.{rising-at}
 use Rattle.stores.proofs.Laws.{length-put}
 use Rattle.offsets.proofs.Putting.{over_start, over_turn, over-end}
@@ -9,7 +9,7 @@ loop-i-init c = let a = c.args in (omega arith, refl, over_start 2 a.dst.now a.a
 
 pub overflow_sub-ps : goal.overflow_sub-ps
 overflow_sub-ps c =
-        let h = rising-at c.args.base 16777216 c.args.ps.now c.loop-i.i c.requires.0 c.loop-i-test.true in
+    let h = rising-at c.args.base 16777216 c.args.ps.now c.loop-i.i c.requires.0 c.loop-i-test.true in
     search rules
 
 pub loop-i-preserved : goal.loop-i-preserved

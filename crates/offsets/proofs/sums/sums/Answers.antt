@@ -15,7 +15,7 @@ sums_u8-requires c =
 
 pub sums_u16-requires : goal.sums_u16-requires
 sums_u16-requires c =
-        let l = rw (wide (goal.at.sums_u16-requires c).Start c.if-width-eq1.false) at c.requires.long in
+    let l = rw (wide (goal.at.sums_u16-requires c).Start c.if-width-eq1.false) at c.requires.long in
     omega arith
 
 pub returns-then-width-eq1 : goal.returns-then-width-eq1
@@ -27,4 +27,4 @@ returns-then-width-eq1 c =
 
 pub returns-else-width-eq1 : goal.returns-else-width-eq1
 returns-else-width-eq1 c =
-        rw (wide (goal.at.returns-else-width-eq1 c).Start c.if-width-eq1.false) c.sums_u16.ensures
+    rw (wide (goal.at.returns-else-width-eq1 c).Start c.if-width-eq1.false) c.sums_u16.ensures

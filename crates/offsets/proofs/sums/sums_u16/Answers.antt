@@ -1,4 +1,4 @@
-use Rattle.std.proofs.Common.{◌-◌, length, sym, refl, ◌∙◌, arith, length-set}
+use Rattle.std.proofs.Common.{length, sym, refl, ◌∙◌, arith, length-set}
 use Rattle.wire.specs.Wire.{add32}
 use Rattle.offsets.proofs.Summing.{sums_start, sums_turn, sums-end}
 use Rattle.offsets.proofs.sums.sums_u16.Goals as goal

@@ -1,4 +1,3 @@
-use Prim.Native.Nat.{◌-◌}
 use native.Mathlib.Omega.{arith}
 use Rattle.parts.proofs.Taken.{write_begin, write-next, write_turn, write-end}
 use Rattle.page_entries.specs.Coding.{pages_coder}
@@ -7,12 +6,12 @@ use Rattle.page_entries.proofs.batch.put_each.Goals as goal
 
 pub loop-i-init : goal.loop-i-init
 loop-i-init c =
-        let a = c.args in
+    let a = c.args in
     write_begin (pages_coder a.step) a.ps.now a.e a.dst.now c.requires.1 c.requires.2
 
 pub pages_put-at-requires : goal.pages_put-at-requires
 pages_put-at-requires c =
-        let a = c.args in
+    let a = c.args in
     let l = c.loop-i in
     let n = write-next (pages_coder a.step) a.ps.now a.e a.dst.now l.at l.dst l.i c.loop-i-test.true l.invariant in
     (n.0, n.1, c.requires.0)

@@ -14,7 +14,7 @@ use Rattle.page_entries.proofs.batch.put_ends.Goals as goal
 
 pub loop-t-init : goal.loop-t-init
 loop-t-init c =
-        let a = c.args in
+    let a = c.args in
     let f = c.requires in
     record {
       writing = write_begin (pages_coder a.step) a.ps.now a.e a.dst.now f.3 f.4;
@@ -54,7 +54,7 @@ grow-requires c =
 
 pub put_entry-at-requires : goal.put_entry-at-requires
 put_entry-at-requires c =
-        let a = c.args in
+    let a = c.args in
     let l = c.loop-t in
     let h = here (goal.at.put_entry-at-requires c).In-loop-t in
     let n = write-next (pages_coder a.step) a.ps.now a.e a.dst.now _ l.dst _ h.high h.writing in

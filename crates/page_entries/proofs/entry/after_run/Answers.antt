@@ -1,5 +1,4 @@
 use mathlib.Core.Path.{sym, ◌∙◌}
-use mathlib.Core.Logic.{⊎_elim}
 use Rattle.parts.proofs.Taking.{if_zero_lem, if_more}
 use Rattle.page_entries.proofs.OneEntry.{pages_turn}
 use Rattle.page_entries.proofs.entry.after_run.Goals as goal
@@ -7,7 +6,7 @@ use Rattle.page_entries.proofs.entry.after_run.Goals.{else-left-eq0, then-left-e
 
 pub returns : goal.returns
 returns c =
-            let a = c.args in
+    let a = c.args in
     let i = c.if-left-eq0 in
     let l = c.left_after-left in
     let turn = pages_turn a.step a.e a.p l.result i.cells i.empty c.requires.2 l.ensures in

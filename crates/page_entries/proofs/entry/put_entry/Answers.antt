@@ -8,7 +8,7 @@ use Rattle.page_entries.proofs.entry.put_entry.Goals as goal
 
 pub put_pair-requires : goal.put_pair-requires
 put_pair-requires c =
-        let a = c.args in
+    let a = c.args in
     let n : length ((pages_coder a.step).second a.e a.p) ≡ 8 = ap length (pages_entry a.step a.e a.p c.requires.3) ∙ length_entry a.e in
     let r = c.requires.1.second in
     omega arith
@@ -16,7 +16,7 @@ put_pair-requires c =
 pub returns : goal.returns
 unfolding page_entry pages_coder
 returns c =
-        let a = c.args in
+    let a = c.args in
     let e = a.e in (
       c.after_run.ensures,
       c.put_pair.ensures ∙ put_second (pages_coder a.step) a.dst.now e a.p (page_entry e) refl (pages_entry a.step e a.p c.requires.3),

@@ -5,5 +5,5 @@ use Rattle.page_walk.proofs.check.past_page.Goals as goal
 -- `past_page` meets its contract. Assumes nothing.
 pub returns : goal.returns
 returns c =
-        let a = c.args in
+    let a = c.args in
     past_path a.s a.x a.y _ c.fall.ensures.0

@@ -8,7 +8,7 @@ returns-then-left-eq0 c = going_none _ _ c.requires c.if-left-eq0.true
 
 pub loop-left-init : goal.loop-left-init
 loop-left-init c =
-        let n = c.if-left-eq0.false in
+    let n = c.if-left-eq0.false in
     let p = c.pair_falls-falls.ensures in
     going_first _ _ c.requires _ _ (omega arith) c.get_pair-first.ensures.0 p.0 p.1
 
@@ -21,4 +21,4 @@ loop-left-preserved c =
 
 pub returns : goal.returns
 returns c =
-        going_done _ _ _ _ _ _ _ _ _ _ c.loop-left.invariant c.get_pair-last.result c.loop-left-test.false c.get_pair-last.ensures.0
+    going_done _ _ _ _ _ _ _ _ _ _ c.loop-left.invariant c.get_pair-last.result c.loop-left-test.false c.get_pair-last.ensures.0

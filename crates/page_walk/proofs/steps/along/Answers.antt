@@ -1,5 +1,5 @@
 -- `along` meets its contract. Each turn fills the cells of a run, steps past it, and goes along the page. Assumes nothing.
-use Rattle.std.proofs.Common.{◌+◌, ◌-◌, arith}
+use Rattle.std.proofs.Common.{◌+◌, arith}
 use Rattle.page_walk.specs.Steps.{next_in, next, Filled}
 use Rattle.page_walk.proofs.Walk.{in_along}
 use Rattle.page_walk.proofs.Pages.{filled_none, filled-then, filled-run, filled-all, still_there}
@@ -19,7 +19,7 @@ pub past_there-c-requires : goal.past_there-c-requires
 past_there-c-requires c =
     let z = c.fill_run-m.ensures in
     let inside = z.inside in
-            let p = c.requires in
+    let p = c.requires in
     let size = c.loop-i.invariant.size in
     let test = c.loop-i-test.true in
     (omega arith, omega (arith, still_there _ _ _ _ c.loop-i.c 0 c.loop-i.i _ _ (omega arith) c.loop-i.invariant))
@@ -29,7 +29,7 @@ overflow_add-i c = let room = c.fill_run-m.ensures.room in omega arith
 
 -- past a run
 run : (c : After-past_there-c)
-    →     let a = c.args in
+    → let a = c.args in
     let t = c.fill_run-m in
     Filled (next_in a.file.now a.v.second a.v.step) a.c 0 (c.loop-i.i + t.result) a.out.now c.past_there-c.result t.new.out
 unfolding next
@@ -40,7 +40,7 @@ run c =
 
 pub along_page-s-requires : goal.along_page-s-requires
 along_page-s-requires c =
-        let f = run (goal.at.along_page-s-requires c).After-past_there-c in
+    let f = run (goal.at.along_page-s-requires c).After-past_there-c in
     let room = f.high in
     let size = f.size in
     let p = c.requires in
@@ -48,7 +48,7 @@ along_page-s-requires c =
 
 pub loop-i-smaller : goal.loop-i-smaller
 loop-i-smaller c =
-            let f = run (goal.at.loop-i-smaller c).After-past_there-c in
+    let f = run (goal.at.loop-i-smaller c).After-past_there-c in
     let z = c.fill_run-m.ensures in
     let one = z.some in
     let room = f.high in
@@ -57,7 +57,7 @@ loop-i-smaller c =
 
 pub loop-i-preserved : goal.loop-i-preserved
 loop-i-preserved c =
-        filled-then _ _ _ _ _ _ _ _ _ _ (run (goal.at.loop-i-preserved c).After-past_there-c) c.along_page-s.ensures
+    filled-then _ _ _ _ _ _ _ _ _ _ (run (goal.at.loop-i-preserved c).After-past_there-c) c.along_page-s.ensures
 
 pub returns : goal.returns
 unfolding next

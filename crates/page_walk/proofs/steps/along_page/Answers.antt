@@ -46,8 +46,8 @@ loop-i-smaller-then-at-c c = fewer (goal.at.loop-i-smaller-then-at-c c).After-fi
 pub loop-i-preserved-then-at-c : goal.loop-i-preserved-then-at-c
 unfolding add32
 loop-i-preserved-then-at-c c =
-            let t = c.fill_run-m in
-        let l = c.loop-i in
+    let t = c.fill_run-m in
+    let l = c.loop-i in
     let z = t.ensures in
     let one = z.some in
     let inside = z.inside in
@@ -60,7 +60,7 @@ loop-i-preserved-then-at-c c =
 -- the next entry is in the file
 pub get_pair-x-requires : goal.get_pair-x-requires
 get_pair-x-requires c =
-                let size = c.loop-i.invariant.size in
+    let size = c.loop-i.invariant.size in
     let test = c.loop-i-test.true in
     omega (arith, still_there _ _ _ _ c.loop-i.c _ _ _ _ c.requires.1 c.loop-i.invariant)
 
@@ -69,7 +69,7 @@ overflow_add-second c = let h = get_pair-x-requires c in omega arith
 
 pub overflow_add-c-else-at-c : goal.overflow_add-c-else-at-c
 overflow_add-c-else-at-c c =
-        omega (arith, c.if-step-c.false, c.ranges.step)
+    omega (arith, c.if-step-c.false, c.ranges.step)
 
 pub loop-i-smaller : goal.loop-i-smaller
 loop-i-smaller c = fewer (goal.at.loop-i-smaller c).After-fill_run-m
@@ -77,8 +77,8 @@ loop-i-smaller c = fewer (goal.at.loop-i-smaller c).After-fill_run-m
 pub loop-i-preserved : goal.loop-i-preserved
 unfolding add32
 loop-i-preserved c =
-                let t = c.fill_run-m in
-            let l = c.loop-i in
+    let t = c.fill_run-m in
+    let l = c.loop-i in
     let z = t.ensures in
     let one = z.some in
     let inside = z.inside in

@@ -13,7 +13,7 @@ returns-then-e-eq0 c =
 pub put_pair-requires : goal.put_pair-requires
 unfolding coder
 put_pair-requires c =
-            let a = c.args in
+    let a = c.args in
     let n : length ((pages_coder a.step).end_second a.e) ≡ 8 = ap length (end_entry a.step a.e c.if-e-eq0.false) ∙ length_entry a.e in
     let r = c.requires.2 in
     omega arith
@@ -21,5 +21,5 @@ put_pair-requires c =
 pub returns : goal.returns
 unfolding coder page_entry
 returns c =
-        let a = c.args in
+    let a = c.args in
     c.put_pair.ensures ∙ end-put a.step a.e a.dst.now (page_entry a.e) (end_entry a.step a.e c.if-e-eq0.false)

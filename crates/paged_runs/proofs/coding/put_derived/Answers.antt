@@ -7,7 +7,7 @@ use Rattle.paged_runs.proofs.coding.put_derived.Goals as goal
 pub put_levels-requires : goal.put_levels-requires
 unfolding coder
 put_levels-requires c =
-        let a = c.args in
+    let a = c.args in
     let p = c.requires in
     let t = p.2 in
     level_out a.width a.step p.0 t.bound t.positions t.most t.rising a.z t.sizes t.before a.start t.room a.dst.now

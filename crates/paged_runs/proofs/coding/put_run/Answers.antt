@@ -8,7 +8,7 @@ use Rattle.paged_runs.proofs.coding.put_run.Goals as goal
 pub pages_put-requires : goal.pages_put-requires
 unfolding coder
 pages_put-requires c =
-        let a = c.args in
+    let a = c.args in
     let s = (page-step a.width a.step c.requires.0).0 in (
       record { sound = c.requires.2; above = c.requires.3; below = omega arith },
       room-range (pages_coder a.step) a.e a.p a.n c.requires.1 (length a.dst.now) c.requires.5,
@@ -17,13 +17,13 @@ pages_put-requires c =
 
 pub grow-requires : goal.grow-requires
 grow-requires c =
-        let a = c.args in
+    let a = c.args in
     rw c.pages_put.ensures.0 (grow_fits (pages_coder a.step) a.e a.p a.n c.requires.1 c.requires.2 c.requires.3 c.requires.4)
 
 pub returns : goal.returns
 unfolding coder
 returns c =
-        let a = c.args in
+    let a = c.args in
     let k = pages_coder a.step in
     let o = c.pages_put.ensures in
     let one = c.requires.1 in (

@@ -5,7 +5,7 @@ use Rattle.paged_runs.proofs.coding.sizes.Goals as goal
 
 pub upper_count-upper-requires : goal.upper_count-upper-requires
 upper_count-upper-requires c =
-        let s = page-step c.args.width c.args.step c.requires.0 in
+    let s = page-step c.args.width c.args.step c.requires.0 in
     let m = c.requires.3 in
     (s.0, s.1, omega arith)
 

@@ -1,4 +1,4 @@
-use Rattle.std.proofs.Common.{◌-◌, arith}
+use Rattle.std.proofs.Common.{arith}
 use Rattle.parts.proofs.Taken.{measure_begin, measure_next, measure_turn, measure_end}
 use Rattle.page_entries.specs.Coding.{pages_coder, coder}
 use Rattle.page_walk.proofs.Allowed.{page-step}
@@ -7,12 +7,12 @@ use Rattle.paged_runs.proofs.coding.take_all.Goals as goal
 
 pub loop-i-init : goal.loop-i-init
 loop-i-init c =
-        let a = c.args in
+    let a = c.args in
     measure_begin (pages_coder a.step) a.ps.now a.e c.requires.1
 
 pub pages_taken-at-requires : goal.pages_taken-at-requires
 pages_taken-at-requires c =
-        let a = c.args in
+    let a = c.args in
     let l = c.loop-i in
     let s = (page-step a.width a.step c.requires.0).0 in
     (measure_next (pages_coder a.step) a.ps.now a.e l.at l.i c.loop-i-test.true l.invariant, omega arith)

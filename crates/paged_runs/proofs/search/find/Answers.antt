@@ -1,5 +1,5 @@
 -- `find` meets its contract. Assumes nothing.
-use Rattle.std.proofs.Common.{◌≡◌, ◌-◌, ◌/◌, ⊎_elim, arith, eq-eqb, ne_eqb}
+use Rattle.std.proofs.Common.{◌≡◌, ◌-◌, ◌/◌, arith, eq-eqb, ne_eqb}
 use Rattle.laws.proofs.Tools.{and_both}
 use Rattle.descent.specs.Descent.{nowhere}
 use Rattle.paged_runs.proofs.Finding.{found_in}
@@ -15,8 +15,8 @@ returns-then-found c =
 
 pub returns : goal.returns
 returns c =
-        let s = c.search-found in
-        let a = c.args in
+    let s = c.search-found in
+    let a = c.args in
     let n = c.long-cells.ensures.0 in
     let e : c.if-empty-cells.below ≡ a.p.0 - s.result / 2 = elim c.if-empty-cells.branch [ then-empty-cells w ↦ omega (arith, w.if-empty-cells.true, w.below-is) | else-empty-cells w ↦ omega (arith, w.if-empty-cells.false, w.below-is) ] in
     rw (and_both, e)

@@ -6,7 +6,7 @@ use Rattle.paged_runs.proofs.steps.past.Goals as goal
 
 pub returns : goal.returns
 returns c =
-        let a = c.args in
+    let a = c.args in
     let h = c.requires in
     let g = c.well_formed.1.1.0 in
     c.next.ensures

@@ -1,4 +1,4 @@
-use Rattle.std.proofs.Common.{◌-◌, refl, ◌∙◌, arith}
+use Rattle.std.proofs.Common.{refl, ◌∙◌, arith}
 use Rattle.parts.proofs.Batches.{batch_start, batch_end}
 use Rattle.parts.proofs.Fills.{stretch_turn}
 use Rattle.page_walk.proofs.Walk.{next-along}

@@ -1,4 +1,4 @@
-use Rattle.std.proofs.Common.{◌≡◌, ◌+◌, ◌-◌, ◌*◌, ◌≤◌, leb, length, sym, ◌∙◌, mul-le-mul_left, arith}
+use Rattle.std.proofs.Common.{◌≡◌, ◌+◌, ◌*◌, ◌≤◌, leb, length, sym, ◌∙◌, mul-le-mul_left, arith}
 use Rattle.wire.specs.Wire.{whole}
 use Rattle.wire.proofs.Laws.{whole-there}
 use Rattle.parts.proofs.Last.{passing-none, passing-next}

@@ -1,4 +1,4 @@
-use Rattle.std.proofs.Common.{◌≡◌, ◌-◌, arith}
+use Rattle.std.proofs.Common.{◌≡◌, arith}
 use Rattle.wire.specs.Wire.{add32}
 use Rattle.parts.proofs.Fills.{fill_start, fill_turn}
 use Rattle.parts.proofs.walk.fill_from.Goals as goal

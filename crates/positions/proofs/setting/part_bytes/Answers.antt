@@ -1,4 +1,4 @@
-use Rattle.std.proofs.Common.{refl, ⊎_elim, arith, eq-eqb, ne_eqb}
+use Rattle.std.proofs.Common.{refl, arith, eq-eqb, ne_eqb}
 use Rattle.format.specs.Positions.{positions_kind}
 use Rattle.positions.proofs.setting.part_bytes.Goals as goal
 use Rattle.positions.proofs.setting.part_bytes.Goals.{else-v, then-v}

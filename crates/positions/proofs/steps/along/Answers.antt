@@ -1,11 +1,11 @@
-use Rattle.std.proofs.Common.{◌≡◌, ◌-◌, ◌<◌, length, refl, ◌∙◌, le_refl, arith, length-set, rules}
+use Rattle.std.proofs.Common.{◌≡◌, ◌<◌, length, refl, ◌∙◌, le_refl, arith, length-set, rules}
 use Rattle.parts.proofs.Batches.{batch_start, batch_end}
 use Rattle.positions.proofs.Ahead.{ahead_start, ahead_turn, ahead-end}
 use Rattle.positions.proofs.steps.along.Goals as goal
 
 pub loop-i-init : goal.loop-i-init
 loop-i-init c =
-        let a = c.args in
+    let a = c.args in
     let h : 0 < length a.out.now = search rules in
     (omega arith, h, length-set a.out.now 0 a.c.at, ahead_start a.file.now a.v a.c _ c.requires a.out.now h refl)
 
@@ -17,7 +17,7 @@ get_u32-requires c =
 
 pub loop-i-preserved : goal.loop-i-preserved
 loop-i-preserved c =
-        let a = c.args in
+    let a = c.args in
     let l = c.loop-i in
     let h = c.loop-i-test.true in
     let e = l.invariant.2 in (
@@ -32,7 +32,7 @@ get_u32-requires-2 c = let long = c.requires.long in omega arith
 
 pub returns : goal.returns
 returns c =
-        let a = c.args in
+    let a = c.args in
     let l = c.loop-i in
     let h = c.loop-i-test.false in
     let i = l.invariant.1 in

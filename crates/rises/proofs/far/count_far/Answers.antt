@@ -6,12 +6,12 @@ use Rattle.rises.proofs.far.count_far.Goals as goal
 
 pub apart-count-requires : goal.apart-count-requires
 apart-count-requires c =
-        let l = c.loop-i in
+    let l = c.loop-i in
     rising_le 0 16777216 c.args.ps.now (l.i - 1) l.i c.requires (omega arith) c.loop-i-test.true
 
 pub overflow_add-count : goal.overflow_add-count
 overflow_add-count c =
-        let n = rising-length 0 16777216 c.args.ps.now (omega arith) c.requires in
+    let n = rising-length 0 16777216 c.args.ps.now (omega arith) c.requires in
     let m = c.apart-count.ensures.1 in
     record { fits = omega arith }
 

@@ -9,7 +9,7 @@ loop-i-init c = let a = c.args in (omega arith, omega arith, omega arith, refl, 
 
 pub overflow_cast-out : goal.overflow_cast-out
 overflow_cast-out c =
-        let n = rising-length 0 16777216 c.args.ps.now (omega arith) c.requires.0 in
+    let n = rising-length 0 16777216 c.args.ps.now (omega arith) c.requires.0 in
     record { fits = omega arith }
 
 pub bounds-out-listed : goal.bounds-out-listed
@@ -17,12 +17,12 @@ bounds-out-listed c = omega arith
 
 pub apart-requires : goal.apart-requires
 apart-requires c =
-        let l = c.loop-i in
+    let l = c.loop-i in
     rising_le 0 16777216 c.args.ps.now (l.i - 1) l.i c.requires.0 (omega arith) c.loop-i-test.true
 
 pub overflow_add-listed : goal.overflow_add-listed
 overflow_add-listed c =
-        let n = rising-length 0 16777216 c.args.ps.now (omega arith) c.requires.0 in
+    let n = rising-length 0 16777216 c.args.ps.now (omega arith) c.requires.0 in
     let m = c.apart.ensures.1 in
     record { fits = omega arith }
 

@@ -1,4 +1,4 @@
-use Rattle.std.proofs.Common.{◌≡◌, ◌-◌, sym, refl, arith, rules}
+use Rattle.std.proofs.Common.{◌≡◌, sym, refl, arith, rules}
 use Rattle.rises.proofs.Copied.{copied_on, copied_none}
 use Rattle.rises.proofs.pairs.copy_pairs.Goals as goal
 

@@ -15,20 +15,20 @@ use Rattle.run_pairs.proofs.batch.put_all.Goals as goal
 -- of no positions
 pub returns-then-n-eq0 : goal.returns-then-n-eq0
 returns-then-n-eq0 c =
-        let z = c.if-n-eq0.true in
+    let z = c.if-n-eq0.true in
     write-end runs_coder c.args.ps.now c.args.e c.args.dst.now c.args.e c.args.dst.now 0 (omega arith)
     (write_begin runs_coder c.args.ps.now c.args.e c.args.dst.now c.requires.0 c.requires.1)
 
 pub put_one-at-requires : goal.put_one-at-requires
 put_one-at-requires c =
-        let z = c.if-n-eq0.false in
+    let z = c.if-n-eq0.false in
     let n = write-next runs_coder c.args.ps.now c.args.e c.args.dst.now c.args.e c.args.dst.now 0 (omega arith)
     (write_begin runs_coder c.args.ps.now c.args.e c.args.dst.now c.requires.0 c.requires.1) in
     (n.0, n.1)
 
 pub put_ends-ends-requires : goal.put_ends-ends-requires
 put_ends-ends-requires c =
-        let o = c.put_one-at in
+    let o = c.put_one-at in
     let z = c.if-n-eq0.false in
     let l = c.if-n-gt-BATCH.false in
     let m = c.requires.0.sound.empty-most in
@@ -38,14 +38,14 @@ put_ends-ends-requires c =
 
 pub further-requires : goal.further-requires
 further-requires c =
-        let o = c.put_one-at in
+    let o = c.put_one-at in
     let k = c.put_ends-ends.ensures.1 in
     let f = further-fits c.args.e c.args.ps.now c.if-n-eq0.false c.requires.0 o.result o.ensures.0 in
     (f.0, f.1, omega arith)
 
 pub returns : goal.returns
 returns c =
-        let o = c.put_one-at in
+    let o = c.put_one-at in
     let k = c.put_ends-ends.ensures in
     let z = c.if-n-eq0.false in (
       c.further.ensures ∙ taken-far c.args.e c.args.ps.now z c.requires.0 o.result o.ensures.0 _ k.0,

@@ -1,5 +1,4 @@
 -- `run_pairs::batch::put_each` meets its contract. Assumes nothing.
-use Prim.Native.Nat.{◌-◌}
 use native.Mathlib.Omega.{arith}
 use Rattle.parts.proofs.Taken.{write_begin, write-next, write_turn, write-end}
 use Rattle.run_pairs.specs.Coding.{runs_coder}
@@ -8,7 +7,7 @@ use Rattle.run_pairs.proofs.batch.put_each.Goals as goal
 
 pub loop-i-init : goal.loop-i-init
 loop-i-init c =
-        write_begin runs_coder c.args.ps.now c.args.e c.args.dst.now c.requires.0 c.requires.1
+    write_begin runs_coder c.args.ps.now c.args.e c.args.dst.now c.requires.0 c.requires.1
 
 pub put_one-at-requires : goal.put_one-at-requires
 put_one-at-requires c =

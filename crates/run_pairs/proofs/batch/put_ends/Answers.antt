@@ -16,7 +16,7 @@ use Rattle.run_pairs.proofs.batch.put_ends.Goals as goal
 -- `run_pairs::batch::put_ends` meets its contract. Assumes nothing.
 pub list_ends-n-requires : goal.list_ends-n-requires
 list_ends-n-requires c =
-        (rising_weaken 0 c.args.rank 16777216 c.args.ps.now (omega arith) c.requires.2, c.requires.1)
+    (rising_weaken 0 c.args.rank 16777216 c.args.ps.now (omega arith) c.requires.2, c.requires.1)
 
 -- the ends fill as many elements of the array as were listed
 listed : (c : After-list_ends-n) → length (take c.list_ends-n.result c.list_ends-n.new.out) ≡ c.list_ends-n.result
@@ -28,12 +28,12 @@ listed c =
 
 pub put_pairs-requires : goal.put_pairs-requires
 put_pairs-requires c =
-        let f = c.list_ends-n.ensures.0 in
+    let f = c.list_ends-n.ensures.0 in
     rw f (c.requires.0, c.requires.2, below-ends c.args.ps.now, c.requires.3)
 
 pub returns : goal.returns
 returns c =
-        let o = c.list_ends-n in
+    let o = c.list_ends-n in
     let f = o.ensures.0 in
     let k = o.ensures.1 in
     let p = c.requires.1 in (

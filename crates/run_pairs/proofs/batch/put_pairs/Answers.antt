@@ -1,5 +1,5 @@
 -- `run_pairs::batch::put_pairs` meets its contract. Assumes nothing.
-use Prim.Native.Nat.{ℕ, ◌+◌, ◌-◌, ◌*◌, ◌≤◌, ◌<◌}
+use Prim.Native.Nat.{ℕ, ◌+◌, ◌*◌, ◌≤◌, ◌<◌}
 use mathlib.Core.Path.{◌≡◌, refl, sym, ap, ◌∙◌}
 use mathlib.Core.List.{List}
 use native.Mathlib.Omega.{arith}
@@ -20,23 +20,23 @@ loop-t-init c = let a = c.args in let z : a.at + 8 * 0 ≡ a.at = omega arith in
 there : (c : In-loop-t) → get_or c.args.ends.now c.loop-t.t 0
     < length c.args.ps.now
 there c =
-        below_get_or (length c.args.ps.now) c.args.ends.now c.loop-t.t (omega arith) c.requires.2
+    below_get_or (length c.args.ps.now) c.args.ends.now c.loop-t.t (omega arith) c.requires.2
 
 ranked : (c : In-loop-t)
     → c.args.rank + get_or c.args.ends.now c.loop-t.t 0
     ≤ get_or c.args.ps.now (get_or c.args.ends.now c.loop-t.t 0) 0
 ranked c =
-        rising-far c.args.rank 16777216 c.args.ps.now (get_or c.args.ends.now c.loop-t.t 0) c.requires.1 (there c)
+    rising-far c.args.rank 16777216 c.args.ps.now (get_or c.args.ends.now c.loop-t.t 0) c.requires.1 (there c)
 
 pub overflow_add-rank : goal.overflow_add-rank
 overflow_add-rank c =
-            let r = ranked (goal.at.overflow_add-rank c).In-loop-t in
+    let r = ranked (goal.at.overflow_add-rank c).In-loop-t in
     let b = rising-below c.args.rank 16777216 c.args.ps.now (get_or c.args.ends.now c.loop-t.t 0) c.requires.1 (there (goal.at.overflow_add-rank c).In-loop-t) in
     record { fits = omega arith }
 
 pub loop-t-preserved : goal.loop-t-preserved
 loop-t-preserved c =
-        let a = c.args in
+    let a = c.args in
     let l = c.loop-t in
     let o = c.put_pair in (
       ap length o.ensures ∙ length-put l.dst _ _ ∙ l.invariant.0,

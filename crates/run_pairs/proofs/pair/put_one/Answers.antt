@@ -28,7 +28,7 @@ put_pair-requires c =
 pub returns : goal.returns
 unfolding run_pair runs_coder
 returns c =
-        let a = c.args in
+    let a = c.args in
     let t : run_ends a.e a.p ≡ true = sym c.run_ends.ensures ∙ c.if-not-run_ends.false in (
       c.move_on-2.ensures ∙ taken-pair a.e a.p t,
       c.put_pair.ensures

@@ -4,7 +4,6 @@ use Rattle.wire.proofs.Laws.{pair-there}
 use Rattle.wire.specs.Wire.{add32}
 use Rattle.parts.proofs.Batches.{batch_start, batch_end}
 use Rattle.parts.proofs.Fills.{stretch_turn}
-use Rattle.run_walk.specs.Steps.{next}
 use Rattle.run_walk.proofs.Walk.{next-along}
 use Rattle.run_walk.proofs.Passing.{in_run, to_run}
 use Rattle.run_walk.proofs.steps.along.Goals.{After-fill_run-m, After-struct_known-else-at-c-2-1}
@@ -46,7 +45,7 @@ loop-i-smaller-then-at-c c = fewer (goal.at.loop-i-smaller-then-at-c c).After-fi
 pub loop-i-preserved-then-at-c : goal.loop-i-preserved-then-at-c
 unfolding add32
 loop-i-preserved-then-at-c c =
-            let l = c.loop-i in
+    let l = c.loop-i in
     let t = c.fill_run-m in
     let z = t.ensures in
     let one = z.some in
@@ -78,7 +77,7 @@ loop-i-smaller c = fewer (goal.at.loop-i-smaller c).After-fill_run-m
 pub loop-i-preserved : goal.loop-i-preserved
 unfolding add32
 loop-i-preserved c =
-                let l = c.loop-i in
+    let l = c.loop-i in
     let t = c.fill_run-m in
     let z = t.ensures in
     let one = z.some in

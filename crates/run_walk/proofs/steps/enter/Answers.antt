@@ -7,4 +7,4 @@ use Rattle.run_walk.proofs.steps.enter.Goals as goal
 pub returns : goal.returns
 unfolding entered add32
 returns c =
-        rw (c.wrapping_add_u32-3.ensures.value, c.wrapping_add_u32-2.ensures.value, c.wrapping_add_u32.ensures.value, c.load_pair-run.ensures)
+    rw (c.wrapping_add_u32-3.ensures.value, c.wrapping_add_u32-2.ensures.value, c.wrapping_add_u32.ensures.value, c.load_pair-run.ensures)

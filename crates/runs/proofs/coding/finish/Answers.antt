@@ -12,7 +12,7 @@ use Rattle.runs.proofs.coding.finish.Goals as goal
 pub put_pair-requires : goal.put_pair-requires
 unfolding runs_coder
 put_pair-requires c =
-        let e = c.args.e in
+    let e = c.args.e in
     let n : length (if_zero e.rank [] (run_pair e)) ≡ 8 = rw (if_more e.rank [] (run_pair e) c.if-e-ne0.true) (length_run e) in
     let r = c.requires.1 in
     omega arith

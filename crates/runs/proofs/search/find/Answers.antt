@@ -30,7 +30,7 @@ returns-then-place-first c =
 
 pub returns-then-place-first-2 : goal.returns-then-place-first-2
 returns-then-place-first-2 c =
-        let a = c.args in
+    let a = c.args in
     let j = c.run_at-j in
     let y : c.run-empty.result.second ≡ empty_at a.file.now a.v.start j.result = ap (λ (x : Pair). x.second) c.run-empty.ensures in
     let r = c.ranks_before-first.ensures in
@@ -41,7 +41,7 @@ returns-then-place-first-2 c =
 
 pub returns : goal.returns
 returns c =
-        let a = c.args in
+    let a = c.args in
     let j = c.run_at-j in
     let x = c.run-empty in
     let y : x.result.second ≡ empty_at a.file.now a.v.start j.result = ap (λ (x : Pair). x.second) x.ensures in

@@ -1,5 +1,5 @@
 -- `runs::setting::part_bytes` meets its contract. Assumes nothing.
-use Rattle.std.proofs.Common.{refl, ◌∙◌, ⊎_elim, arith, le-leb}
+use Rattle.std.proofs.Common.{refl, ◌∙◌, arith, le-leb}
 use borrow.Author.Tests.{lt-leb}
 use Rattle.format.specs.Runs.{runs_kind}
 use Rattle.runs.proofs.setting.part_bytes.Goals as goal

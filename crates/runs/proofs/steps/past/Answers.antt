@@ -8,7 +8,7 @@ use Rattle.runs.proofs.steps.past.Goals as goal
 -- `runs::steps::past` meets its contract. Assumes nothing.
 pub returns : goal.returns
 returns c =
-        let a = c.args in
+    let a = c.args in
     -- the cursor's numbers fit 32 bits
     let g = c.well_formed.1.1.0.1.1 in
     c.next.ensures

@@ -1,5 +1,5 @@
 -- `runs::steps::positions` meets its contract. Assumes nothing.
-use Rattle.std.proofs.Common.{◌-◌, refl, ◌∙◌, arith}
+use Rattle.std.proofs.Common.{refl, ◌∙◌, arith}
 use Rattle.parts.proofs.Batches.{batch_start, batch_end}
 use Rattle.parts.proofs.Fills.{stretch_turn}
 use Rattle.run_walk.proofs.Walk.{next-along}

@@ -22,7 +22,7 @@ most c = let f = (found c).begins in omega arith
 
 pub put_whole-w-requires : goal.put_whole-w-requires
 put_whole-w-requires c =
-        let a = c.args in
+    let a = c.args in
     let f = next a.file.now a.v in
     let m = ranks_before a.file.now a.v.start c.run_with-j.result - a.c.rank in
     let l = most (goal.at.put_whole-w-requires c).After-run_with-j in (
@@ -48,7 +48,7 @@ gone c =
 
 rank_now : (c : After-put_whole-w) → let a = c.args in c.put_whole-w.result.c.rank ≡ ranks_before a.file.now a.v.start c.run_with-j.result
 rank_now c =
-        let a = c.args in
+    let a = c.args in
     ap (λ (x : Cursor). x.rank) c.put_whole-w.ensures.0 ∙ at-rank-before a.file.now a.v _ c.requires.1 a.c c.run_with-j.result
 
 -- what is left
@@ -56,7 +56,7 @@ left : (c : After-put_whole-w)
     → let a = c.args in
     a.n - (ranks_before a.file.now a.v.start c.run_with-j.result - a.c.rank) ≡ a.c.rank + a.n - c.put_whole-w.result.c.rank
 left c =
-        let a = c.args in
+    let a = c.args in
     let r = rank_now c in
     let f = first_with a.file.now a.v _ c.requires.1 (a.c.rank + a.n) c.run_with-j.result c.run_with-j.ensures in
     let b = not-before a.file.now a.v _ c.requires.1 a.c a.e c.requires.2 a.n c.run_with-j.result c.requires.3 f in
@@ -71,8 +71,8 @@ overflow_sub-end c =
 
 pub put_part-requires : goal.put_part-requires
 put_part-requires c =
-        let a = c.args in
-        let g = rw (left (goal.at.put_part-requires c).After-put_whole-w) at (gone (goal.at.put_part-requires c).After-put_whole-w) in (
+    let a = c.args in
+    let g = rw (left (goal.at.put_part-requires c).After-put_whole-w) at (gone (goal.at.put_part-requires c).After-put_whole-w) in (
       c.requires.0,
       last_part a.file.now a.v _ c.requires.1 a.c a.e c.requires.2 a.n c.run_with-j.result c.requires.3 (found (goal.at.put_part-requires c).After-run_with-j) c.requires.4 _ c.put_whole-w.ensures.0,
       g.rest,
@@ -82,7 +82,7 @@ put_part-requires c =
 pub returns : goal.returns
 returns c =
     let a = c.args in
-        let u = c.put_part in
+    let u = c.put_part in
     let g = rw (left (goal.at.returns c).After-put_whole-w) at (gone (goal.at.returns c).After-put_whole-w) in
     written_end _ _ _ _ _ _ _ _ _ _ (omega arith)
     (written_then (next a.file.now a.v) runs_coder keeps a.dst.now a.c a.e a.n _ _ _ _ g _ (le_refl _) u.result _ u.ensures)

@@ -14,14 +14,14 @@ whole c = let h = c.if-n-eq0.false in record { most = le_refl _; some = omega ar
 
 pub returns-then-n-eq0 : goal.returns-then-n-eq0
 returns-then-n-eq0 c =
-        let a = c.args in
+    let a = c.args in
     let h = c.if-n-eq0.true in
     written_end _ _ a.dst.now a.c a.e a.n a.dst.now a.c a.e a.n (omega arith)
     (written_begin (next a.file.now a.v) runs_coder a.dst.now a.c a.e a.n c.requires.2 c.requires.3)
 
 pub put_run-e-requires : goal.put_run-e-requires
 put_run-e-requires c =
-        let a = c.args in
+    let a = c.args in
     let q = whole (goal.at.put_run-e-requires c).Else-n-eq0 in
     let f = next a.file.now a.v in
     let g = next-along a.file.now a.v in
@@ -33,7 +33,7 @@ past-c-requires c = stretch_inside c.args.n c.args.c.at c.args.c.last c.requires
 
 pub returns : goal.returns
 returns c =
-        let a = c.args in
+    let a = c.args in
     let q = whole (goal.at.returns c).Else-n-eq0 in
     let o = c.put_run-e in
     let some = q.some in

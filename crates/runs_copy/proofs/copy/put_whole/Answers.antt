@@ -21,7 +21,7 @@ all-gone : (c : After-wrapping_sub_u32-shift)
     (at_run a.file.now a.v a.c a.j)
     (ran_on a.e (last_at a.file.now a.v.start (a.j - 1)) (ranks_before a.file.now a.v.start a.j - a.c.rank) (a.j - 1 - (a.c.next - 2))) 0
 all-gone c =
-        let a = c.args in
+    let a = c.args in
     ran a.file.now a.v _ c.requires.0 a.c a.e c.requires.1 a.j c.requires.2 c.requires.3 a.dst.now c.wrapping_sub_u32-shift.result
     c.wrapping_sub_u32-shift.ensures.value (omega arith) c.requires.4 c.requires.5
 
@@ -162,7 +162,7 @@ run_on-e-requires c =
 
 pub returns : goal.returns
 returns c =
-        let a = c.args in
+    let a = c.args in
     let k = numbers (goal.at.returns c).Start in
     let x = read (goal.at.returns c).After-get_pair-last in
     let r = k.after in
