@@ -6,7 +6,7 @@ use mathlib.Core.List.{List, [], ◌∷◌, ◌++◌, append_assoc}
 use native.Mathlib.Nat.{lt_of_not-le}
 use native.Mathlib.Decide.{dec_le}
 use native.Mathlib.Omega.{arith}
-use lib.ListN.{length, get_or, set, take, drop, replicate, length-replicate}
+use lib.ListN.{length, get_or, take, drop, replicate, length-replicate}
 use lib.Arith.{lt_of_le-ne}
 use borrow.Author.Tests.{lt-ltb}
 use types.Run.{OneOf}

@@ -1,4 +1,6 @@
 // The words of a box of a picture in row order, from an accepted file. Positions never fall, so a cursor goes along the stored cells once.
+#![tactic(auto)]
+
 ghost use Rattle.std.specs.Prelude.{◌≡◌, true, ◌+◌, ◌*◌, ◌≤◌, ◌<◌, length, drop, replicate};
 ghost use Rattle.format.specs.Bytes.{numbers_of};
 ghost use Rattle.format.specs.Answers.{leaves};

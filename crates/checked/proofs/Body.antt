@@ -10,7 +10,6 @@ use Rattle.format.specs.declared.View.{View}
 use Rattle.format.specs.Tools.{Below, both, every}
 use Rattle.format.specs.Signals.{BODY, refuse}
 use Rattle.format.specs.Bytes.{numbers_of}
-use Rattle.format.specs.Picture.{cells}
 use Rattle.format.specs.Kinds.{codec}
 use Rattle.format.specs.Accepted.{empty_of, positions_of, kept_of, body_right, header_number, check_number}
 use Rattle.format.specs.Opened.{view_of}

@@ -1,4 +1,6 @@
 // The complete check of a file (document 01, "The signal list", 1 to 6).
+#![tactic(auto)]
+
 ghost use Rattle.std.specs.Prelude.{◌≡◌, true, ◌≤◌};
 ghost use Rattle.format.specs.File.{WholeHeader};
 ghost use Rattle.format.specs.Picture.{dimensions_allowed};

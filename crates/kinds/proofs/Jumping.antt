@@ -2,7 +2,7 @@
 use Prim.Native.Nat.{ℕ}
 use mathlib.Core.Path.{◌≡◌, refl, sym, ap, ◌∙◌, subst}
 use mathlib.Core.Bool.{true, false}
-use mathlib.Core.Logic.{◌⊎◌, inl, inr, ⊎_elim}
+use mathlib.Core.Logic.{inl, inr, ⊎_elim}
 use mathlib.Core.List.{List}
 use native.Mathlib.Omega.{arith}
 use lib.Dec.{eqb}
@@ -15,9 +15,8 @@ use Rattle.laws.proofs.Tools.{cases}
 use Rattle.parts.specs.declared.Cursor.{Cursor}
 use Rattle.parts.specs.declared.Encoder.{Encoder}
 use Rattle.parts.specs.declared.walk.Walk.{Walk}
-use Rattle.parts.specs.Holds.{Holds, ViewOf, kind_of}
+use Rattle.parts.specs.Holds.{Holds, ViewOf}
 use Rattle.parts.specs.Cursor.{walked_as}
-use Rattle.parts.specs.Encoder.{Coder}
 use Rattle.parts.specs.Batch.{Along, RoomAll}
 use Rattle.parts.specs.Carried.{carried, PutAs, Reached}
 use Rattle.parts.proofs.Seen.{seen}

@@ -1,4 +1,6 @@
 // The kinds by their numbers: the one place where a kind number is matched. Everything above reads and writes the parts of a file through it.
+#![tactic(auto)]
+
 pub mod coding;
 pub mod copying;
 pub mod parts_of;

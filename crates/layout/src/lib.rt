@@ -1,4 +1,6 @@
 // A file put out: what it measures, whether it goes, and its header.
+#![tactic(auto)]
+
 pub mod header_out;
 
 ghost use Rattle.std.specs.Prelude.{◌≡◌, true, ◌≤◌};

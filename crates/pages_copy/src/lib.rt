@@ -1,4 +1,6 @@
 // Ranks of a file of kind 5 put out in kind 5. While neither file turns a page, the entries of the runs behind a run differ from its own by the same in both.
+#![tactic(auto)]
+
 ghost use Rattle.std.specs.Prelude.{◌≡◌, ◌+◌, ◌≤◌, true, length};
 ghost use Rattle.format.specs.PagedRuns.{pages_kind};
 ghost use Rattle.parts.specs.Cursor.{walked_as};

@@ -1,4 +1,6 @@
 // A checked file, with one cell laid over it, put out in a setting.
+#![tactic(auto)]
+
 pub mod counted;
 
 ghost use Rattle.std.specs.Prelude.{◌≡◌, true, length};

@@ -1,6 +1,6 @@
 -- Along the runs of an accepted file: what a cursor knows of its run gives the ranks of the cells ahead. Assumes nothing.
 use Prim.Native.Nat.{ℕ, zero, suc, ◌+◌, ◌-◌, ◌≤◌, ◌<◌}
-use mathlib.Core.Path.{◌≡◌, refl, sym, ap, ◌∙◌}
+use mathlib.Core.Path.{◌≡◌, refl, sym, ◌∙◌}
 use mathlib.Core.List.{List}
 use native.Mathlib.Nat.{add-zero, lt_of_not-le}
 use native.Mathlib.Decide.{dec_le}

@@ -1,4 +1,6 @@
 // A file's words into a destination, batch by batch: the cells up to a batch's last position become empty, then each stored word comes to its position.
+#![tactic(auto)]
+
 ghost use Rattle.std.specs.Prelude.{◌≡◌, ◌++◌, ◌+◌, ◌-◌, ◌*◌, ◌≤◌, ◌<◌, length, take, drop, replicate};
 ghost use Rattle.format.specs.Tools.{Below};
 ghost use Rattle.format.specs.Accepted.{kept_of, words_of};

@@ -23,6 +23,6 @@ pub returns : goal.returns
 returns c =
     let small = c.type_inv.file in
     elim c.else-parts_right.branch [
-      else-parts_right-via-then-parts_right+else-words_right w ↦ words_wrong c.args.file.now c.args.v c.requires (λ i. omega (arith, small i)) _ w.words_right.ensures w.if-words_right.false
+      | else-parts_right-via-then-parts_right+else-words_right w ↦ words_wrong c.args.file.now c.args.v c.requires (λ i. omega (arith, small i)) _ w.words_right.ensures w.if-words_right.false
       | else-parts_right-via-else-parts_right w ↦ parts_wrong c.args.file.now c.args.v c.requires (λ i. omega (arith, small i)) _ c.parts_right.ensures w.if-parts_right.false
     ]

@@ -11,15 +11,15 @@ allowed c = sym c.setting_number-number.ensures ∙ c.if-number-ne0.false
 
 pub returns-then-number-ne0 : goal.returns-then-number-ne0
 returns-then-number-ne0 c =
-        number-setting c.args.file.now c.args.v c.requires.0 c.requires.1 _ c.setting_number-number.ensures c.if-number-ne0.true
+    number-setting c.args.file.now c.args.v c.requires.0 c.requires.1 _ c.setting_number-number.ensures c.if-number-ne0.true
 
 pub returns-then-v-eq0 : goal.returns-then-v-eq0
 returns-then-v-eq0 c =
-        number_extent c.args.file.now c.args.v c.requires.0 c.requires.1 (allowed (goal.at.returns-then-v-eq0 c).Else-number-ne0) c.if-v-eq0.true
+    number_extent c.args.file.now c.args.v c.requires.0 c.requires.1 (allowed (goal.at.returns-then-v-eq0 c).Else-number-ne0) c.if-v-eq0.true
 
 pub counts_right-requires : goal.counts_right-requires
 counts_right-requires c =
-        let a = allowed (goal.at.counts_right-requires c).Else-number-ne0 in (
+    let a = allowed (goal.at.counts_right-requires c).Else-number-ne0 in (
       c.requires.0,
       c.requires.1,
       view-allowed c.args.file.now c.args.v c.requires.0 c.requires.1 a,
@@ -28,14 +28,14 @@ counts_right-requires c =
 
 pub returns-then-not-counts_right : goal.returns-then-not-counts_right
 returns-then-not-counts_right c =
-        rw (
+    rw (
       number_counts c.args.file.now c.args.v c.requires.0 c.requires.1 (allowed (goal.at.returns-then-not-counts_right c).Else-number-ne0) c.if-v-eq0.false,
       sym c.counts_right.ensures ∙ c.if-not-counts_right.true,
     )
 
 pub returns : goal.returns
 returns c =
-        rw (
+    rw (
       number_counts c.args.file.now c.args.v c.requires.0 c.requires.1 (allowed (goal.at.returns c).Else-number-ne0) c.if-v-eq0.false,
       sym c.counts_right.ensures ∙ c.if-not-counts_right.false,
     )

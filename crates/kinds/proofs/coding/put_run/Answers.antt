@@ -6,7 +6,7 @@ use Rattle.kinds.proofs.coding.put_run.Goals as goal
 
 pub put_run-requires : goal.put_run-requires
 put_run-requires c =
-        let e = c.if-s-eq1.true in
+    let e = c.if-s-eq1.true in
     let p = c.requires in
     (setting-allowed c.args.s 1 e p.0, p.2, p.3, p.4, p.5, setting-room c.args.s 1 e _ _ _ p.6)
 
@@ -16,7 +16,7 @@ five c = ⊎_elim (λ e. absurd (c.if-s-eq1.false e)) (λ e. e) c.requires.1
 
 pub put_run-requires-2 : goal.put_run-requires-2
 put_run-requires-2 c =
-        let e = five (goal.at.put_run-requires-2 c).Else-s-eq1 in
+    let e = five (goal.at.put_run-requires-2 c).Else-s-eq1 in
     let p = c.requires in
     (setting-allowed c.args.s 5 e p.0, p.2, p.3, p.4, p.5, setting-room c.args.s 5 e _ _ _ p.6)
 

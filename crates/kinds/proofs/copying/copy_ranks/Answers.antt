@@ -47,7 +47,7 @@ others c = copies_others c.args.v c.args.s c.requires.1 c.in_default.in_default-
 
 pub put_ranks-requires : goal.put_ranks-requires
 put_ranks-requires c =
-        let a = c.args in
+    let a = c.args in
     let b = a.file.now in
     let t = others (goal.at.put_ranks-requires c).In_default in (
       some_held b a.v c.requires.2 t.0,

@@ -14,7 +14,7 @@ returns-then-v-eq1 c =
 pub returns : goal.returns
 unfolding stepped_by next_of
 returns c =
-        let a = c.args in
+    let a = c.args in
     let e = ⊎_elim (λ e. absurd (c.if-v-eq1.false e)) (λ e. e) c.requires.0 in
     c.past-2.ensures ∙ ap (λ (n : ℕ). stepped_as (next_by n a.file.now a.v) a.c (a.k + 1)) (sym e)
 

@@ -1,5 +1,4 @@
 use mathlib.Core.Path.{sym, ◌∙◌}
-use mathlib.Core.Bool.{true, false}
 use mathlib.Core.Logic.{⊎_elim}
 use Rattle.laws.proofs.Settings.{no_kind}
 use Rattle.kinds.proofs.At.{view_batch}
@@ -9,12 +8,12 @@ use Rattle.kinds.proofs.steps.positions.Goals as goal
 
 pub returns-then-by_walk : goal.returns-then-by_walk
 returns-then-by_walk c =
-        let g = c.positions.ensures in
+    let g = c.positions.ensures in
     ⊎_elim (λ e. view_batch _ 4 e _ _ _ _ _ g) (λ e. view_batch _ 6 e _ _ _ _ _ g) (walked_kind _ (sym c.by_walk.ensures ∙ c.if-by_walk.true))
 
 pub returns-in_default : goal.returns-in_default
 returns-in_default c =
-            let v = c.args.v in
+    let v = c.args.v in
     let r = c.in_default.in_default-own.rest in
     let n = not-walked v.kind (sym c.by_walk.ensures ∙ c.if-by_walk.false) in
     absurd (never (rw (no_kind v.kind v.width v.step r.0.0.0.1 r.0.0.1 r.0.1 n.0 r.1 n.1) at c.requires))

@@ -46,5 +46,5 @@ slice_bounds-result-end-2 c = let t = ends c in omega arith
 pub returns : goal.returns
 returns c =
     let a = c.args in
-        let z = c.if-range_number-ne0.false in
+    let z = c.if-range_number-ne0.false in
     part_given a.file a.a.0 a.c.0 _ _ (number (goal.at.returns c).After-range_number) _ _ _ (inside (goal.at.returns c).After-range_number z) z c.word_at-from.ensures c.word_at-to.ensures refl refl

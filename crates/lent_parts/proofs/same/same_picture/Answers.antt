@@ -12,7 +12,7 @@ same_header-requires c = ((seen c.args.first.now c.args.v c.requires.0).header.r
 
 pub returns-then-not-same_header : goal.returns-then-not-same_header
 returns-then-not-same_header c =
-        other_header c.args.first.now c.args.second.now c.args.v c.args.w c.requires.0 c.requires.1 (sym c.same_header.ensures ∙ c.if-not-same_header.true)
+    other_header c.args.first.now c.args.second.now c.args.v c.args.w c.requires.0 c.requires.1 (sym c.same_header.ensures ∙ c.if-not-same_header.true)
 
 -- the headers are the same
 headers : (c : Else-not-same_header) → same_header c.args.first.now c.args.second.now ≡ true
@@ -26,12 +26,12 @@ same_words-requires c = views c
 
 pub returns-then-not-same_words : goal.returns-then-not-same_words
 returns-then-not-same_words c =
-        other_words c.args.first.now c.args.second.now c.args.v c.args.w c.requires.0 c.requires.1 (headers (goal.at.returns-then-not-same_words c).Else-not-same_header) (sym c.same_words.ensures ∙ c.if-not-same_words.true)
+    other_words c.args.first.now c.args.second.now c.args.v c.args.w c.requires.0 c.requires.1 (headers (goal.at.returns-then-not-same_words c).Else-not-same_header) (sym c.same_words.ensures ∙ c.if-not-same_words.true)
 
 pub same_positions-requires : goal.same_positions-requires
 same_positions-requires c = views (goal.at.same_positions-requires c).Else-not-same_header
 
 pub returns : goal.returns
 returns c =
-        c.same_positions.ensures
+    c.same_positions.ensures
     ∙ by_positions c.args.first.now c.args.second.now c.args.v c.args.w c.requires.0 c.requires.1 (headers (goal.at.returns c).Else-not-same_header) (sym c.same_words.ensures ∙ c.if-not-same_words.false)

@@ -1,4 +1,4 @@
-use Prim.Native.Nat.{◌+◌, ◌-◌, ◌≤◌, ◌<◌}
+use Prim.Native.Nat.{◌+◌, ◌≤◌, ◌<◌}
 use mathlib.Core.Path.{refl, sym, ◌∙◌}
 use native.Mathlib.Omega.{arith}
 use lib.Seq.{length-take-le}
@@ -49,7 +49,7 @@ start-d-requires c = (seen c.args.second.now c.args.w c.requires.second).header.
 
 pub loop-rank-init : goal.loop-rank-init
 loop-rank-init c =
-        let a = c.args in
+    let a = c.args in
     let o = c.requires.first in
     let p = c.requires.second in (
       omega arith,
@@ -101,7 +101,7 @@ returns-then-not-same_batch c =
 
 pub overflow_add-rank : goal.overflow_add-rank
 overflow_add-rank c =
-        let h = fits (goal.at.overflow_add-rank c).After-batch_of-n in
+    let h = fits (goal.at.overflow_add-rank c).After-batch_of-n in
     let k = (seen c.args.first.now c.args.v c.requires.first).header.counted in
     omega (arith, k.words-most, k.cells-most)
 
@@ -124,6 +124,6 @@ loop-rank-preserved c =
 
 pub returns : goal.returns
 returns c =
-        let a = c.args in
+    let a = c.args in
     let l = c.loop-rank in
     elements_over (positions_of a.first.now) (positions_of a.second.now) l.rank (same-long a.first.now a.v a.second.now a.w c.requires) (rw (seen a.first.now a.v c.requires.first).holds.size c.loop-rank-test.false) ∙ l.invariant.5

@@ -15,7 +15,7 @@ overflow_add-result c = let q = c.stored_position.ensures.1 in omega arith
 
 pub returns : goal.returns
 returns c =
-        let g = c.args in
+    let g = c.args in
     let h = c.requires.1 in
     let l = c.if-r-eq0.false in
     end-there g.file.now g.v c.requires.0 (g.r - 1) (omega (arith, l)) g.r _ (omega (arith, l)) c.stored_position.ensures.0

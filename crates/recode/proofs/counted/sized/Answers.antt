@@ -6,25 +6,25 @@ use Rattle.recode.proofs.counted.sized.Goals as goal
 
 pub ranks_after-requires : goal.ranks_after-requires
 ranks_after-requires c =
-        let a = c.args in
+    let a = c.args in
     let t = ranks-there a.file.now a.v c.requires.0 a.x c.requires.1 in
     (t.0, t.1, few_words a.file.now a.v c.requires.0)
 
 pub by_counts-requires : goal.by_counts-requires
 by_counts-requires c =
-        let a = c.args in
+    let a = c.args in
     (c.requires.2, few-ranks a.file.now a.v c.requires.0 a.x c.requires.1 _ c.ranks_after.ensures.0, omega arith)
 
 pub returns-then-sized_by_ranks : goal.returns-then-sized_by_ranks
 returns-then-sized_by_ranks c =
-        let a = c.args in
+    let a = c.args in
     let r = c.by_counts in
     ranks_measure a.file.now a.v c.requires.0 a.x c.requires.1 _ c.ranks_after.ensures.0 a.s c.requires.2 _ r.result
     r.ensures.0 r.ensures.1 (c.sized_by_ranks.ensures c.if-sized_by_ranks.true)
 
 pub ranks_after-requires-then-stores_runs-2 : goal.ranks_after-requires-then-stores_runs-2
 ranks_after-requires-then-stores_runs-2 c =
-        let a = c.args in
+    let a = c.args in
     let t = ranks-there a.file.now a.v c.requires.0 a.x c.requires.1 in
     (t.0, t.1, few_words a.file.now a.v c.requires.0)
 
@@ -35,12 +35,12 @@ runs_after-requires c =
 
 pub by_counts-requires-then-stores_runs-2 : goal.by_counts-requires-then-stores_runs-2
 by_counts-requires-then-stores_runs-2 c =
-        let a = c.args in
+    let a = c.args in
     (c.requires.2, few-ranks a.file.now a.v c.requires.0 a.x c.requires.1 _ c.ranks_after-then-stores_runs-2.ensures.0, c.runs_after.ensures.1)
 
 pub returns-then-stores_runs-2 : goal.returns-then-stores_runs-2
 returns-then-stores_runs-2 c =
-        let a = c.args in
+    let a = c.args in
     let r = c.by_counts-then-stores_runs-2 in
     runs_measure a.file.now a.v c.requires.0 a.x c.requires.1 _ c.ranks_after-then-stores_runs-2.ensures.0 a.s c.requires.2 _ r.result
     r.ensures.0 r.ensures.1 (c.stores_runs.ensures.0 c.if-stores_runs.true) c.runs_after.ensures.0

@@ -14,12 +14,12 @@ use Rattle.rewrite.proofs.run_parts.put_runs.Goals as goal
 pub loop-left-init : goal.loop-left-init
 unfolding walked
 loop-left-init c =
-        let a = c.args in
+    let a = c.args in
     written_begin (next_of a.file.now a.v) (coder a.s) a.dst.now a.c a.e a.n c.requires.3 c.requires.4
 
 pub put_run-e-requires : goal.put_run-e-requires
 put_run-e-requires c =
-        let a = c.args in
+    let a = c.args in
     let l = c.loop-left in
     let k = c.stretch-k in
     let q = cells l.c k.result l.left c.loop-left-test.true k.ensures in
@@ -54,7 +54,7 @@ loop-left-smaller c =
 pub loop-left-preserved : goal.loop-left-preserved
 unfolding stepped_by taken_all
 loop-left-preserved c =
-        let a = c.args in
+    let a = c.args in
     let l = c.loop-left in
     let k = c.stretch-k in
     let o = c.put_run-e in

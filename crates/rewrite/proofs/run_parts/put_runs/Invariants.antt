@@ -1,4 +1,3 @@
-use Prim.Native.Nat.{◌-◌}
 use Rattle.parts.proofs.Carried.{Written}
 use Rattle.kinds.specs.Steps.{next_of}
 use Rattle.kinds.specs.Coding.{coder}

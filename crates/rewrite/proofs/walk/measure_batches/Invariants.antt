@@ -1,10 +1,9 @@
-use Prim.Native.Nat.{◌-◌, ◌≤◌}
+use Prim.Native.Nat.{◌≤◌}
 use mathlib.Core.Path.{◌≡◌}
 use lib.ListN.{length}
 use Rattle.parts.specs.Batch.{Along}
 use Rattle.kinds.specs.Steps.{walked}
 use Rattle.rewrite.specs.Walk.{along}
-use Rattle.rewrite.proofs.Stretch.{batch}
 use Rattle.rewrite.proofs.walk.measure_batches.Given as goal
 
 abbrev pub invariant-loop-left : goal.invariant-loop-left

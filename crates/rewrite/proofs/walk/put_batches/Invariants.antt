@@ -1,11 +1,10 @@
-use Prim.Native.Nat.{◌-◌, ◌≤◌}
+use Prim.Native.Nat.{◌≤◌}
 use mathlib.Core.Path.{◌≡◌}
 use lib.ListN.{length}
 use Rattle.parts.specs.Batch.{Along, RoomAll, put_all_by}
 use Rattle.kinds.specs.Steps.{walked}
 use Rattle.kinds.specs.Coding.{coder}
 use Rattle.rewrite.specs.Walk.{along}
-use Rattle.rewrite.proofs.Stretch.{batch}
 use Rattle.rewrite.proofs.walk.put_batches.Given as goal
 
 abbrev pub invariant-loop-left : goal.invariant-loop-left

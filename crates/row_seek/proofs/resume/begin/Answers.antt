@@ -13,7 +13,7 @@ at_rank-requires c = (c.requires, c.stores_runs.ensures.0 c.if-stores_runs.true)
 
 pub returns-then-stores_runs : goal.returns-then-stores_runs
 returns-then-stores_runs c =
-        let k = c.stores_runs.ensures.0 c.if-stores_runs.true in
+    let k = c.stores_runs.ensures.0 c.if-stores_runs.true in
     (reached_at c.args.file.now c.args.v c.requires k c.at_rank.result 0 0 c.at_rank.ensures (omega arith) tt (λ h. omega arith)).ready
 
 pub start-requires : goal.start-requires
@@ -21,5 +21,5 @@ start-requires c = (seen c.args.file.now c.args.v c.requires).header.counted.all
 
 pub returns : goal.returns
 returns c =
-        let k = c.stores_runs.ensures.1 in
+    let k = c.stores_runs.ensures.1 in
     ready_start c.args.file.now c.args.v c.requires (λ h. never (sym c.if-stores_runs.false ∙ k h)) _ c.start.ensures

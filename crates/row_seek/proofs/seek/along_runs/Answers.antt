@@ -23,21 +23,21 @@ overflow_add-end c = let m = (small (goal.at.overflow_add-end c).Start).1 in sea
 
 pub overflow_add-c : goal.overflow_add-c
 overflow_add-c c =
-        let m = (small (goal.at.overflow_add-c c).Start).1 in
+    let m = (small (goal.at.overflow_add-c c).Start).1 in
     let n = few (goal.at.overflow_add-c c).Start in
     let k = c.requires.4 in
     search rules
 
 pub returns-then-p-end : goal.returns-then-p-end
 returns-then-p-end c =
-        let a = c.args in
+    let a = c.args in
     let h = c.requires.5 in
     let k = c.if-p-end.true in
     reached_along a.file.now a.v c.requires.0 c.requires.1 a.c a.p.0 c.requires.3 c.requires.4 _ a.p.0 (omega arith) (omega arith) refl refl refl
 
 pub overflow_add-c-then-p-end-2 : goal.overflow_add-c-then-p-end-2
 overflow_add-c-then-p-end-2 c =
-        let m = (small (goal.at.overflow_add-c-then-p-end-2 c).Start).1 in
+    let m = (small (goal.at.overflow_add-c-then-p-end-2 c).Start).1 in
     let n = few (goal.at.overflow_add-c-then-p-end-2 c).Start in
     let k = c.requires.4 in
     let e = c.if-p-end-2.true in
@@ -45,13 +45,13 @@ overflow_add-c-then-p-end-2 c =
 
 pub returns-then-p-end-2 : goal.returns-then-p-end-2
 returns-then-p-end-2 c =
-        let a = c.args in
+    let a = c.args in
     let w = behind a.file.now a.v c.requires.0 c.requires.1 a.c a.p.0 c.requires.3 c.requires.4 _ c.if-p-end-2.true refl in
     reached_at a.file.now a.v c.requires.0 c.requires.1 _ _ a.p.0 c.at_rank.ensures w.0 w.1 w.2
 
 pub returns : goal.returns
 returns c =
-        let a = c.args in
+    let a = c.args in
     let f = c.find in
     let w = cut-found a.file.now a.v c.requires.0 a.p.0 f.result f.ensures in
     let n = (seen a.file.now a.v c.requires.0).holds.size in

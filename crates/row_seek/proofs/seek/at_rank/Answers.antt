@@ -13,7 +13,7 @@ use Rattle.row_seek.proofs.seek.at_rank.Goals as goal
 -- The cursor's `last` is the last cell of the part of a run that is told. Assumes nothing.
 part : (c : After-run_of-part) → PartOf (positions_of c.args.file.now) c.args.rank c.run_of-part.result
 part c =
-        c.run_of-part.ensures.right (positions_of c.args.file.now) (seen c.args.file.now c.args.v c.requires.0).holds c.if-rank-v.true
+    c.run_of-part.ensures.right (positions_of c.args.file.now) (seen c.args.file.now c.args.v c.requires.0).holds c.if-rank-v.true
 
 small : (c : After-run_of-part) → c.run_of-part.result.at + c.run_of-part.result.cells ≤ 16777216
 small c = part_small c.args.file.now c.args.v c.requires.0 c.args.rank c.run_of-part.result (part c)
@@ -29,6 +29,6 @@ overflow_sub-c c = let m = (part (goal.at.overflow_sub-c c).After-run_of-part).s
 
 pub returns-then-rank-v : goal.returns-then-rank-v
 returns-then-rank-v c =
-        let q = part (goal.at.returns-then-rank-v c).After-run_of-part in
+    let q = part (goal.at.returns-then-rank-v c).After-run_of-part in
     let m = q.some in
     record { rank = refl; run = λ k. part_later _ c.args.rank _ 0 c.run_of-part.result _ q m (omega arith) (omega arith) (omega arith) }

@@ -1,5 +1,4 @@
 -- The low rank stands below p all along, and the ranks after it fall. Assumes nothing.
-use Prim.Native.Nat.{◌-◌}
 use native.Mathlib.Omega.{arith}
 use Rattle.row_seek.proofs.Resumed.{words-few}
 use Rattle.row_seek.proofs.seek.gallop.Goals as goal
@@ -18,7 +17,7 @@ returns-then-p-at c =
 
 pub overflow_mul-step : goal.overflow_mul-step
 overflow_mul-step c =
-        let m = words-few c.args.file.now c.args.v c.requires.0 in
+    let m = words-few c.args.file.now c.args.v c.requires.0 in
     let taken = c.loop-step-test.true in
     record { fits = omega arith }
 

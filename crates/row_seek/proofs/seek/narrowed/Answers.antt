@@ -1,5 +1,4 @@
 -- The two ranks stay around p, and come nearer. Assumes nothing.
-use Prim.Native.Nat.{◌-◌}
 use native.Mathlib.Omega.{arith}
 use Rattle.row_seek.proofs.seek.narrowed.Goals as goal
 
