@@ -39,14 +39,30 @@ fn open_read(rt: &HostRuntime, path: &[u8]) -> io::Result<File> {
     }
 }
 
+// Where the text of an error goes on with the system's number.
+fn without_number(text: &[u8]) -> usize
+    ensures { result ≤ length text.now }
+{
+    let number = b" (os error ";
+    for i in 0..text.len() {
+        if text[i..].starts_with(number) {
+            return i;
+        }
+    }
+    text.len()
+}
+
 // A line on standard error: what failed, a colon and the system's text, without its number.
 fn fail(rt: &HostRuntime, what: &[u8], error: &io::Error) -> io::Result<()> {
-    let text = error.to_string(rt.alloc())?;
-    let message = text.as_str().split(" (os error ").next().unwrap_or("");
+    let mut line = [0u8; 256];
+    let mut rest: &mut [u8] = &mut line;
+    write!(rest, "{error}")?;
+    let left = rest.len();
+    let text = &line[..256_usize.saturating_sub(left)];
     let mut err = rt.stderr();
     err.write_all(what)?;
     err.write_all(b": ")?;
-    err.write_all(message.as_bytes())?;
+    err.write_all(&text[..without_number(text)])?;
     err.write_all(b"\n")
 }
 
