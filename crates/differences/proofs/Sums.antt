@@ -82,11 +82,6 @@ module _ (w second : ℕ) (b : List ℕ) where
       unfolding behind
       behind-none e = omega arith
 
-      pub behind-here : (k : ℕ) {d : ℕ} → 0 < k → d ≡ field w (second + w * (r + k)) b → d ≡ 0 → behind w second b r k + x ≡ t → x ≡ t
-      unfolding behind
-      behind-here zero h f z e = absurd (omega arith)
-      behind-here (suc k) h f z e = let q = rw (← f, z) at e in omega arith
-
       pub behind-back : (k : ℕ) {d : ℕ} → 0 < k → d ≡ field w (second + w * (r + k)) b → (d ≡ 0 → ⊥) → behind w second b r k + x ≡ t
           → behind w second b r (k - 1) + (x + d) ≡ t
       unfolding behind
@@ -101,3 +96,9 @@ module _ (w second : ℕ) (b : List ℕ) where
     -- no jump where none is counted
     pub none-counted : (n : ℕ) {x : ℕ} → x ≡ zeros w second b r n → eqb x 0 ≡ plain w second b r n
     none-counted n e = rw e (zeros-none n)
+
+-- where the sum behind the last 0 stops
+pub behind_stop : (w second : ℕ) (b : List ℕ) (r k : ℕ) → 0 < k → field w (second + w * (r + k)) b ≡ 0 → behind w second b r k ≡ 0
+unfolding behind
+behind_stop w second b r zero h e = absurd (omega arith)
+behind_stop w second b r (suc k) h e = rw e

@@ -117,6 +117,7 @@ pub fn sum(file: &[u8], second: usize, width: u32, r: usize) -> u32
 }
 
 // The sum of those of the n differences after rank r that are behind the last 0, from the last rank backwards; of all where none is 0.
+#[tactic(auto, using(crate::proofs::Sums::behind_stop))]
 pub fn sum_behind(file: &[u8], second: usize, width: u32, r: usize, n: usize) -> u32
     requires { Room width second file.now (r + n) × (n ≤ 128) }
     ensures { (result ≡ behind width second file.now r n) × (result ≤ 65536 * n) }

@@ -72,6 +72,7 @@ fn put_file(file: &[u8], v: View, out: &mut [u8]) -> usize
 }
 
 // The lines of an accepted file, into a buffer that has room for them; their length.
+#[tactic(auto, using(crate::proofs::Listed::offered_small))]
 fn offer_file(file: &[u8], v: View, out: &mut [u8]) -> usize
     requires { ViewOf file.now v × (length file.now ≤ most_listed) }
     ensures { Offered (file_lines file.now) out.old result out.new }

@@ -5,22 +5,13 @@ use Rattle.listing.proofs.Listed.{offered_put, offered_small}
 use Rattle.listing.proofs.offer_file.Goals as goal
 
 -- `offer_file` meets its contract. Assumes nothing.
-pub returns-then-out-total : goal.returns-then-out-total
-returns-then-out-total c =
-    let a = c.args in
-    let e = c.file_length-total.ensures in
-    let small = c.if-out-total.true in
-    offered_small (file_lines a.file.now) a.out.now _ e (omega arith)
-
 pub put_file-requires : goal.put_file-requires
 put_file-requires c =
     let e = c.file_length-total.ensures in
-    let room = c.if-out-total.false in
     (c.requires.0, omega arith)
 
 pub returns : goal.returns
 returns c =
     let a = c.args in
     let e = c.file_length-total.ensures in
-    let room = c.if-out-total.false in
     offered_put (file_lines a.file.now) a.out.now _ _ (omega arith) c.put_file.ensures

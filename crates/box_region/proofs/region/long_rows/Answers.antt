@@ -16,14 +16,10 @@ overflow_sub-e c =
     let k = last-inside l.r l.invariant.0.four (same-placed c.args.r l.r c.requires l.invariant.0) in
     omega arith
 
-pub returns-then-e-h-ne1 : goal.returns-then-e-h-ne1
-returns-then-e-h-ne1 c = c.loop-n.invariant.0
-
 pub merged-r-requires : goal.merged-r-requires
 merged-r-requires c =
     let l = c.loop-n in
     let z = c.if-l-ne0.false in
-    let w = c.if-e-h-ne1.false in
     (same-placed c.args.r l.r c.requires l.invariant.0, z, omega arith)
 
 pub loop-n-preserved : goal.loop-n-preserved

@@ -4,7 +4,7 @@ use mathlib.Core.Path.{◌≡◌}
 use native.Mathlib.Nat.{add-zero}
 use native.Mathlib.Omega.{arith}
 use Rattle.differences.specs.Walk.{Room}
-use Rattle.differences.proofs.Sums.{earlier, behind-none, behind-here, behind-back}
+use Rattle.differences.proofs.Sums.{earlier, behind-none, behind-back}
 use Rattle.differences.proofs.groups.sum_behind.Goals.{In-loop-k}
 use Rattle.differences.proofs.groups.sum_behind.Goals as goal
 
@@ -22,12 +22,6 @@ overflow_add-r c = let z = (room c).rank in omega arith
 pub difference-d-requires : goal.difference-d-requires
 difference-d-requires c = let z = room c in (z.narrow, z.wide, z.inside)
 
-pub returns-then-d-eq0 : goal.returns-then-d-eq0
-returns-then-d-eq0 c =
-    let a = c.args in
-    let l = c.loop-k in
-    (behind-here a.width a.second a.file.now a.r l.x l.k c.loop-k-test.true c.difference-d.ensures.0 c.if-d-eq0.true l.invariant.2, omega arith)
-
 pub overflow_add-x : goal.overflow_add-x
 overflow_add-x c = let d = c.difference-d.ensures.1 in omega arith
 
@@ -38,7 +32,7 @@ loop-k-preserved c =
     let d = c.difference-d.ensures in
     let m = d.1 in
     let h = c.loop-k-test.true in
-    (omega arith, omega arith, behind-back a.width a.second a.file.now a.r l.x l.k h d.0 c.if-d-eq0.false l.invariant.2)
+    (omega arith, omega arith, behind-back a.width a.second a.file.now a.r l.x l.k h d.0 (λ z. omega arith) l.invariant.2)
 
 pub returns : goal.returns
 returns c =
