@@ -64,5 +64,3 @@ returns c =
     let a = c.args in
     let l = c.loop-i in
     write-end (coder a.width a.step) a.ps.now a.e a.dst.now l.e l.dst l.i c.loop-i-test.false l.invariant
-
--- LOST λ c. c.before.loop.invariant.same

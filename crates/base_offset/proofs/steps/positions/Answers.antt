@@ -75,5 +75,3 @@ pub returns : goal.returns
 returns c =
     let l = c.loop-i in
     batch_end _ _ _ l.c l.out l.i c.loop-i-test.false l.invariant.1 l.invariant.2
-
--- LOST λ c. c.before.loop.invariant.1
