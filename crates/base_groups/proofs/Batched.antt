@@ -1,5 +1,5 @@
 -- Many ranks at a time: those of one base, and one base after the other. Assumes nothing.
-use Rattle.std.proofs.Common.{◌≡◌, ℕ, zero, suc, ◌+◌, ◌-◌, ◌*◌, ◌^◌, ◌<◌, ◌≤◌, Bool, true, false, ◌&&◌, ltb, List, [], ◌∷◌, ◌++◌, length, take, drop, set, sym, refl, ap, ◌∙◌, true≢false, append_assoc, le_refl, add-zero, mul-le-mul, mul-suc, mul-add, arith, length-append, length-drop, length-take-le, take_at, ltb-false, ltb-true, lt-ltb}
+use Rattle.std.proofs.Common.{◌≡◌, ℕ, zero, suc, ◌+◌, ◌-◌, ◌*◌, ◌^◌, ◌<◌, ◌≤◌, Bool, true, false, ltb, List, [], ◌∷◌, ◌++◌, length, take, drop, set, sym, refl, ap, ◌∙◌, append_assoc, le_refl, add-zero, mul-le-mul, mul-suc, mul-add, arith, length-append, length-drop, length-take-le, take_at, lt-ltb}
 use Rattle.format.specs.declared.View.{View}
 use Rattle.format.specs.Bytes.{field, numbers_of}
 use Rattle.laws.proofs.Tools.{cases}
@@ -122,20 +122,6 @@ pub ahead-some : (there : Bool) (step used : ℕ) → (1 ≤ ahead_of there step
 unfolding ahead_of
 ahead-some true step used = (omega arith, omega arith)
 ahead-some false step used = (omega arith, omega arith)
-
-pub ahead-less : (there : Bool) (step used : ℕ) → there && ltb used step ≡ true → used < step
-ahead-less true step used e = ltb-true used step e
-ahead-less false step used e = absurd (true≢false (sym e))
-
-pub ahead_yes : (there : Bool) (step used : ℕ) → there && ltb used step ≡ true → 1 + (step - used) ≡ ahead_of there step used
-unfolding ahead_of
-ahead_yes true step used e = refl
-ahead_yes false step used e = absurd (true≢false (sym e))
-
-pub ahead_no : (there : Bool) (step used : ℕ) → there && ltb used step ≡ false → 1 ≡ ahead_of there step used
-unfolding ahead_of
-ahead_no true step used e = let z = ltb-false used step e in omega arith
-ahead_no false step used e = refl
 
 -- before the turn of index i, of n ranks in all, that goes to index j
 module _ (b : List ℕ) (v : View) (c : Cursor) (there : Bool) (i n j : ℕ) (t : Cut (ahead_of there v.step c.used) i n j)

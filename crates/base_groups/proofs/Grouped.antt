@@ -1,5 +1,6 @@
 -- For the code: the positions of one base, and a loop that takes those of one base a turn. Assumes nothing.
-use Rattle.std.proofs.Common.{◌≡◌, ℕ, zero, suc, ◌+◌, ◌-◌, ◌*◌, ◌≤◌, eqb, List, [], ◌∷◌, ◌++◌, length, get_or, drop, sym, refl, ap, ◌∙◌, subst, ap₂, le_refl, mul-le-mul, arith, length-append, take-append-drop, drop-drop, eqb-true}
+use Rattle.std.proofs.Common.{◌≡◌, ℕ, zero, suc, ◌+◌, ◌-◌, ◌*◌, ◌≤◌, min, true, false, eqb, List, [], ◌∷◌, ◌++◌, length, get_or, sym, refl, ap, ◌∙◌, subst, ap₂, le_refl, mul-le-mul, arith, length-append, eqb-true}
+use native.Mathlib.Nat.{min-le_left, le-min}
 use borrow.Author.Tests.{eqb-false}
 use Rattle.format.specs.Bytes.{bytes, bytes_of}
 use Rattle.laws.proofs.Tools.{cases}
@@ -14,11 +15,10 @@ use Rattle.parts.specs.Ready.{passed, Next, Keeps}
 use Rattle.parts.specs.Batch.{added_first_by, added_second_by, put_all_by, Along, RoomAll}
 use Rattle.parts.proofs.Taking.{if_zero_lem, if_more}
 use Rattle.parts.proofs.Added.{firsts_by_lem, seconds_by_lem, taken-append, first-place, second-place, along_by_lem, rising-front}
-use Rattle.parts.proofs.Taken.{Measuring, Writing}
+use Rattle.parts.proofs.Taken.{all_by_end, put-all-end}
 use Rattle.offsets.specs.Over.{offsets_over}
 use Rattle.offsets.proofs.Putting.{length_over}
 use Rattle.base_groups.specs.Coding.{coder, due, opened, OneBase}
-use Rattle.base_groups.proofs.Cuts.{Cut, part, length_part}
 use Rattle.base_groups.proofs.Adds.{taken_group, first_group, second_group, added-firsts, added-seconds}
 
 -- ---- one base
@@ -100,41 +100,72 @@ module _ (l : ℕ) (e : Encoder) (ls : List ℕ) (o : OneBase l e ls) where
           let a = r.second in
           omega arith
 
--- ---- a loop along ls, from index i to index j in a turn
+-- ---- a loop along ls₀ that takes the positions of one base a turn, from encoder e₀ and the bytes d₀ on
 
 pub due-some : (l left : ℕ) → 1 ≤ l → 1 ≤ due l left
 unfolding due
 due-some l zero h = h
 due-some l (suc n) h = omega arith
 
-module _ (w l : ℕ) (ls : List ℕ) (e₀ : Encoder) (e : Encoder) (i j : ℕ) (c : Cut (due l e.left) i (length ls) j) where
-  parted : drop i ls ≡ part i j ls ++ drop j ls
-  parted =
-      let z = c.more in
-      let q : i + (j - i) ≡ j = omega arith in
-      sym (take-append-drop (j - i) (drop i ls)) ∙ ap (λ (x : List ℕ). part i j ls ++ x) (drop-drop (j - i) i ls ∙ ap (λ (x : ℕ). drop x ls) q)
+-- before a turn: ls are left, and give the whole
+pub record Measuring (w l : ℕ) (ls₀ : List ℕ) (e₀ e : Encoder) (ls : List ℕ) : Type 0 where
+  pub along : Along e ls
+  pub whole : taken_all_by (coder w l) e ls ≡ taken_all_by (coder w l) e₀ ls₀
 
-  along_parted : Measuring (coder w l) ls e₀ e i → Along e (part i j ls ++ drop j ls)
-  along_parted m = subst (Along e) parted m.along
+-- the same with the bytes d
+pub record Writing (w l : ℕ) (ls₀ : List ℕ) (e₀ : Encoder) (d₀ : List ℕ) (e : Encoder) (d ls : List ℕ) : Type 0 where
+  pub measured : Measuring w l ls₀ e₀ e ls
+  pub room : RoomAll (coder w l) e ls (length d)
+  pub same : length d ≡ length d₀
+  pub written : put_all_by (coder w l) d e ls ≡ put_all_by (coder w l) d₀ e₀ ls₀
 
-  pub one-base : Measuring (coder w l) ls e₀ e i → OneBase l e (part i j ls)
+-- the end: none are left
+pub measured_all : (w l : ℕ) (ls₀ : List ℕ) (e₀ e : Encoder) (ls : List ℕ) → eqb (length ls) 0 ≡ true → Measuring w l ls₀ e₀ e ls → e ≡ taken_all_by (coder w l) e₀ ls₀
+measured_all w l ls₀ e₀ e [] z m = sym (all_by_end (coder w l) e) ∙ m.whole
+measured_all w l ls₀ e₀ e (p ∷ ls) z m = let n = eqb-true (length (p ∷ ls)) 0 z in absurd (omega arith)
+
+pub written_all : (w l : ℕ) (ls₀ : List ℕ) (e₀ : Encoder) (d₀ : List ℕ) (e : Encoder) (d ls : List ℕ) → eqb (length ls) 0 ≡ true → Writing w l ls₀ e₀ d₀ e d ls
+    → (e ≡ taken_all_by (coder w l) e₀ ls₀) × (d ≡ put_all_by (coder w l) d₀ e₀ ls₀)
+written_all w l ls₀ e₀ d₀ e d [] z m = (measured_all w l ls₀ e₀ e [] z m.measured, sym (put-all-end (coder w l) d e) ∙ m.written)
+written_all w l ls₀ e₀ d₀ e d (p ∷ ls) z m = let n = eqb-true (length (p ∷ ls)) 0 z in absurd (omega arith)
+
+-- of those left the first n go to one base, xs, and then ys are left
+pub record Front (l : ℕ) (e : Encoder) (n : ℕ) (ls xs ys : List ℕ) : Type 0 where
+  pub size : length xs ≡ n
+  pub some : 1 ≤ n
+  pub few : n ≤ due l e.left
+  pub parts : ls ≡ xs ++ ys
+
+pub front : (l : ℕ) (e : Encoder) (n : ℕ) (ls xs ys : List ℕ) → 1 ≤ l → eqb (length ls) 0 ≡ false → n ≡ min (due l e.left) (length ls) → length xs ≡ n → ls ≡ xs ++ ys
+    → Front l e n ls xs ys
+front l e n ls xs ys h s m q p =
+    let a = min-le_left (due l e.left) (length ls) in
+    let z = eqb-false (length ls) 0 s in
+    let c : 1 ≤ min (due l e.left) (length ls) = le-min (due-some l e.left h) (omega arith) in
+    record { size = q; some = omega arith; few = omega arith; parts = p }
+
+module _ (w l : ℕ) (ls₀ : List ℕ) (e₀ e : Encoder) (n : ℕ) (ls xs ys : List ℕ) (t : Front l e n ls xs ys) where
+  along_parted : Measuring w l ls₀ e₀ e ls → Along e (xs ++ ys)
+  along_parted m = subst (Along e) t.parts m.along
+
+  pub one-base : Measuring w l ls₀ e₀ e ls → OneBase l e xs
   one-base m =
       let a = along_parted m in
-      let z = c.more in
-      let n = length_part i j ls c.inside in
+      let s = t.some in
+      let z = t.size in
+      let f = t.few in
       record {
-        along = record { sound = a.sound; rising = rising-front (passed e) 16777216 (part i j ls) (drop j ls) a.rising };
-        some = rw n (omega arith);
-        served = rw n c.few;
+        along = record { sound = a.sound; rising = rising-front (passed e) 16777216 xs ys a.rising };
+        some = omega arith;
+        served = omega arith;
       }
 
-  pub measure_group : Keeps (coder w l) → Measuring (coder w l) ls e₀ e i → (r : Encoder) → r ≡ taken_all_by (coder w l) e (part i j ls)
-      → Measuring (coder w l) ls e₀ r j
+  pub measure_group : Keeps (coder w l) → Measuring w l ls₀ e₀ e ls → (r : Encoder) → r ≡ taken_all_by (coder w l) e xs → Measuring w l ls₀ e₀ r ys
   measure_group s m r q =
       rw q
       (record {
-        along = along_by_lem (coder w l) s e (part i j ls) (drop j ls) (along_parted m);
-        whole = sym (taken-append (coder w l) e (part i j ls) (drop j ls)) ∙ ap (taken_all_by (coder w l) e) (sym parted) ∙ m.whole;
+        along = along_by_lem (coder w l) s e xs ys (along_parted m);
+        whole = sym (taken-append (coder w l) e xs ys) ∙ ap (taken_all_by (coder w l) e) (sym t.parts) ∙ m.whole;
       })
 
 -- ---- the bytes of those of xs, then those of ys
@@ -194,22 +225,22 @@ module _ (w l : ℕ) (e : Encoder) (xs ys : List ℕ) where
         (put3_step d e.first x x2 e.second y y2 v [] [] (rw firsts-append at r.first) (le_refl v)) in
         o ∙ ap₂ (λ (f s : ℕ). put (put (put_all_by k d e xs) f x2) s y2) (sym (first-place k e xs)) (sym (second-place k e xs))
 
-module _ (w l : ℕ) (ls : List ℕ) (e₀ : Encoder) (d₀ : List ℕ) (e : Encoder) (d : List ℕ) (i j : ℕ) (c : Cut (due l e.left) i (length ls) j)
-    (m : Writing (coder w l) ls e₀ d₀ e d i) where
-  room_parted : RoomAll (coder w l) e (part i j ls ++ drop j ls) (length d)
-  room_parted = subst (λ (x : List ℕ). RoomAll (coder w l) e x (length d)) (parted w l ls e₀ e i j c) m.room
+module _ (w l : ℕ) (ls₀ : List ℕ) (e₀ : Encoder) (d₀ : List ℕ) (e : Encoder) (d : List ℕ) (n : ℕ) (ls xs ys : List ℕ) (t : Front l e n ls xs ys)
+    (m : Writing w l ls₀ e₀ d₀ e d ls) where
+  room_parted : RoomAll (coder w l) e (xs ++ ys) (length d)
+  room_parted = subst (λ (x : List ℕ). RoomAll (coder w l) e x (length d)) t.parts m.room
 
-  pub group_room : RoomAll (coder w l) e (part i j ls) (length d)
-  group_room = room-front w l e (part i j ls) (drop j ls) (length d) room_parted
+  pub group_room : RoomAll (coder w l) e xs (length d)
+  group_room = room-front w l e xs ys (length d) room_parted
 
-  pub write_group : Keeps (coder w l) → (r : Encoder) (o : List ℕ)
-      → (r ≡ taken_all_by (coder w l) e (part i j ls)) × (o ≡ put_all_by (coder w l) d e (part i j ls)) → Writing (coder w l) ls e₀ d₀ r o j
+  pub write_group : Keeps (coder w l) → (r : Encoder) (o : List ℕ) → (r ≡ taken_all_by (coder w l) e xs) × (o ≡ put_all_by (coder w l) d e xs)
+      → Writing w l ls₀ e₀ d₀ r o ys
   write_group s r o q =
-      let n = length-put-all w l d e (part i j ls) in
+      let k = length-put-all w l d e xs in
       rw (q.0, q.1)
       (record {
-        measured = measure_group w l ls e₀ e i j c s m.measured (taken_all_by (coder w l) e (part i j ls)) refl;
-        room = rw n (room_rest w l e (part i j ls) (drop j ls) (length d) room_parted);
-        same = n ∙ m.same;
-        written = sym (put-append-all w l e (part i j ls) (drop j ls) (length d) room_parted d) ∙ ap (put_all_by (coder w l) d e) (sym (parted w l ls e₀ e i j c)) ∙ m.written;
+        measured = measure_group w l ls₀ e₀ e n ls xs ys t s m.measured (taken_all_by (coder w l) e xs) refl;
+        room = rw k (room_rest w l e xs ys (length d) room_parted);
+        same = k ∙ m.same;
+        written = sym (put-append-all w l e xs ys (length d) room_parted d) ∙ ap (put_all_by (coder w l) d e) (sym t.parts) ∙ m.written;
       })

@@ -1,6 +1,7 @@
 -- What an allowed setting says of width and step. Assumes nothing.
-use Rattle.std.proofs.Common.{◌≡◌, ℕ, ◌≤◌, true, false, sym, le-leb}
-use Rattle.format.specs.Tools.{within}
+use Rattle.std.proofs.Common.{◌≡◌, ℕ, ◌+◌, ◌/◌, ◌%◌, ◌≤◌, min, true, false, sym, le-leb, arith}
+use Rattle.std.proofs.lemmas.Grind.{common_steps}
+use Rattle.format.specs.Tools.{within, up_to}
 use Rattle.format.specs.BaseOffset.{based_kind}
 use Rattle.laws.proofs.Tools.{cases, both_true, within_true}
 
@@ -26,3 +27,7 @@ module _ (w l : ℕ) where
 
   pub not-allowed : (Allowed w l → ⊥) → false ≡ (based_kind w l).allowed
   not-allowed n = cases (based_kind w l).allowed (λ t. absurd (n (allows t))) (λ t. sym t)
+
+-- a quotient rounded up, as the library rounds it
+pub rounded : (n l : ℕ) → 1 ≤ l → n / l + min 1 (n % l) ≡ up_to n l
+rounded n l h = grind (arith, common_steps)

@@ -1,6 +1,6 @@
 -- The check along the groups: its start, one turn, and its end. Assumes nothing.
-use Rattle.std.proofs.Common.{◌≡◌, ℕ, ◌+◌, ◌-◌, ◌*◌, ◌<◌, ◌≤◌, true, false, eqb, List, [], ◌∷◌, length, drop, sym, refl, ap, ◌∙◌, mul-le-mul_left, arith, eq-eqb, ne_eqb, le-leb}
-use native.Mathlib.Nat.{mul-sub}
+use Rattle.std.proofs.Common.{◌≡◌, ℕ, ◌+◌, ◌-◌, ◌*◌, ◌<◌, ◌≤◌, true, false, eqb, List, [], ◌∷◌, length, drop, sym, refl, ap, ◌∙◌, mul-le-mul_left, mul-zero, mul-suc, add-zero, add-one, arith, eq-eqb, ne_eqb, le-leb}
+use native.Mathlib.Nat.{mul-sub, sub-zero}
 use Rattle.format.specs.declared.View.{View}
 use Rattle.format.specs.Tools.{Below, both, up_to}
 use Rattle.format.specs.Bytes.{field, numbers_of}
@@ -25,6 +25,10 @@ pub record Turn (b : List ℕ) (v : View) (base place at left more : ℕ) : Type
   pub ranks : at + entry_size v.width * left ≤ length b
   pub count : more + 1 ≡ up_to left v.step
   pub rest : ends_right v.step v.cells base (numbers_of 4 more (drop place b)) (numbers_of (entry_size v.width) left (drop at b)) ≡ ends_of b v
+
+-- before the turn of index i
+abbrev pub Before : List ℕ → View → ℕ → ℕ → Type 0
+Before b v base i = Turn b v base (v.start + 4 * (i + 1)) (v.second + entry_size v.width * v.step * i) (v.words - v.step * i) (v.firsts - 1 - i)
 
 module _ {b : List ℕ} {v : View} (c : Counted (kind v) b v) where
   k : Known b v
@@ -61,17 +65,21 @@ module _ {b : List ℕ} {v : View} (c : Counted (kind v) b v) where
   pub falls-same : Below 256 b → 0 < v.words → falls (offsets_of b v) ≡ v.firsts - 1 → ends_of b v ≡ parts_right (kind v) b v
   falls-same s h e = rw (eq-eqb (falls (offsets_of b v)) (v.firsts - 1) e) at (parts-ends s h)
 
-  pub turn_start : 0 < v.words → Turn b v (field 4 v.start b) (v.start + 4) v.second v.words (v.firsts - 1)
+  pub turn_start : 0 < v.words → Before b v (field 4 v.start b) 0
   turn_start h =
       let f = firsts-some h in
       let t = k.there in
       let p = k.second-place in
-      record {
+      let e : v.second + entry_size v.width * v.step * 0 ≡ v.second = rw (mul-zero (entry_size v.width * v.step), add-zero v.second) in
+      let d : v.words - v.step * 0 ≡ v.words = rw (mul-zero v.step) (sub-zero v.words) in
+      let m : v.firsts - 1 - 0 ≡ v.firsts - 1 = omega arith in
+      rw (e, d, m)
+      (record {
         bases = omega arith;
         ranks = t;
         count = rw (← k.bases) (omega arith);
         rest = unfold ends_of in refl;
-      }
+      })
 
   module _ {base place at left more : ℕ} (t : Turn b v base place at left more) where
     pub some_left : 1 ≤ left
@@ -127,3 +135,15 @@ module _ {b : List ℕ} {v : View} (c : Counted (kind v) b v) where
             count = (count_next v.step left more k.rule.step-least h t.count).1;
             rest = rw f at parted;
           }
+
+  -- the next index
+  pub turn_on : {base i : ℕ} → Before b v base i → (next : ℕ) → i < v.firsts - 1 → next ≡ field 4 (v.start + 4 * (i + 1)) b
+      → group_ends base next (numbers_of (entry_size v.width) v.step (drop (v.second + entry_size v.width * v.step * i) b)) ≡ true
+      → Before b v next (i + 1)
+  turn_on {base} {i} t next h e f =
+      let d = entry_size v.width * v.step in
+      let p : v.start + 4 * (i + 1 + 1) ≡ v.start + 4 * (i + 1) + 4 = omega arith in
+      let q : v.second + d * (i + 1) ≡ v.second + d * i + d = omega (arith, ap (λ (x : ℕ). d * x) (add-one i), mul-suc d i) in
+      let r : v.words - v.step * (i + 1) ≡ v.words - v.step * i - v.step = omega (arith, ap (λ (x : ℕ). v.step * x) (add-one i), mul-suc v.step i) in
+      let s : v.firsts - 1 - (i + 1) ≡ v.firsts - 1 - i - 1 = omega arith in
+      rw (p, q, r, s) (turn_next t next (omega arith) e f)

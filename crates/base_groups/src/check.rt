@@ -15,21 +15,16 @@ pub fn groups_right(file: &[u8], v: View) -> bool
 {
     let stride = entry_size(v.width) * v.step as usize;
     let start = v.start as usize;
+    let second = v.second as usize;
+    let more = v.firsts as usize - 1;
     let mut base = get_u32(file, start);
-    let mut place = start + 4;
-    let mut at = v.second as usize;
-    let mut left = v.words;
-    let mut more = v.firsts - 1;
-    while 0 < more {
-        let next = get_u32(file, place);
-        if !ends_right(file, at, v.width, v.step, base, next) {
+    for i in 0..more {
+        let next = get_u32(file, start + 4 * (i + 1));
+        if !ends_right(file, second + stride * i, v.width, v.step, base, next) {
             return false;
         }
         base = next;
-        place += 4;
-        at += stride;
-        left -= v.step;
-        more -= 1;
     }
-    ends_right(file, at, v.width, left, base, v.cells)
+    let left = v.words - v.step * more as u32;
+    ends_right(file, second + stride * more, v.width, left, base, v.cells)
 }

@@ -10,17 +10,13 @@ use offsets::put::put_offsets;
 use parts::Encoder;
 use parts::encode::limit;
 use stores::put_u32;
-use wire::numbers::lesser;
 
 // How many of n positions go to one base: those that it still serves, or all of a new one's.
 pub fn served(step: u32, left: u32, n: usize) -> usize
     ensures { result ≡ min (due step left) n }
 {
-    if left == 0 {
-        lesser(step as usize, n)
-    } else {
-        lesser(left as usize, n)
-    }
+    let due = if left == 0 { step } else { left };
+    (due as usize).min(n)
 }
 
 // The encoder with the base of p: its own, or p where none is left to serve it.
@@ -34,14 +30,6 @@ fn with_base(step: u32, mut e: Encoder, p: u32) -> Encoder
         e.first += 4;
     }
     e
-}
-
-// Each offset so far fits, and one more.
-fn still_fits(width: u32, fits: bool, offset: u32) -> bool
-    requires { (1 ≤ width) × (width ≤ 2) }
-    ensures { result ≡ both fits (nat_le offset (256 ^ width - 1)) }
-{
-    fits & (offset <= limit(width))
 }
 
 // The encoder after the positions of one base. They rise, so the last offset is the largest.
@@ -61,7 +49,7 @@ pub fn take_group(width: u32, step: u32, mut e: Encoder, ps: &[u32]) -> Encoder
         empty: e.empty,
         first: e.first,
         second: e.second + width as usize * n,
-        fits: still_fits(width, e.fits, last - e.base),
+        fits: e.fits & (last - e.base <= limit(width)),
     }
 }
 

@@ -4,7 +4,7 @@ ghost use Rattle.parts.specs.Cursor.{entry_of};
 ghost use Rattle.parts.specs.Last.{LastAtMost};
 
 use format::View;
-use offsets::last::{last_u8, last_u16};
+use offsets::last::last;
 
 // The index of the last of the n offsets from a rank on that is at most x, where they rise; 0 where none is.
 pub fn last_offset(file: &[u8], v: View, rank: u32, n: u32, x: u32) -> u32
@@ -13,10 +13,9 @@ pub fn last_offset(file: &[u8], v: View, rank: u32, n: u32, x: u32) -> u32
     if n == 0 {
         return 0;
     }
-    let width = v.width;
-    match width {
-        1 => last_u8(file, v.second, rank, n, x),
-        2 => last_u16(file, v.second, rank, n, x),
+    match v.width {
+        1 => last::<u8>(file, v.second, rank, n, x),
+        2 => last::<u16>(file, v.second, rank, n, x),
         _ => 0,
     }
 }

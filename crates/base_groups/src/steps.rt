@@ -5,9 +5,7 @@ ghost use Rattle.base_groups.specs.Steps.{base_of, offset_from, ahead_of};
 use format::View;
 use parts::Cursor;
 use parts::walk::entry_of;
-use std::num::wrapping_add_u32;
 use wire::load_u32;
-use wire::numbers::lesser;
 
 // The base of the next rank: the same, or the next one.
 pub fn base_of(file: &[u8], v: View, mut c: Cursor) -> Cursor
@@ -19,7 +17,7 @@ pub fn base_of(file: &[u8], v: View, mut c: Cursor) -> Cursor
     }
     c.used = 1;
     c.base = load_u32(file, v.start as usize + 4 * c.next as usize);
-    c.next = wrapping_add_u32(c.next, 1);
+    c.next = c.next.wrapping_add(1);
     c
 }
 
@@ -27,8 +25,8 @@ pub fn base_of(file: &[u8], v: View, mut c: Cursor) -> Cursor
 pub fn offset_from(file: &[u8], v: View, mut p: Cursor) -> Cursor
     ensures { result ≡ offset_from file.now v p }
 {
-    p.rank = wrapping_add_u32(p.rank, 1);
-    p.at = wrapping_add_u32(p.base, entry_of(file, v, p.rank));
+    p.rank = p.rank.wrapping_add(1);
+    p.at = p.base.wrapping_add(entry_of(file, v, p.rank));
     p
 }
 
@@ -36,9 +34,10 @@ pub fn offset_from(file: &[u8], v: View, mut p: Cursor) -> Cursor
 pub fn ranks_ahead(there: bool, step: u32, used: u32, n: usize) -> usize
     ensures { result ≡ min (ahead_of there step used) n }
 {
-    if there & (used < step) {
-        lesser(1 + (step - used) as usize, n)
+    let ahead = if there {
+        1 + step.saturating_sub(used) as usize
     } else {
-        lesser(1, n)
-    }
+        1
+    };
+    ahead.min(n)
 }

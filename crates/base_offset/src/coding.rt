@@ -13,11 +13,11 @@ pub fn take_all(width: u32, step: u32, mut e: Encoder, ps: &[u32]) -> Encoder
     requires { ((based_kind width step).allowed ≡ true) × Along e ps.now }
     ensures { result ≡ taken_all_by (coder width step) e ps.now }
 {
-    let mut i: usize = 0;
-    while i < ps.len() {
-        let end = i + served(step, e.left, ps.len() - i);
-        e = take_group(width, step, e, &ps[i..end]);
-        i = end;
+    let mut rest = ps;
+    while !rest.is_empty() {
+        let (group, later) = rest.split_at(served(step, e.left, rest.len()));
+        e = take_group(width, step, e, group);
+        rest = later;
     }
     e
 }
@@ -27,11 +27,11 @@ pub fn put_all(dst: &mut [u8], width: u32, step: u32, mut e: Encoder, ps: &[u32]
     requires { ((based_kind width step).allowed ≡ true) × Along e ps.now × RoomAll (coder width step) e ps.now (length dst.old) }
     ensures { (result ≡ taken_all_by (coder width step) e ps.now) × (dst.new ≡ put_all_by (coder width step) dst.old e ps.now) }
 {
-    let mut i: usize = 0;
-    while i < ps.len() {
-        let end = i + served(step, e.left, ps.len() - i);
-        e = put_group(dst, width, step, e, &ps[i..end]);
-        i = end;
+    let mut rest = ps;
+    while !rest.is_empty() {
+        let (group, later) = rest.split_at(served(step, e.left, rest.len()));
+        e = put_group(dst, width, step, e, group);
+        rest = later;
     }
     e
 }

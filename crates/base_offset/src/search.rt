@@ -9,7 +9,6 @@ use parts::Found;
 use parts::search::last_at_most;
 use parts::walk::entry_of;
 use wire::load_u32;
-use wire::numbers::lesser;
 
 // Where a position stands: the last base that is at most it, then the last such offset of that base's group.
 pub fn find(file: &[u8], v: View, p: Position) -> Found
@@ -27,7 +26,7 @@ pub fn find(file: &[u8], v: View, p: Position) -> Found
         };
     }
     let rank = start as u32;
-    let n = lesser(v.step as usize, (v.words - rank) as usize) as u32;
+    let n = v.step.min(v.words - rank);
     if n == 0 {
         return Found {
             below: 0,

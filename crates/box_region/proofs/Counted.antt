@@ -143,3 +143,7 @@ count-least (e ∷ es) low high h =
     let u = both_true (ltb (first high) e) _ t.1 in
     let l = leb-true (first low) (first high) t.0 in
     one-le-mul (omega arith) (count-least es (others low) (others high) u.1)
+
+pub box-least : (d : Dimensions) (low high : List ℕ) → length low ≡ most_dimensions → length high ≡ most_dimensions → box_allowed d low high ≡ true
+    → 1 ≤ box_count d.extents low high
+box-least d low high l h e = count-least d.extents low high (sym (allowed_as d low high l h) ∙ e)

@@ -32,8 +32,7 @@ pub fn long_rows(mut r: Region) -> Region
     requires { Placed r }
     ensures { SameCells r result }
 {
-    let mut n: u32 = 0;
-    while n < 3 {
+    for _ in 0..3 {
         let e = r.extents;
         let l = r.low;
         let h = r.high;
@@ -44,7 +43,6 @@ pub fn long_rows(mut r: Region) -> Region
             return r;
         }
         r = merged(r);
-        n += 1;
     }
     r
 }

@@ -1,17 +1,16 @@
 -- A row by its stored cells and the empty ones between: what is left of it gives the whole. Assumes nothing.
 use Prim.Native.Nat.{ℕ, zero, suc, ◌+◌, ◌-◌, ◌*◌, ◌≤◌, ◌<◌}
 use mathlib.Core.Path.{◌≡◌, refl, sym, ap, ap₂, ◌∙◌}
-use mathlib.Core.Logic.{⊎_elim}
-use mathlib.Core.List.{List, [], ◌∷◌, ◌++◌, append_assoc}
+use mathlib.Core.List.{List, ◌∷◌, ◌++◌, append_assoc}
 use native.Mathlib.Nat.{lt_of_not-le}
 use native.Mathlib.Decide.{dec_le}
 use native.Mathlib.Omega.{arith}
-use lib.ListN.{length, get_or, take, drop, replicate, length-replicate}
+use borrow.Rule.Slice.PartMut.{put_mid}
+use lib.ListN.{length, get_or, take, drop, replicate, length-replicate, length-drop}
+use lib.Seq.{drop-drop, length-take-le}
 use lib.Arith.{lt_of_le-ne}
 use borrow.Author.Tests.{lt-ltb}
-use types.Run.{OneOf}
-use denote.Enum.Declared.{tag_of}
-use Rattle.format.specs.contracts.RankAnswer.{the_type}
+use Rattle.std.specs.Prelude.{Ok}
 use Rattle.format.specs.declared.View.{View}
 use Rattle.format.specs.declared.Rank.{Rank}
 use Rattle.format.specs.declared.RankAnswer.{RankAnswer}
@@ -33,7 +32,7 @@ use Rattle.parts.proofs.Seen.{seen}
 use Rattle.kinds.specs.Steps.{stores_runs}
 use Rattle.search.specs.Searched.{RankSearched}
 use Rattle.search.proofs.Cells.{cell_by, cell-searched}
-use Rattle.scatter.proofs.Blank.{range-filled}
+use Rattle.search.proofs.RankAnswers.{no_rank}
 use Rattle.box_rows.specs.declared.Filled.{Filled}
 use Rattle.row_seek.specs.Ready.{Ready, Reached}
 use Rattle.box_rows.specs.Filling.{words_on, RowFilled}
@@ -61,20 +60,17 @@ module _ (b : List ℕ) (v : View) (o : ViewOf b v) (p : ℕ) (k : p < v.cells) 
   word_none : (n : ℕ) → RankSearched b v p (empty n) → v.empty ≡ get_or (words_of b) p 0
   word_none n s = ap (λ (x : Answer). first (values_of x)) (cell_is _ s)
 
-  module _ (c : Cursor) (y : Reached b v c p) (a : RankAnswer) (s : RankSearched b v p (rank_says a)) where
+  module _ (c : Cursor) (y : Reached b v c p) (a : RankAnswer) (s : RankSearched b v p (rank_says (Ok a))) where
     -- two answers are the same
-    agree : (x : Answer) → RankSearched b v p x → rank_says a ≡ x
+    agree : (x : Answer) → RankSearched b v p x → rank_says (Ok a) ≡ x
     agree x t = s.right o ∙ sym (t.right o)
 
     -- where the answer is no rank, the cursor stands past the position
-    pub stands-past : OneOf (1 ∷ (2 ∷ [])) (tag_of the_type a) → c.rank < v.words → p < c.at
+    pub stands-past : ((r : Rank) → a ≡ ra.Rank r → ⊥) → c.rank < v.words → p < c.at
     stands-past h more =
-        lt_of_le-ne (y.past more) (λ e. apart a h (ap is_rank (agree _ (sought-here b v o c p y.ready more k (sym e)))))
-      where
-        apart : (a : RankAnswer) → OneOf (1 ∷ (2 ∷ [])) (tag_of the_type a) → is_rank (rank_says a) ≡ 1 → ⊥
-        apart (ra.Rank r) h z = ⊎_elim (λ z. omega arith) (λ z. omega arith) h
-        apart (ra.Empty n) h z = omega arith
-        apart (ra.Refused n) h z = omega arith
+        let z = no_rank a h in
+        lt_of_le-ne (y.past more)
+        (λ e. let t = ap is_rank (rw z.1 at (agree _ (sought-here b v o c p y.ready more k (sym e)))) in omega arith)
 
     -- where it is one, the cursor stands there
     pub stands_here : (r : Rank) → a ≡ ra.Rank r → (c.rank < v.words) × (c.at ≡ p) × (c.rank ≡ r.0)
@@ -137,13 +133,13 @@ module _ (b : List ℕ) (v : View) (o : ViewOf b v) (c : Cursor) (p m : ℕ) (y 
       ∙ word-stored b v o (p + i) (omega arith) (c.rank + i) (sought-along b v o c p m y more e h i l (omega arith))))
 
 -- a part lent and filled
-pub part_filled : (d ys : List ℕ) (a n x : ℕ) → a + n ≤ length d → ys ≡ replicate n x ++ drop n (take (a + n - a) (drop a d))
-    → take a d ++ (ys ++ drop (a + n - a) (drop a d)) ≡ put d a (replicate n x)
+pub part_filled : (d ys : List ℕ) (a n x : ℕ) → a + n ≤ length d → ys ≡ replicate (length (take (a + n - a) (drop a d))) x
+    → put_mid a (a + n - a) d ys ≡ put d a (replicate n x)
 part_filled d ys a n x h e =
     let z : a + n - a ≡ n = omega arith in
-    let l = length-replicate n x in
-    let f = rw z at (range-filled d ys a (a + n) x (omega arith) h (rw z (rw z at e))) in
-    rw z f ∙ sym (append_assoc (take a d) (replicate n x) (drop (a + n) d)) ∙ sym (put-fits d a (replicate n x) (rw l h) ∙ rw l)
+    let l : length (take n (drop a d)) ≡ n = length-take-le n (drop a d) (omega (arith, length-drop a d)) in
+    let w = length-replicate n x in
+    rw (e, z, l, drop-drop n a d) (sym (append_assoc (take a d) (replicate n x) (drop (a + n) d)) ∙ sym (put-fits d a (replicate n x) (rw w h) ∙ rw w))
 
 -- ---- the row
 

@@ -1,7 +1,7 @@
 // The words of a box of a picture in row order, from an accepted file. Positions never fall, so a cursor goes along the stored cells once.
 #![tactic(auto)]
 
-ghost use Rattle.std.specs.Prelude.{◌≡◌, true, ◌+◌, ◌*◌, ◌≤◌, ◌<◌, length, drop, replicate};
+ghost use Rattle.std.specs.Prelude.{◌≡◌, true, ◌+◌, ◌*◌, ◌≤◌, ◌<◌, length, drop};
 ghost use Rattle.format.specs.Bytes.{numbers_of};
 ghost use Rattle.format.specs.Answers.{leaves};
 ghost use Rattle.format.specs.Accepted.{dimensions_of};
@@ -16,7 +16,6 @@ use box_region::region::{Region, long_rows};
 use format::{Coordinates, DIMS, Dimensions, Position, RankAnswer, View};
 use parts::Cursor;
 use row_seek::resume::{begin, empty_ahead, rank_from, stored_ahead};
-use scatter::fill;
 use wire::get_u32;
 
 // How far a box is put out: the cursor, and the words that the destination has.
@@ -26,24 +25,13 @@ pub struct Filled {
     pub words: usize,
 }
 
-// n elements from an index on become x.
-fn fill_from(dst: &mut [u32], from: usize, n: usize, x: u32)
-    requires { from + n ≤ length dst.old }
-    ensures { dst.new ≡ put dst.old from (replicate n x) }
-{
-    let end = from + n;
-    fill(&mut dst[from..end], n, x);
-}
-
 // The n words of the file from an offset on become the elements from an index on.
 fn copy_words(file: &[u8], at: usize, dst: &mut [u32], from: usize, n: usize)
     requires { (from + n ≤ length dst.old) × (at + 4 * n ≤ length file.now) }
     ensures { dst.new ≡ put dst.old from (numbers_of 4 n (drop at file.now)) }
 {
-    let mut i: usize = 0;
-    while i < n {
+    for i in 0..n {
         dst[from + i] = get_u32(file, at + 4 * i);
-        i += 1;
     }
 }
 
@@ -63,7 +51,7 @@ fn put_row(file: &[u8], v: View, s: Filled, from: u32, n: u32, dst: &mut [u32]) 
         let answer = sought.answer;
         let RankAnswer::Rank(rank) = answer else {
             let m = empty_ahead(v, c, p, end - k);
-            fill_from(dst, k, m, v.empty);
+            dst[k..k + m].fill(v.empty);
             k += m;
             p += m as u32;
             continue;
@@ -95,14 +83,14 @@ fn put_from(
     ensures { BoxFilled file.now v (drop i extents) (drop i low) (drop i high) p s dst.old result dst.new }
 {
     let before = p * extents[i];
-    let mut a = low[i];
+    let first = low[i];
     let last = high[i];
     if i + 1 == DIMS {
-        return put_row(file, v, s, before + a, last - a + 1, dst);
+        return put_row(file, v, s, before + first, last - first + 1, dst);
     }
-    while a <= last {
+    // Not `first..=last`, whose loop ends in two places to prove.
+    for a in first..last + 1 {
         s = put_from(file, v, extents, low, high, i + 1, before + a, s, dst);
-        a += 1;
     }
     s
 }

@@ -1,18 +1,18 @@
 -- Four numbers, and what another number of extents or coordinates says. Assumes nothing.
 use Prim.Native.Nat.{ℕ}
-use mathlib.Core.Path.{◌≡◌, refl, sym, ◌∙◌}
-use mathlib.Core.Bool.{Bool, true, false, not}
+use mathlib.Core.Path.{◌≡◌, refl}
+use mathlib.Core.Bool.{false}
 use mathlib.Core.List.{List, [], ◌∷◌}
 use native.Mathlib.Omega.{arith}
 use lib.ListN.{length, get_or}
 use lib.Dec.{eqb}
-use borrow.Author.Tests.{eqb-true, eqb-false, eq-eqb, ne_eqb}
+use borrow.Author.Tests.{eq-eqb, ne_eqb}
 use Rattle.format.specs.declared.Dimensions.{Dimensions}
 use Rattle.format.specs.Tools.{within}
 use Rattle.format.specs.Signals.{EXTENT}
 use Rattle.format.specs.Picture.{dimensions_allowed, most_dimensions, inside}
 use Rattle.c_values.specs.Extents.{extents_number}
-use Rattle.laws.proofs.Tools.{cases, not-false, refuse-zero}
+use Rattle.laws.proofs.Tools.{cases}
 
 pub four-numbers : (l : List ℕ) → length l ≡ most_dimensions → get_or l 0 0 ∷ get_or l 1 0 ∷ get_or l 2 0 ∷ get_or l 3 0 ∷ [] ≡ l
 four-numbers [] h = absurd (omega arith)
@@ -27,30 +27,17 @@ pub not-four : (d : Dimensions) → (length d.extents ≡ most_dimensions → �
 unfolding dimensions_allowed
 not-four d h = cases (within 1 most_dimensions d.count) (λ t. rw (t, ne_eqb (length d.extents) most_dimensions h)) (λ t. rw t)
 
--- by the test
-pub is_four : (l : List ℕ) (t : Bool) → t ≡ eqb (length l) most_dimensions → t ≡ true → length l ≡ most_dimensions
-is_four l t e h = eqb-true (length l) most_dimensions (sym e ∙ h)
-
-pub is_other : (l : List ℕ) (t : Bool) → t ≡ eqb (length l) most_dimensions → t ≡ false → length l ≡ most_dimensions → ⊥
-is_other l t e h = eqb-false (length l) most_dimensions (sym e ∙ h)
-
--- by the number of the extents
-module _ (es : List ℕ) (n : ℕ) (e : n ≡ extents_number es) where
-  pub extents_four : n ≡ 0 → length es ≡ most_dimensions
+-- refused extents are another number of them
+module _ (es : List ℕ) (h : extents_number es ≡ 0 → ⊥) where
+  pub extents_other : length es ≡ most_dimensions → ⊥
   unfolding extents_number
-  extents_four z =
-      let t = eqb (length es) most_dimensions in
-      eqb-true (length es) most_dimensions (not-false t (refuse-zero 3 (not t) 0 (sym e ∙ z)).0)
+  extents_other f = h (rw (eq-eqb (length es) most_dimensions f))
 
-  pub extents_other : (n ≡ 0 → ⊥) → length es ≡ most_dimensions → ⊥
+  pub extents_refused : extents_number es ≡ EXTENT
   unfolding extents_number
-  extents_other h f = h (e ∙ rw (eq-eqb (length es) most_dimensions f))
-
-  pub extents_number_lem : (n ≡ 0 → ⊥) → n ≡ EXTENT
-  unfolding extents_number
-  extents_number_lem h = e ∙ rw (ne_eqb (length es) most_dimensions (extents_other h))
+  extents_refused = rw (ne_eqb (length es) most_dimensions extents_other)
 
 -- another number of coordinates lies not inside
-pub not-inside : (d : Dimensions) (cs : List ℕ) → (length cs ≡ most_dimensions → ⊥) → inside d cs ≡ false
+pub not-inside : (d : Dimensions) (cs : List ℕ) → eqb (length cs) most_dimensions ≡ false → inside d cs ≡ false
 unfolding inside
-not-inside d cs h = rw (ne_eqb (length cs) most_dimensions h)
+not-inside d cs h = rw h

@@ -1,32 +1,27 @@
-// Four numbers of a slice as an array.
-ghost use Rattle.std.specs.Prelude.{◌≡◌, length, eqb};
+// Four numbers of a slice as an array, and dimensions of plain numbers.
+ghost use Rattle.std.specs.Prelude.{◌≡◌, length, eqb, IfOk};
+ghost use Rattle.format.specs.Tools.{pick};
 ghost use Rattle.format.specs.Picture.{most_dimensions};
-ghost use Rattle.c_values.specs.Extents.{extents_number};
+ghost use Rattle.format.specs.Answers.{signal_of};
+ghost use Rattle.c_values.specs.Extents.{dimensions, extents_number};
 
-use format::signals::EXTENT;
-use format::{Coordinates, DIMS};
+use format::{Coordinates, DIMS, Dimensions, Refusal};
 
-// Whether the numbers are four.
-pub fn are_four(numbers: &[u32]) -> bool
-    ensures { result ≡ eqb (length numbers.now) most_dimensions }
+// The numbers, where they are four.
+pub fn four(numbers: &[u32]) -> Option<Coordinates>
+    ensures { result ≡ pick (eqb (length numbers.now) most_dimensions) (Some numbers.now) None }
 {
-    numbers.len() == DIMS
-}
-
-// 4 for extents that are not four numbers, else 0.
-pub fn extents_number(extents: &[u32]) -> u32
-    ensures { result ≡ extents_number extents.now }
-{
-    if !are_four(extents) {
-        return EXTENT;
+    if numbers.len() == DIMS {
+        Some([numbers[0], numbers[1], numbers[2], numbers[3]])
+    } else {
+        None
     }
-    0
 }
 
-// The four numbers.
-pub fn four(numbers: &[u32]) -> Coordinates
-    requires { length numbers.now ≡ most_dimensions }
-    ensures { result ≡ numbers.now }
+// The dimensions of so many extents; 4 where the extents are not four numbers.
+pub fn dimensions_of(count: u32, extents: &[u32]) -> Result<Dimensions, Refusal>
+    ensures { (signal_of result ≡ extents_number extents.now) × IfOk result (λ d. d ≡ dimensions count extents.now) }
 {
-    [numbers[0], numbers[1], numbers[2], numbers[3]]
+    let extents = four(extents).ok_or(Refusal::Extent)?;
+    Ok(Dimensions { count, extents })
 }

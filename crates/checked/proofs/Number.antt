@@ -7,10 +7,14 @@ use native.Mathlib.Omega.{arith}
 use lib.ListN.{length}
 use lib.Dec.{leb, eqb}
 use borrow.Author.Tests.{le-ltb, lt-ltb, le-leb, lt-leb}
+use Rattle.std.specs.Prelude.{Result, Ok, Err, Some, None}
 use Rattle.format.specs.declared.Setting.{Setting}
 use Rattle.format.specs.declared.View.{View}
+use Rattle.format.specs.declared.Refusal.{Refusal}
+use Rattle.format.specs.declared.Refusal.TheVariants as rf
+use Rattle.format.specs.Answers.{signal_of}
 use Rattle.format.specs.Tools.{both}
-use Rattle.format.specs.Signals.{SHORT, KIND, SETTING, EXTENT, COUNTS, BODY, refuse, or_else}
+use Rattle.format.specs.Signals.{KIND, SETTING, EXTENT, COUNTS, BODY, refuse, or_else}
 use Rattle.format.specs.Bytes.{field}
 use Rattle.format.specs.Picture.{most_cells, dimensions_allowed}
 use Rattle.format.specs.Kinds.{codec, kind_allowed, setting_allowed}
@@ -117,27 +121,34 @@ module _ (b : List ℕ) (v : View) (e : v ≡ view_of b) (d : dimensions_allowed
   pub words-above : v.cells < v.words → false ≡ counts_right b
   words-above h = rw (counts_split, lt-leb v.words v.cells h)
 
-  module _ (r : PartBytes) (z : Sized (kind_of v) v r) where
-    pub counts_other : r.right ≡ false → false ≡ counts_right b
-    counts_other h = rw (counts_split, sym z.right ∙ h) (sym (both_false (leb v.words v.cells)))
+  pub counts_other : Sized (kind_of v) v None → false ≡ counts_right b
+  counts_other z = rw (counts_split, z) (sym (both_false (leb v.words v.cells)))
 
-    pub counts_places : v.words ≤ v.cells → r.right ≡ true → places_right b v r.first r.second ≡ counts_right b
-    counts_places l h = rw (counts_split, le-leb v.words v.cells l, sym z.right ∙ h, z.first h, z.second h)
+  pub counts_places : v.words ≤ v.cells → (p : PartBytes) → Sized (kind_of v) v (Some p) → places_right b v p.first p.second ≡ counts_right b
+  counts_places l p z = rw (counts_split, le-leb v.words v.cells l, z.right, z.first, z.second)
 
--- ---- the verdict
+-- ---- what the check hands back
 
-module _ (b : List ℕ) (v : View) where
-  pub judged_short : (WholeHeader b → ⊥) → Judged b SHORT v
+module _ (b : List ℕ) where
+  pub judged_short : (WholeHeader b → ⊥) → Judged b (Err rf.Short)
   unfolding check_number header_number
-  judged_short h = record { number = rw (lt-ltb (length b) header_length (omega arith)); view = λ z. absurd (omega arith) }
+  judged_short h = record { number = rw (lt-ltb (length b) header_length (omega arith)); view = tt }
 
-  pub judged_header : (n : ℕ) → n ≡ header_number b → (n ≡ 0 → ⊥) → Judged b n v
+  judged_refused : (q : Result View Refusal) → signal_of q ≡ check_number b → (signal_of q ≡ 0 → ⊥) → Judged b q
+  judged_refused (Ok x) e h = absurd (h refl)
+  judged_refused (Err r) e h = record { number = e; view = tt }
+
+  pub judged_header : (q : Result View Refusal) → signal_of q ≡ header_number b → (signal_of q ≡ 0 → ⊥) → Judged b q
   unfolding check_number
-  judged_header n p h =
-      record { number = first-refused n (header_number b) (refuse BODY (not (body_right b)) 0) p h; view = λ z. absurd (h z) }
+  judged_header q p h = judged_refused q (first-refused (signal_of q) (header_number b) (refuse BODY (not (body_right b)) 0) p h) h
 
-  pub judged_body : HeaderView b v → (n : ℕ) → n ≡ body_number b → Judged b n v
-  unfolding check_number body_number
-  judged_body h n p =
-      let e : n ≡ check_number b = rw h.header p in
-      record { number = e; view = λ z. record { accepted = sym e ∙ z; view = h.view } }
+  module _ (v : View) (k : HeaderView b v) where
+    body_check : check_number b ≡ body_number b
+    unfolding check_number body_number
+    body_check = rw k.header
+
+    pub judged_body : (q : Result View Refusal) → signal_of q ≡ body_number b → (signal_of q ≡ 0 → ⊥) → Judged b q
+    judged_body q p h = judged_refused q (p ∙ sym body_check) h
+
+    pub judged_right : body_number b ≡ 0 → Judged b (Ok v)
+    judged_right z = let e = body_check ∙ z in record { number = sym e; view = record { accepted = e; view = k.view } }

@@ -1,6 +1,8 @@
 -- What the complete check finds of a file. Assumes nothing.
-use Rattle.std.specs.Prelude.{ℕ, ◌+◌, ◌*◌, ◌≡◌, Bool, not, List, length, eqb}
+use Rattle.std.specs.Prelude.{ℕ, ◌+◌, ◌*◌, ◌≡◌, Bool, not, List, length, eqb, Result, IfOk}
 use Rattle.format.specs.declared.View.{View}
+use Rattle.format.specs.declared.Refusal.{Refusal}
+use Rattle.format.specs.Answers.{signal_of}
 use Rattle.format.specs.Tools.{both}
 use Rattle.format.specs.Signals.{BODY, refuse}
 use Rattle.format.specs.File.{header_length}
@@ -21,6 +23,6 @@ unfoldable pub body_number : List ℕ → ℕ
 body_number b = refuse BODY (not (body_right b)) 0
 
 -- the number, and the view where the file is accepted: the contract of the check
-pub record Judged (b : List ℕ) (answer : ℕ) (v : View) : Type 0 where
-  pub number : answer ≡ check_number b
-  pub view : answer ≡ 0 → ViewOf b v
+pub record Judged (b : List ℕ) (answer : Result View Refusal) : Type 0 where
+  pub number : signal_of answer ≡ check_number b
+  pub view : IfOk answer (ViewOf b)

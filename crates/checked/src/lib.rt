@@ -5,24 +5,17 @@ ghost use Rattle.std.specs.Prelude.{◌≡◌, true, ◌≤◌};
 ghost use Rattle.format.specs.File.{WholeHeader};
 ghost use Rattle.format.specs.Picture.{dimensions_allowed};
 ghost use Rattle.format.specs.Accepted.{dimensions_of, counts_right, header_number};
+ghost use Rattle.format.specs.Answers.{signal_of};
 ghost use Rattle.format.specs.Opened.{view_of, no_view};
 ghost use Rattle.parts.specs.Holds.{kind_of, HeaderView};
 ghost use Rattle.checked.specs.Verdict.{places_right, body_number, Judged};
 
-use format::signals::{BODY, COUNTS, EXTENT, SHORT};
-use format::{HEADER, Setting, View};
+use format::{HEADER, Refusal, View};
 use header::view::{read_view, whole_header};
 use kinds::parts_of::{part_bytes, parts_right};
-use kinds::setting::setting_number;
+use kinds::setting::check_setting;
 use wire::get_u32;
 use words::words_right;
-
-// What a check finds: the number, and the header's numbers of a file that is accepted.
-#[derive(Clone, Copy)]
-pub struct Verdict {
-    pub number: u32,
-    pub view: View,
-}
 
 // A view with all numbers 0.
 pub fn no_view() -> View
@@ -65,64 +58,47 @@ fn counts_right(file: &[u8], v: View) -> bool
     if v.cells < v.words {
         return false;
     }
-    let parts = part_bytes(v);
-    if !parts.right {
+    let Some(parts) = part_bytes(v) else {
         return false;
-    }
+    };
     places_right(file, v, parts.first, parts.second)
 }
 
-// The number of a header whose numbers have been read: 0, or the first of 2 to 5 that applies.
-fn header_number(file: &[u8], v: View) -> u32
+// A header whose numbers have been read is refused with the first of 2 to 5 that applies.
+fn check_header(file: &[u8], v: View) -> Result<(), Refusal>
     requires { WholeHeader file.now × (v ≡ view_of file.now) }
-    ensures { result ≡ header_number file.now }
+    ensures { signal_of result ≡ header_number file.now }
 {
-    let setting = Setting {
-        kind: v.kind,
-        width: v.width,
-        step: v.step,
-    };
-    let number = setting_number(setting);
-    if number != 0 {
-        return number;
-    }
+    check_setting(v.setting())?;
     if v.cells == 0 {
-        return EXTENT;
+        return Err(Refusal::Extent);
     }
     if !counts_right(file, v) {
-        return COUNTS;
+        return Err(Refusal::Counts);
     }
-    0
+    Ok(())
 }
 
-// 0 where the parts and the words are a picture's, else 6.
-fn body_number(file: &[u8], v: View) -> u32
+// 6 where the parts or the words are not a picture's.
+fn check_body(file: &[u8], v: View) -> Result<(), Refusal>
     requires { HeaderView file.now v }
-    ensures { result ≡ body_number file.now }
+    ensures { signal_of result ≡ body_number file.now }
 {
     if parts_right(file, v) && words_right(file, v.place as usize, v.words, v.empty) {
-        return 0;
+        return Ok(());
     }
-    BODY
+    Err(Refusal::Body)
 }
 
-// The number of a file: 0, or the first of 1 to 6 that applies; the view of an accepted file.
-pub fn check(file: &[u8]) -> Verdict
-    ensures { Judged file.now result.number result.view }
+// The view of an accepted file; others are refused with the first of 1 to 6 that applies.
+pub fn check(file: &[u8]) -> Result<View, Refusal>
+    ensures { Judged file.now result }
 {
     if !whole_header(file) {
-        return Verdict {
-            number: SHORT,
-            view: no_view(),
-        };
+        return Err(Refusal::Short);
     }
     let view = read_view(file);
-    let number = header_number(file, view);
-    if number != 0 {
-        return Verdict { number, view };
-    }
-    Verdict {
-        number: body_number(file, view),
-        view,
-    }
+    check_header(file, view)?;
+    check_body(file, view)?;
+    Ok(view)
 }

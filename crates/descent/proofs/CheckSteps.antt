@@ -1,5 +1,5 @@
 -- One step along a page, and of the descent to the page below. Assumes nothing.
-use Rattle.std.proofs.Common.{◌≡◌, ℕ, zero, suc, ◌+◌, ◌-◌, ◌*◌, ◌^◌, ◌<◌, ◌≤◌, min, Bool, ltb, leb, List, [], ◌∷◌, length, get_or, take, drop, sym, refl, ap, ◌∙◌, ap₂, mul-le-mul, lt_of_not-le, arith, length-drop, length-take, length-take-le, get_or-drop, take_all, get_or-take, take-take, drop-drop, le-ltb, lt-ltb, le-leb}
+use Rattle.std.proofs.Common.{◌≡◌, ℕ, None, zero, suc, ◌+◌, ◌-◌, ◌*◌, ◌^◌, ◌<◌, ◌≤◌, min, Bool, ltb, leb, List, [], ◌∷◌, length, get_or, take, drop, sym, refl, ap, ◌∙◌, ap₂, mul-le-mul, lt_of_not-le, arith, length-drop, length-take, length-take-le, get_or-drop, take_all, get_or-take, take-take, drop-drop, le-ltb, lt-ltb, le-leb}
 use native.Mathlib.Nat.{sub-zero, zero-sub}
 use native.Mathlib.Decide.{dec_le}
 use lib.Seq.{take-nil}
@@ -8,7 +8,8 @@ use Rattle.format.specs.Runs.{Span}
 use Rattle.format.specs.PagedRuns.{none, less, Place, lost, at}
 use Rattle.laws.proofs.Tools.{cases}
 use Rattle.levels.specs.Levels.{entries, cut}
-use Rattle.descent.specs.Descent.{sub32, counted, of_empty, nowhere, answered, passed, left_of, place_after, page_down, levels_down, descended, page_at, walked, PageFits, LevelsFit}
+use Rattle.descent.specs.declared.search.Asked.{Asked}
+use Rattle.descent.specs.Descent.{sub32, counted, of_empty, answered, passed, left_of, place_after, page_down, levels_down, descended, page_at, walked, PageFits, LevelsFit}
 use Rattle.levels.proofs.Reading.{length-entries}
 
 -- ---- places that differ in sums of cells only
@@ -30,13 +31,13 @@ step_like m b ys (lost c) (at i p a x) h = absurd h
 step_like m b ys (at i p a x) (lost c) h = absurd h
 step_like m b ys (at i p a x) (at j q c y) h = rw (h.0, h.1) (after_like m (j * b) q a c (take b (drop (j * b) ys)) _ h.2)
 
-answered_like : (s : ℕ) (q r : Place) → Like q r → answered s q ≡ answered s r
+answered_like : (s : Asked) (q r : Place) → Like q r → answered s q ≡ answered s r
 answered_like s (lost a) (lost c) h = refl
 answered_like s (lost c) (at i p a x) h = absurd h
 answered_like s (at i p a x) (lost c) h = absurd h
 answered_like s (at i p a x) (at j q c y) h = rw (h.1, h.2, h.3)
 
-levels_like : (m : Span → ℕ) (b s : ℕ) (ls : List (List Span)) (q r : Place) → Like q r
+levels_like : (m : Span → ℕ) (b : ℕ) (s : Asked) (ls : List (List Span)) (q r : Place) → Like q r
     → answered s (levels_down m b ls q) ≡ answered s (levels_down m b ls r)
 unfolding levels_down
 levels_like m b s [] q r h = answered_like s q r h
@@ -57,9 +58,9 @@ left-kept es number (suc k) x e =
     let z : suc k - 1 ≡ k = omega arith in
     rw (le-leb 1 (suc k) (omega arith)) (e ∙ rw z (sym (get_or-drop number es k none)))
 
-module _ (es : List Span) (sizes : List ℕ) (step asked : ℕ) (stored : Bool) (level from first left before p : ℕ) where
+module _ (es : List Span) (sizes : List ℕ) (step : ℕ) (asked : Asked) (stored : Bool) (level from first left before p : ℕ) where
   -- past all entries
-  pub walk_none : left ≤ passed (counted stored) p (page_at es from first left) → answered asked (walked es sizes step stored level from first left before p) ≡ nowhere
+  pub walk_none : left ≤ passed (counted stored) p (page_at es from first left) → answered asked (walked es sizes step stored level from first left before p) ≡ None
   unfolding walked descended place_after
   walk_none h =
       let l = length-take left (drop (from + first) es) in
@@ -98,7 +99,7 @@ take-least b n l =
           rw e (take_all b (take n l) s))
     ]
 
-module _ (es : List Span) (sizes : List ℕ) (step asked : ℕ) (stored : Bool) (from entry rest before : ℕ) (x : Span) where
+module _ (es : List Span) (sizes : List ℕ) (step : ℕ) (asked : Asked) (stored : Bool) (from entry rest before : ℕ) (x : Span) where
   -- the lowest level, and above it, where the descent does not look at the entry's own pair
   descent_leaf : (level : ℕ) → level ≡ 0
       → descended es sizes step stored level from (at entry rest (of_empty before) x) ≡ at entry rest (of_empty before) x
@@ -132,7 +133,7 @@ module _ (es : List Span) (sizes : List ℕ) (step asked : ℕ) (stored : Bool) 
 
 -- ---- at the entry that is found, in the lowest level and above it
 
-module _ (es : List Span) (sizes : List ℕ) (step asked : ℕ) (stored : Bool) (level from first left before p k : ℕ) (c y : Span)
+module _ (es : List Span) (sizes : List ℕ) (step : ℕ) (asked : Asked) (stored : Bool) (level from first left before p k : ℕ) (c y : Span)
     (e : k ≡ passed (counted stored) p (page_at es from first left)) (h : k < left) (l : from + first + left ≤ length es)
     (f : c ≡ left_of (drop (from + first) es) k) (g : y ≡ get_or es (from + first + k) none) where
   pub found_leaf : level ≡ 0

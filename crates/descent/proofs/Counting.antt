@@ -1,6 +1,7 @@
 -- The entries of a page that count at most a number: one turn of the count, and the descent by counts where the entries rise. Assumes nothing.
 use Rattle.std.proofs.Common.{◌≡◌, ℕ, zero, suc, ◌+◌, ◌-◌, ◌*◌, ◌/◌, ◌%◌, ◌^◌, ◌<◌, ◌≤◌, Bool, true, false, ltb, leb, List, [], ◌∷◌, ◌++◌, length, get_or, take, drop, sym, refl, ap, ◌∙◌, le_refl, add-zero, add_assoc, suc-mul, zero-add, zero-mul, arith, drop-cons, drop-drop, ltb-false, ltb-true, le-ltb, lt-ltb, le-leb}
 use borrow.Author.Tests.{lt-leb}
+use mir.Val.{bool_byte}
 use Rattle.format.specs.Tools.{pick}
 use Rattle.format.specs.Runs.{Span}
 use Rattle.format.specs.PagedRuns.{plus, less, none, level, lasts, all_cells, stored_cells, Place, lost, at, walk_from, step_down, through, levels}
@@ -30,6 +31,15 @@ page_cons m p es next (suc left) h l =
     let z : suc left - 1 ≡ left = omega arith in
     let s : next + 1 ≡ suc next = omega arith in
     rw (drop-cons es next none l, z, s) (unfold passed in refl)
+
+-- a test as a number
+pub flag : (t : Bool) → bool_byte t ≡ pick t 1 0
+flag true = refl
+flag false = refl
+
+pub flag_le : (t : Bool) → bool_byte t ≤ 1
+flag_le true = omega arith
+flag_le false = omega arith
 
 module _ (m : Span → ℕ) (p : ℕ) (file : List ℕ) (start number n : ℕ) where
   pub counting_first : n ≤ 64 → start + 8 * (number + n) ≤ length file → Counting m p file start number n 0 0

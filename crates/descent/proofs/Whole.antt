@@ -1,27 +1,28 @@
 -- The search from the top page, for any bytes and any numbers. Assumes nothing.
-use Rattle.std.proofs.Common.{◌≡◌, ℕ, ◌+◌, ◌*◌, ◌^◌, ◌<◌, ◌≤◌, true, false, List, length, sym, ap, ◌∙◌, arith, length-take, le-leb}
+use Rattle.std.proofs.Common.{◌≡◌, ℕ, None, ◌+◌, ◌*◌, ◌^◌, ◌<◌, ◌≤◌, true, false, List, length, sym, ap, ◌∙◌, arith, length-take, le-leb}
 use borrow.Author.Tests.{lt-leb}
 use Rattle.format.specs.Tools.{both, within}
 use Rattle.format.specs.PagedRuns.{none, at}
 use Rattle.laws.proofs.Tools.{both_false}
 use Rattle.levels.specs.Levels.{entries, sizes_of, total, cut, Sized}
-use Rattle.descent.specs.Descent.{nowhere, for_rank, answered, descended, numbers_fit, searched, LevelsFit}
+use Rattle.descent.specs.declared.search.Asked.{Asked}
+use Rattle.descent.specs.Descent.{for_rank, answered, descended, numbers_fit, searched, LevelsFit}
 use Rattle.levels.proofs.LevelSizes.{total-take, cut-take}
 
 -- ---- refused numbers
 
-module _ (file : List ℕ) (start step runs asked number : ℕ) where
-  none-unfit : numbers_fit step runs ≡ false → searched file start step runs asked number ≡ nowhere
+module _ (file : List ℕ) (start step runs : ℕ) (asked : Asked) (number : ℕ) where
+  none-unfit : numbers_fit step runs ≡ false → searched file start step runs asked number ≡ None
   unfolding searched
   none-unfit e = rw e
 
-  pub step-low : step < 2 → searched file start step runs asked number ≡ nowhere
+  pub step-low : step < 2 → searched file start step runs asked number ≡ None
   step-low h = none-unfit (rw (lt-leb 2 step h))
 
-  pub step-high : 64 < step → searched file start step runs asked number ≡ nowhere
+  pub step-high : 64 < step → searched file start step runs asked number ≡ None
   step-high h = let e : 2 ≤ step = omega arith in none-unfit (rw (le-leb 2 step e, lt-leb step 64 h))
 
-  pub many_runs : 16777216 < runs → searched file start step runs asked number ≡ nowhere
+  pub many_runs : 16777216 < runs → searched file start step runs asked number ≡ None
   many_runs h = none-unfit (ap (both (within 2 64 step)) (lt-leb runs 16777216 h) ∙ both_false (within 2 64 step))
 
   -- ---- numbers that fit, and the sizes that were stored
@@ -41,7 +42,7 @@ module _ (file : List ℕ) (start step runs asked number : ℕ) where
     same_total : total (sizes_of step runs) (length (sizes_of step runs)) ≡ n
     same_total = rw (counted-sizes, ← s.levels) (total-take sizes count count (omega arith) ∙ sym s.sum)
 
-    pub short-file : length file < start + 8 * n → searched file start step runs asked number ≡ nowhere
+    pub short-file : length file < start + 8 * n → searched file start step runs asked number ≡ None
     unfolding searched
     short-file h = rw (fits, same_total, lt-leb (start + 8 * n) (length file) h)
 

@@ -1,9 +1,11 @@
 -- What the descent of a search finds, for any bytes. Assumes nothing.
-use Rattle.std.specs.Prelude.{ℕ, ◌+◌, ◌-◌, ◌*◌, ◌%◌, ◌^◌, ◌<◌, ◌≤◌, Bool, true, ◌||◌, List, [], ◌∷◌, length, take, drop, ◌==◌, nat_le, nat_lt, slice_index, slice_index_or}
+use Rattle.std.specs.Prelude.{ℕ, ◌+◌, ◌-◌, ◌*◌, ◌%◌, ◌^◌, ◌<◌, ◌≤◌, Bool, true, false, List, [], ◌∷◌, length, take, drop, Option, Some, None, nat_le, nat_lt, slice_index, slice_index_or}
 use Rattle.format.specs.Tools.{pick, both, within}
 use Rattle.format.specs.Runs.{Span}
 use Rattle.format.specs.PagedRuns.{none, plus, less, Place, lost, at}
 use Rattle.levels.specs.Levels.{entries, sizes_of, total, cut}
+use Rattle.descent.specs.declared.search.Asked.{Asked}
+use Rattle.descent.specs.declared.search.Asked.TheVariants as ask
 
 -- a difference of 32 bits
 abbrev pub sub32 : ℕ → ℕ → ℕ
@@ -17,25 +19,27 @@ counted stored x = pick stored (sub32 x.cells x.empty) x.cells
 abbrev pub of_empty : ℕ → Span
 of_empty e = record { cells = 0; empty = e }
 
--- the answer where no run is reached
-abbrev pub nowhere : ℕ
-nowhere = 18446744073709551615
-
--- what is asked of a search: 0 for where a position stands, 1 for where a rank stands, 2 for that and the ranks from there on in its run
-abbrev pub for_rank : ℕ → Bool
-for_rank asked = nat_lt 0 asked
+-- a search counts stored cells where it is asked for a rank
+abbrev pub for_rank : Asked → Bool
+for_rank ask.Place = false
+for_rank ask.Rank = true
+for_rank ask.Run = true
 
 -- two numbers of 32 bits as one
 abbrev pub halves : ℕ → ℕ → ℕ
 halves high low = high % 2 ^ 32 * 2 ^ 32 + low
 
--- what a search answers: twice the empty cells up to the number, and 1 more where it stands at a stored cell, as a rank always does; or the empty cells up
--- to a rank, and the ranks from there on in its run
-abbrev pub answered : ℕ → Place → ℕ
-answered asked (lost a) = nowhere
-answered asked (at i p a x) =
-    pick (asked == 2) (halves (a.empty + x.empty) (sub32 (counted true x) p))
-    (pick (for_rank asked || nat_le x.empty p) (2 * (a.empty + x.empty) + 1) (2 * (a.empty + p)))
+-- what a search answers at the run x, with `before` empty cells before it, where p of the number is left: twice the empty cells up to the number, and 1 more
+-- where it stands at a stored cell, as a rank always does; or the empty cells up to a rank, and the ranks from there on in its run
+abbrev pub told : Asked → ℕ → ℕ → Span → ℕ
+told ask.Place before p x = pick (nat_le x.empty p) (2 * (before + x.empty) + 1) (2 * (before + p))
+told ask.Rank before p x = 2 * (before + x.empty) + 1
+told ask.Run before p x = halves (before + x.empty) (sub32 (counted true x) p)
+
+-- none where no run is reached
+abbrev pub answered : Asked → Place → Option ℕ
+answered asked (lost a) = None
+answered asked (at i p a x) = Some (told asked a.empty p x)
 
 -- ---- through pages whose entries are counted: where they rise this is the descent of document 01 (law `counts-descend`)
 
@@ -85,11 +89,11 @@ abbrev pub numbers_fit : ℕ → ℕ → Bool
 numbers_fit step runs = both (within 2 64 step) (nat_le runs 16777216)
 
 -- from the top page down, where all levels are in the file
-unfoldable pub searched : List ℕ → ℕ → ℕ → ℕ → ℕ → ℕ → ℕ
+unfoldable pub searched : List ℕ → ℕ → ℕ → ℕ → Asked → ℕ → Option ℕ
 searched file start step runs asked number =
     let sizes = sizes_of step runs in
     let all = answered asked (descended (entries start file) sizes step (for_rank asked) (length sizes) 0 (at 0 number none none)) in
-    pick (numbers_fit step runs) (pick (nat_le (start + 8 * total sizes (length sizes)) (length file)) all nowhere) nowhere
+    pick (numbers_fit step runs) (pick (nat_le (start + 8 * total sizes (length sizes)) (length file)) all None) None
 
 -- A walk along the `left` entries of a page, in a level whose first entry is `from`, with `level` levels below it: all of them are in the file, and the
 -- empty cells of the page's left neighbours can be added up.

@@ -1,12 +1,14 @@
 -- Positions stored along the steps of a cursor, where the differences are all there. Assumes nothing.
-use Rattle.std.proofs.Common.{◌≡◌, ℕ, zero, suc, ◌+◌, ◌*◌, ◌^◌, ◌<◌, true, not, eqb, List, length, set, sym, refl, ap, ◌∙◌, append-nil, add-zero, add-one, arith, length-set, drop_of_length-le, ne_eqb, eqb-true}
+use Rattle.std.proofs.Common.{◌≡◌, ℕ, zero, suc, ◌+◌, ◌*◌, ◌^◌, ◌<◌, ◌≤◌, true, not, eqb, List, length, set, sym, refl, ap, ◌∙◌, append-nil, add-zero, add-one, arith, take, drop, length-take, length-drop, drop_of_length-le, ne_eqb, eqb-true}
 use borrow.Author.Tests.{eqb-false, not-true}
 use Rattle.format.specs.Bytes.{field}
 use Rattle.laws.proofs.Tools.{cases, both_true}
 use Rattle.wire.specs.Wire.{whole, add32}
 use Rattle.wire.proofs.Laws.{whole-there}
 use Rattle.stores.specs.Put.{put}
-use Rattle.stores.proofs.Laws.{put-append, put_front, length-put}
+use borrow.Rule.Slice.PartMut.{put_mid}
+use Rattle.stores.proofs.Laws.{put-append, put_front}
+use Rattle.stores.proofs.Copied.{put_written}
 use Rattle.parts.specs.declared.Cursor.{Cursor}
 use Rattle.parts.specs.Cursor.{moved_to, walked_as, stepped_as, Batch}
 use Rattle.parts.proofs.Steps.{add32-small}
@@ -38,22 +40,17 @@ module _ (w start second : ℕ) (b : List ℕ) where
 pub record Left (f : Cursor → Cursor) (c₀ : Cursor) (from m : ℕ) (before : List ℕ) (c : Cursor) (i k : ℕ) (out : List ℕ) : Type 0 where
   pub cursor : stepped_as f c k ≡ stepped_as f c₀ m
   pub positions : put out i (walked_as f c k) ≡ put before from (walked_as f c₀ m)
-  pub same : length out ≡ length before
 
 module _ (f : Cursor → Cursor) (c₀ : Cursor) (from m : ℕ) (before : List ℕ) where
   pub fill_begin : Left f c₀ from m before c₀ from m before
-  fill_begin = record { cursor = refl; positions = refl; same = refl }
+  fill_begin = record { cursor = refl; positions = refl }
 
   module _ (c : Cursor) (i k : ℕ) (out : List ℕ) (l : Left f c₀ from m before c i k out) where
     pub fill_turn : (j : ℕ) → k ≡ suc j → {d : Cursor} → d ≡ f c → Left f c₀ from m before d (i + 1) j (set out i c.at)
     unfolding stepped_as walked_as put
     fill_turn j e h =
         rw (h, add-one i)
-        (record {
-          cursor = rw e at l.cursor;
-          positions = rw e at l.positions;
-          same = length-set out i c.at ∙ l.same;
-        })
+        (record { cursor = rw e at l.cursor; positions = rw e at l.positions })
 
     -- by j steps at once
     pub fill_more : (j n : ℕ) → k ≡ j + n → {d : Cursor} {o : List ℕ} → Filled f c i j out d o → Left f c₀ from m before d (i + j) n o
@@ -64,7 +61,6 @@ module _ (f : Cursor → Cursor) (c₀ : Cursor) (from m : ℕ) (before : List �
         (record {
           cursor = sym (stepped_as_add f c j n) ∙ rw e at l.cursor;
           positions = sym g ∙ ap (put out i) (sym (walked_as_add f c j n)) ∙ rw e at l.positions;
-          same = length-put out i (walked_as f c j) ∙ l.same;
         })
 
     pub fill_end : k ≡ 0 → Filled f c₀ from m before c out
@@ -118,8 +114,22 @@ module _ (w start second : ℕ) (b : List ℕ) (c₀ : Cursor) (from m : ℕ) (b
       let q : c.rank + k ≡ d.rank + n = omega arith in
       record { room = rw q at g.room; left = fill_more (next_at w start second b) c₀ from m before c i k out g.left j n e z }
 
-pub filled-length : (f : Cursor → Cursor) (c : Cursor) (from m : ℕ) (before : List ℕ) {r : Cursor} {after : List ℕ} → Filled f c from m before r after → length after ≡ length before
-filled-length f c from m before z = ap length z.positions ∙ length-put before from (walked_as f c m)
+-- all of a list is put over
+put_whole : (d xs : List ℕ) → length xs ≡ length d → put d 0 xs ≡ xs
+put_whole d xs n = put_front d xs (omega arith) ∙ rw (drop_of_length-le d {i = length xs} (omega arith)) (append-nil xs)
+
+-- j elements from an index on, filled as a slice of k
+pub filled_part : (f : Cursor → Cursor) (c : Cursor) (i k j : ℕ) (out : List ℕ) → k ≡ j → i + j ≤ length out → {n : ℕ} → n ≡ j → {r : Cursor} {ys : List ℕ}
+    → Filled f c 0 n (take k (drop i out)) r ys → Filled f c i j out r (put_mid i k out ys)
+filled_part f c i k j out e h q z =
+    let xs = walked_as f c j in
+    let m : length xs ≡ j = length-walked_as f c j in
+    let part : length (take k (drop i out)) ≡ j = simp (length-take, length-drop) (omega arith) in
+    let y = rw q at z in
+    record {
+      cursor = y.cursor;
+      positions = put_written i k out _ xs (y.positions ∙ put_whole (take k (drop i out)) xs (omega arith)) (omega arith) (omega arith);
+    }
 
 -- all elements are filled
 pub filled_batch : (f : Cursor → Cursor) (c : Cursor) (before : List ℕ) {r : Cursor} {after : List ℕ} → Filled f c 0 (length before) before r after
@@ -129,31 +139,31 @@ filled_batch f c before z =
     let n : length xs ≡ length before = length-walked_as f c (length before) in
     record {
       cursor = z.cursor;
-      positions = z.positions ∙ put_front before xs (omega arith) ∙ rw (drop_of_length-le before {i = length xs} (omega arith)) (append-nil xs);
+      positions = z.positions ∙ put_whole before xs n;
     }
 
 -- ---- differences without a jump
 
 module _ (w second : ℕ) (b : List ℕ) (r : ℕ) where
-  plain_at : (n k : ℕ) → plain w second b r n ≡ true → k < n → field w (second + w * (r + (k + 1))) b ≡ 0 → ⊥
+  plain_at : (n k : ℕ) → plain w second b r n ≡ true → k < n → field w (second + w * (r + k + 1)) b ≡ 0 → ⊥
   unfolding plain
   plain_at zero k h l z = absurd (omega arith)
   plain_at (suc n) k h l z =
       let y = both_true (not (eqb (field w (second + w * (r + suc n)) b) 0)) (plain w second b r n) h in
       cases (eqb k n)
       (λ e.
-      let q : k + 1 ≡ suc n = omega (arith, eqb-true k n e) in
+      let q : r + k + 1 ≡ r + suc n = omega (arith, eqb-true k n e) in
       eqb-false (field w (second + w * (r + suc n)) b) 0 (not-true _ y.0) (rw q at z))
       (λ e. let q = eqb-false k n e in plain_at n k y.1 (omega arith) z)
 
 -- one rank further without a jump
 pub stand_next : (w start second : ℕ) (b : List ℕ) (c : Cursor) (n k p : ℕ) → Room w second b (c.rank + n) → plain w second b c.rank n ≡ true → k < n
-    → {d : ℕ} → d ≡ field w (second + w * (c.rank + (k + 1))) b → stand c (k + 1) (add32 p d) ≡ next_at w start second b (stand c k p)
+    → {d : ℕ} → d ≡ field w (second + w * (c.rank + k + 1)) b → stand c (k + 1) (add32 p d) ≡ next_at w start second b (stand c k p)
 unfolding jump_by moved_to
 stand_next w start second b c n k p z h l {d} e =
     let q : c.rank + (k + 1) ≡ c.rank + k + 1 = omega arith in
     let y : Room w second b (c.rank + k + 1) = earlier w second b z (omega arith) in
-    let s = step-there w start second b (stand c k p) y (rw q at e) in
+    let s = step-there w start second b (stand c k p) y e in
     let x : d ≡ 0 → ⊥ = λ t. plain_at w second b c.rank n k h l (sym e ∙ t) in
     let m = y.rank in
     rw (ne_eqb d 0 x, add32-small (c.rank + k) 1 m, ← q) at s

@@ -5,20 +5,19 @@ ghost use Rattle.difference_rows.specs.Steps.{jump_by, next_at, Filled};
 
 use differences::groups::difference;
 use parts::Cursor;
-use std::num::wrapping_add_u32;
 use wire::load_u32;
 
 // By a difference: 0 is the next jump; the jumps begin at `start`.
 pub fn jump_by(file: &[u8], start: u32, difference: u32, mut c: Cursor) -> Cursor
     ensures { result ≡ jump_by file.now start difference c }
 {
-    c.rank = wrapping_add_u32(c.rank, 1);
+    c.rank = c.rank.wrapping_add(1);
     if difference == 0 {
         c.at = load_u32(file, start as usize + 4 * c.next as usize);
-        c.next = wrapping_add_u32(c.next, 1);
+        c.next = c.next.wrapping_add(1);
         return c;
     }
-    c.at = wrapping_add_u32(c.at, difference);
+    c.at = c.at.wrapping_add(difference);
     c
 }
 
@@ -27,13 +26,13 @@ fn step_by(file: &[u8], start: u32, difference: u32, mut c: Cursor) -> Cursor
     ensures { result ≡ jump_by file.now start difference c }
 {
     let jump = load_u32(file, start as usize + 4 * c.next as usize);
-    c.rank = wrapping_add_u32(c.rank, 1);
+    c.rank = c.rank.wrapping_add(1);
     if difference != 0 {
-        c.at = wrapping_add_u32(c.at, difference);
+        c.at = c.at.wrapping_add(difference);
         return c;
     }
     c.at = jump;
-    c.next = wrapping_add_u32(c.next, 1);
+    c.next = c.next.wrapping_add(1);
     c
 }
 
@@ -57,25 +56,15 @@ pub fn all_there(file: &[u8], second: u32, width: u32, rank: u32, n: usize) -> b
     second as usize + width as usize * end + width as usize <= file.len()
 }
 
-// The positions from the cursor on, one for each element from an index up to an end. The differences, of one byte each, are all there.
-fn each_u8(
-    file: &[u8],
-    start: u32,
-    second: usize,
-    mut c: Cursor,
-    out: &mut [u32],
-    from: usize,
-    end: usize,
-) -> Cursor
-    requires { Room 1 second file.now (c.rank + (end - from)) × (from ≤ end) × (end ≤ length out.old) }
-    ensures { Filled (next_at 1 start second file.now) c from (end - from) out.old result out.new }
+// The positions from the cursor on, one for each element. The differences, of one byte each, are all there.
+fn each_u8(file: &[u8], start: u32, second: usize, mut c: Cursor, out: &mut [u32]) -> Cursor
+    requires { Room 1 second file.now (c.rank + length out.old) }
+    ensures { Filled (next_at 1 start second file.now) c 0 (length out.old) out.old result out.new }
 {
-    let mut i = from;
-    while i < end {
-        out[i] = c.at;
+    for p in out.iter_mut() {
+        *p = c.at;
         let d = difference(file, second, c.rank as usize + 1, 1);
         c = step_by(file, start, d, c);
-        i += 1;
     }
     c
 }
@@ -86,36 +75,25 @@ fn no_jump(file: &[u8], second: usize, r: usize) -> bool
     ensures { result ≡ plain 1 second file.now r 16 }
 {
     let mut near = true;
-    let mut k: usize = 0;
-    while k < 16 {
-        k += 1;
-        near = (difference(file, second, r + k, 1) != 0) & near;
+    for k in 0..16 {
+        near = (difference(file, second, r + k + 1, 1) != 0) & near;
     }
     near
 }
 
 // The same for 16 elements. Where no jump is among the differences they are only added.
-fn block_u8(
-    file: &[u8],
-    start: u32,
-    second: usize,
-    mut c: Cursor,
-    out: &mut [u32],
-    from: usize,
-) -> Cursor
-    requires { Room 1 second file.now (c.rank + 16) × (from + 16 ≤ length out.old) }
-    ensures { Filled (next_at 1 start second file.now) c from 16 out.old result out.new }
+fn block_u8(file: &[u8], start: u32, second: usize, mut c: Cursor, out: &mut [u32]) -> Cursor
+    requires { Room 1 second file.now (c.rank + 16) × (length out.old ≡ 16) }
+    ensures { Filled (next_at 1 start second file.now) c 0 16 out.old result out.new }
 {
     let rank = c.rank as usize;
     if !no_jump(file, second, rank) {
-        return each_u8(file, start, second, c, out, from, from + 16);
+        return each_u8(file, start, second, c, out);
     }
     let mut at = c.at;
-    let mut k: usize = 0;
-    while k < 16 {
-        out[from + k] = at;
-        k += 1;
-        at = wrapping_add_u32(at, difference(file, second, rank + k, 1));
+    for k in 0..16 {
+        out[k] = at;
+        at = at.wrapping_add(difference(file, second, rank + k + 1, 1));
     }
     c.rank += 16;
     c.at = at;
@@ -129,24 +107,24 @@ pub fn along_u8(file: &[u8], start: u32, second: usize, mut c: Cursor, out: &mut
 {
     let n = out.len();
     let mut i: usize = 0;
+    // By hand: after a loop over `chunks_exact_mut` a proof does not know what the chunks hold.
     while 16 <= n - i {
-        c = block_u8(file, start, second, c, out, i);
+        c = block_u8(file, start, second, c, &mut out[i..i + 16]);
         i += 16;
     }
-    each_u8(file, start, second, c, out, i, n)
+    each_u8(file, start, second, c, &mut out[i..])
 }
 
-// The same for differences of two bytes.
+// The same for differences of two bytes, rank by rank: 16 of them are too many for one comparison, and a jump, behind more than 65535 cells, is so rare that
+// its branch is foretold.
 pub fn along_u16(file: &[u8], start: u32, second: usize, mut c: Cursor, out: &mut [u32]) -> Cursor
     requires { Room 2 second file.now (c.rank + length out.old) }
     ensures { Filled (next_at 2 start second file.now) c 0 (length out.old) out.old result out.new }
 {
-    let mut i: usize = 0;
-    while i < out.len() {
-        out[i] = c.at;
+    for p in out.iter_mut() {
+        *p = c.at;
         let d = difference(file, second, c.rank as usize + 1, 2);
         c = jump_by(file, start, d, c);
-        i += 1;
     }
     c
 }

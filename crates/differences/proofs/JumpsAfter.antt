@@ -28,7 +28,10 @@ module _ (w second : ℕ) (b : List ℕ) (r : ℕ) where
       omega arith
 
   pub zeros-one : {d z : ℕ} → d ≡ field w (second + w * (r + 1)) b → z ≡ if_zero d 1 0 → z ≡ zeros w second b r 1
-  zeros-one f e = let n = zeros-next w second b r 0 f (zeros_start w second b r) e in omega arith
+  zeros-one f e =
+      let q : r + 0 + 1 ≡ r + 1 = omega arith in
+      let n = zeros-next w second b r 0 (rw q f) (zeros_start w second b r) e in
+      omega arith
 
   -- the last of them is a jump
   zeros_jump : (n : ℕ) → field w (second + w * (r + suc n)) b ≡ 0 → 1 ≤ zeros w second b r (suc n)
@@ -76,16 +79,9 @@ there {w} {second} {r = r} {b = b} u j h =
     absurd (omega arith))
 
 module _ {w second : ℕ} {b : List ℕ} {last r m : ℕ} where
-  pub onward_start : r ≤ last → Onward w second b last r m r m
-  onward_start h = record { least = le_refl r; most = h; same = λ u j. j }
-
   pub found_here : m ≤ 0 → r ≤ last → JumpAfter w second b r m last r
   found_here h k =
       record { least = le_refl r; most = k; found = λ u a c e d. there u (record { least = a; most = c; count = e; jump = d }) h }
-
-  -- no rank is left
-  pub found-last : r ≡ last → JumpAfter w second b r m last r
-  found-last h = record { least = le_refl r; most = omega arith; found = λ u a c e d. omega arith }
 
 module _ {w second : ℕ} {b : List ℕ} {last r m at left : ℕ} (o : Onward w second b last r m at left) where
   -- over n ranks, where all but the last of them have fewer jumps than are left

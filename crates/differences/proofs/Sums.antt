@@ -1,6 +1,6 @@
 -- The differences after a rank: where they lie, how many are 0, and their sum. Assumes nothing.
 use Prim.Native.Nat.{ℕ, zero, suc, ◌+◌, ◌-◌, ◌*◌, ◌≤◌, ◌<◌}
-use mathlib.Core.Path.{◌≡◌, refl}
+use mathlib.Core.Path.{◌≡◌, refl, ◌∙◌}
 use mathlib.Core.Bool.{Bool, true, false, not}
 use mathlib.Core.List.{List}
 use native.Mathlib.Nat.{add-zero, mul-suc, mul-le-mul_left, le_refl}
@@ -8,7 +8,7 @@ use native.Mathlib.Numerals.{add-one}
 use native.Mathlib.Omega.{arith}
 use lib.Dec.{eqb}
 use borrow.Author.Tests.{ne_eqb}
-use Rattle.format.specs.Tools.{both}
+use Rattle.format.specs.Tools.{both, pick}
 use Rattle.format.specs.Bytes.{field}
 use Rattle.parts.specs.Encoder.{if_zero}
 use Rattle.differences.specs.Walk.{plain, zeros, total, behind, Room}
@@ -16,6 +16,11 @@ use Rattle.differences.specs.Walk.{plain, zeros, total, behind, Room}
 -- an entry's bytes lie in the part
 pub entry_inside : (w n i : ℕ) → i < n → w * i + w ≤ w * n
 entry_inside w n i h = let m : w * suc i ≤ w * n = mul-le-mul_left w h in rw mul-suc at m
+
+-- a test for 0 counts one
+pick_zero : (d : ℕ) → ◌≡◌ {A = ℕ} (pick (eqb d 0) 1 0) (if_zero d 1 0)
+pick_zero zero = refl
+pick_zero (suc d) = rw (ne_eqb (suc d) 0 (λ e. omega arith))
 
 -- one more number, counted where it is 0
 zero_more : (x d : ℕ) → eqb (x + if_zero d 1 0) 0 ≡ both (not (eqb d 0)) (eqb x 0)
@@ -52,18 +57,27 @@ module _ (w second : ℕ) (b : List ℕ) where
     unfolding total
     total_start = refl
 
-    module _ (k : ℕ) {d : ℕ} (f : d ≡ field w (second + w * (r + (k + 1))) b) where
+    module _ (k : ℕ) {d : ℕ} (f : d ≡ field w (second + w * (r + k + 1)) b) where
+      next : r + k + 1 ≡ r + suc k
+      next = omega arith
+
       pub zeros-next : {x y : ℕ} → x ≡ zeros w second b r k → y ≡ if_zero d 1 0 → x + y ≡ zeros w second b r (k + 1)
       unfolding zeros
-      zeros-next e g = let q = rw (add-one k) at f in rw (add-one k, ← e, ← q, g)
+      zeros-next e g = let q = rw next at f in rw (add-one k, ← e, ← q, g)
+
+      pub zeros-counted : {x y : ℕ} → x ≡ zeros w second b r k → y ≡ x + pick (eqb d 0) 1 0 → (y ≤ x + 1) × (y ≡ zeros w second b r (k + 1))
+      zeros-counted {x} e g =
+          let q = rw (pick_zero d) at g in
+          let m = one_more x x d (le_refl x) in
+          (omega arith, q ∙ zeros-next e refl)
 
       pub plain-next : {x : Bool} → x ≡ plain w second b r k → both (not (eqb d 0)) x ≡ plain w second b r (k + 1)
       unfolding plain
-      plain-next e = let q = rw (add-one k) at f in rw (add-one k, ← e, ← q)
+      plain-next e = let q = rw next at f in rw (add-one k, ← e, ← q)
 
       pub total-next : {x : ℕ} → x ≡ total w second b r k → x + d ≡ total w second b r (k + 1)
       unfolding total
-      total-next e = let q = rw (add-one k) at f in rw (add-one k, ← e, ← q)
+      total-next e = let q = rw next at f in rw (add-one k, ← e, ← q)
 
     pub zeros-most : (n : ℕ) → zeros w second b r n ≤ n
     unfolding zeros

@@ -1,5 +1,6 @@
 -- A search as it goes from rank to rank, over any bytes. Assumes nothing.
-use Rattle.std.specs.Prelude.{ℕ, zero, suc, ◌+◌, ◌-◌, ◌*◌, ◌^◌, ◌≤◌, ◌<◌, ◌≡◌, Bool, true, not, List, length, eqb}
+use Rattle.std.specs.Prelude.{ℕ, zero, suc, ◌+◌, ◌-◌, ◌*◌, ◌^◌, ◌≤◌, ◌<◌, ◌≡◌, Bool, true, not, List, Option, MatchOption, length, eqb}
+use Rattle.std.specs.Option.{ForSome}
 use Rattle.format.specs.declared.View.{View}
 use Rattle.format.specs.Tools.{pick, both}
 use Rattle.format.specs.Bytes.{field}
@@ -76,14 +77,14 @@ pub record Room (w second : ℕ) (b : List ℕ) (r : ℕ) : Type 0 where
   pub inside : second + w * r + w ≤ length b
   pub rank : r < 2 ^ 32
 
--- a walk from a place on, at most to rank n: past the place only below the target, and to rank n where no position is as far as the target
-pub record Stopped (w start second : ℕ) (b : List ℕ) (from : Place) (n target : ℕ) (t : Place) : Type 0 where
+-- a walk from a place on, at most to rank n: past the place only below the target, and to rank n where no position is as far as the target, or none is given
+pub record Stopped (w start second : ℕ) (b : List ℕ) (from : Place) (n : ℕ) (target : Option ℕ) (t : Place) : Type 0 where
   pub least : from.rank ≤ t.rank
   pub most : t.rank ≤ n
   pub there : t.reached ≡ walked w start second b from.rank (t.rank - from.rank) from.reached
   pub within : Within (t.rank + 1) t.reached
-  pub below : from.rank < t.rank → t.reached.position < target
-  pub all : 2 ^ 50 ≤ target → t.rank ≡ n
+  pub below : ForSome target (λ p. from.rank < t.rank → t.reached.position < p)
+  pub all : MatchOption target (t.rank ≡ n) (λ p. 2 ^ 50 ≤ p → t.rank ≡ n)
 
 -- t is the rank of the m-th jump after rank r, where there is one up to rank `last`; rank r itself where m is 0
 pub record JumpAfter (w second : ℕ) (b : List ℕ) (r m last t : ℕ) : Type 0 where

@@ -9,16 +9,14 @@ fn step_after(file: &[u8], second: usize, width: u32, r: usize, m: usize, last: 
     requires { Room width second file.now last × (r ≤ last) }
     ensures { JumpAfter width second file.now r m last result }
 {
-    let mut at = r;
     let mut left = m;
-    while 0 < left {
-        if at == last {
+    for at in r..last {
+        if left == 0 {
             return at;
         }
-        at += 1;
-        left -= zero(difference(file, second, at, width)) as usize;
+        left -= zero(difference(file, second, at + 1, width)) as usize;
     }
-    at
+    last
 }
 
 // The same, over groups of 128 ranks as long as they have fewer.
@@ -28,6 +26,7 @@ pub fn jump_after(file: &[u8], second: usize, width: u32, r: usize, m: usize, la
 {
     let mut at = r;
     let mut left = m;
+    // By hand: behind the last whole group the search goes on from `at`.
     while 128 <= last - at {
         let z = zeros(file, second, width, at);
         if left <= z {

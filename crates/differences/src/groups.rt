@@ -4,6 +4,7 @@ ghost use Rattle.format.specs.Bytes.{field};
 ghost use Rattle.parts.specs.Encoder.{if_zero};
 ghost use Rattle.differences.specs.Walk.{zeros, total, behind, Room};
 
+use entries::Entry;
 use wire::{get_u8, get_u16};
 
 // The difference of rank i, of width 1 or 2.
@@ -21,35 +22,22 @@ pub fn difference(file: &[u8], second: usize, i: usize, width: u32) -> u32
 pub fn zero(d: u32) -> u8
     ensures { (result ≡ if_zero d 1 0) × (result ≤ 1) }
 {
-    if d == 0 { 1 } else { 0 }
+    u8::from(d == 0)
 }
 
-// How many of the 128 differences after rank r are 0, for differences of one byte. They are counted in a byte, so that as many are compared at once.
-fn zeros_u8(file: &[u8], second: usize, r: usize) -> u8
-    requires { Room 1 second file.now (r + 128) }
-    ensures { result ≡ zeros 1 second file.now r 128 }
+// How many of the n differences after rank r are 0, a group or fewer. They are counted in an entry's own number, so that as many are compared at once; inlined,
+// so that the count of a whole group is a constant.
+#[inline(always)]
+fn count_zeros<E: Entry>(file: &[u8], second: usize, r: usize, n: usize) -> usize
+    requires { Room E.WIDTH second file.now (r + n) × (n ≤ 128) }
+    ensures { result ≡ zeros E.WIDTH second file.now r n }
 {
-    let mut count: u8 = 0;
-    let mut k: usize = 0;
-    while k < 128 {
-        k += 1;
-        count += zero(difference(file, second, r + k, 1));
+    let mut count = E::none();
+    for k in 0..n {
+        let d = E::get(file, second + E::WIDTH * (r + k + 1));
+        count = count.one_more(d == 0);
     }
-    count
-}
-
-// The same for differences of two bytes.
-fn zeros_u16(file: &[u8], second: usize, r: usize) -> u16
-    requires { Room 2 second file.now (r + 128) }
-    ensures { result ≡ zeros 2 second file.now r 128 }
-{
-    let mut count: u16 = 0;
-    let mut k: usize = 0;
-    while k < 128 {
-        k += 1;
-        count += zero(difference(file, second, r + k, 2)) as u16;
-    }
-    count
+    count.count()
 }
 
 // How many of the 128 differences after rank r are 0: the jumps among them.
@@ -58,37 +46,9 @@ pub fn zeros(file: &[u8], second: usize, width: u32, r: usize) -> usize
     ensures { (result ≡ zeros width second file.now r 128) × (result ≤ 128) }
 {
     if width == 1 {
-        return zeros_u8(file, second, r) as usize;
+        return count_zeros::<u8>(file, second, r, 128);
     }
-    zeros_u16(file, second, r) as usize
-}
-
-// How many of the n differences after rank r are 0, for fewer than a group, so that a byte counts them; for differences of one byte.
-fn few_zeros_u8(file: &[u8], second: usize, r: usize, n: usize) -> u8
-    requires { Room 1 second file.now (r + n) × (n < 128) }
-    ensures { result ≡ zeros 1 second file.now r n }
-{
-    let mut count: u8 = 0;
-    let mut k: usize = 0;
-    while k < n {
-        k += 1;
-        count += zero(difference(file, second, r + k, 1));
-    }
-    count
-}
-
-// The same for differences of two bytes.
-fn few_zeros_u16(file: &[u8], second: usize, r: usize, n: usize) -> u16
-    requires { Room 2 second file.now (r + n) × (n < 128) }
-    ensures { result ≡ zeros 2 second file.now r n }
-{
-    let mut count: u16 = 0;
-    let mut k: usize = 0;
-    while k < n {
-        k += 1;
-        count += zero(difference(file, second, r + k, 2)) as u16;
-    }
-    count
+    count_zeros::<u16>(file, second, r, 128)
 }
 
 // How many of the n differences after rank r are 0, for fewer than a group.
@@ -97,9 +57,9 @@ pub fn few_zeros(file: &[u8], second: usize, width: u32, r: usize, n: usize) -> 
     ensures { (result ≡ zeros width second file.now r n) × (result ≤ n) }
 {
     if width == 1 {
-        return few_zeros_u8(file, second, r, n) as usize;
+        return count_zeros::<u8>(file, second, r, n);
     }
-    few_zeros_u16(file, second, r, n) as usize
+    count_zeros::<u16>(file, second, r, n)
 }
 
 // The sum of the 128 differences after rank r.
@@ -108,10 +68,8 @@ pub fn sum(file: &[u8], second: usize, width: u32, r: usize) -> u32
     ensures { (result ≡ total width second file.now r 128) × (result ≤ 65536 * 128) }
 {
     let mut x: u32 = 0;
-    let mut k: usize = 0;
-    while k < 128 {
-        k += 1;
-        x += difference(file, second, r + k, width);
+    for k in 0..128 {
+        x += difference(file, second, r + k + 1, width);
     }
     x
 }
@@ -123,14 +81,12 @@ pub fn sum_behind(file: &[u8], second: usize, width: u32, r: usize, n: usize) ->
     ensures { (result ≡ behind width second file.now r n) × (result ≤ 65536 * n) }
 {
     let mut x: u32 = 0;
-    let mut k: usize = n;
-    while 0 < k {
-        let d = difference(file, second, r + k, width);
+    for k in (0..n).rev() {
+        let d = difference(file, second, r + k + 1, width);
         if d == 0 {
             return x;
         }
         x += d;
-        k -= 1;
     }
     x
 }
@@ -139,8 +95,5 @@ pub fn sum_behind(file: &[u8], second: usize, width: u32, r: usize, n: usize) ->
 pub fn next_group(left: usize) -> usize
     ensures { (result ≤ left) × (1 ≤ left → 1 ≤ result) × (result ≤ 128) }
 {
-    if left < 128 {
-        return left;
-    }
-    128
+    left.min(128)
 }

@@ -6,9 +6,6 @@ ghost use Rattle.differences.specs.Walk.{stepped, walked, Within, Room, Stopped}
 use super::groups::{difference, few_zeros, next_group, sum, sum_behind, zeros};
 use wire::load_u32;
 
-// A position that no walk reaches.
-pub const NO_TARGET: usize = 0xffff_ffff_ffff_ffff;
-
 // How far a search has come: the position of a rank, and the number of jumps that are taken up to it.
 #[derive(Clone, Copy)]
 pub struct Reached {
@@ -100,7 +97,7 @@ fn walk_group(
     past_jumps(file, start, s, jumps, behind)
 }
 
-// From a place on to rank n, group by group, as long as the position stays below the target.
+// From a place on to rank n, group by group, as long as the position stays below the target, where there is one.
 pub fn walk(
     file: &[u8],
     start: u32,
@@ -108,7 +105,7 @@ pub fn walk(
     width: u32,
     from: Place,
     n: usize,
-    target: usize,
+    target: Option<usize>,
 ) -> Place
     requires { Room width second file.now n × (from.rank ≤ n) × Within (from.rank + 1) from.reached }
     ensures { Stopped width start second file.now from n target result }
@@ -118,7 +115,7 @@ pub fn walk(
     while r < n {
         let m = next_group(n - r);
         let next = walk_group(file, start, second, width, r, m, t);
-        if target <= next.position {
+        if target.is_some_and(|p| p <= next.position) {
             return Place {
                 rank: r,
                 reached: t,

@@ -5,10 +5,11 @@ use mathlib.Core.List.{List, [], ◌∷◌, ◌++◌, append-nil}
 use native.Mathlib.Omega.{arith}
 use lib.ListN.{length, take, drop, length-append, length-drop}
 use lib.Seq.{drop-drop, take_all, length-take-le}
+use Rattle.std.specs.Prelude.{Some}
+use Rattle.std.specs.Option.{option_and}
 use Rattle.format.specs.Bytes.{bytes, bytes_of}
 use Rattle.laws.proofs.Bytes.{length-bytes_of, bytes-append}
 use Rattle.format.specs.declared.View.{View}
-use Rattle.format.specs.Tools.{pick}
 use Rattle.format.specs.Accepted.{kept_of}
 use Rattle.laws.proofs.Files.{from_words}
 use Rattle.laws.proofs.RankRange.{take-bytes_of, drop-bytes_of}
@@ -17,7 +18,7 @@ use Rattle.stores.proofs.Laws.{put-append, put-numbers_nil}
 use Rattle.parts.specs.Holds.{ViewOf}
 use Rattle.parts.proofs.Seen.{Seen, seen}
 use Rattle.edits.specs.declared.Edit.{Edit}
-use Rattle.edits.specs.Edit.{overlaid, EditOf}
+use Rattle.edits.specs.Edit.{listed, overlaid, EditOf}
 
 -- ---- one word, or none
 
@@ -42,7 +43,7 @@ module _ (b : List ℕ) (v : View) (o : ViewOf b v) (x : Edit) (i : EditOf b x) 
   vs = kept_of b
 
   abbrev new : List ℕ
-  new = pick x.put (w ∷ []) []
+  new = listed (option_and x.added (Some w))
 
   abbrev from : ℕ
   from = v.place + 4 * x.after

@@ -3,11 +3,12 @@
 
 pub mod words;
 
-// Which ranks of a file go into another: those before `before`, then, where `put`, a new one at `position`, then those from `after` on.
+use format::Position;
+
+// Which ranks of a file go into another: those before `before`, then a new one at `added`, if any, then those from `after` on.
 #[derive(Clone, Copy)]
 pub struct Edit {
     pub before: u32,
-    pub put: bool,
-    pub position: u32,
+    pub added: Option<Position>,
     pub after: u32,
 }

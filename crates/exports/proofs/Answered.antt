@@ -9,7 +9,6 @@ use Rattle.format.specs.File.{WholeHeader}
 use Rattle.format.specs.Accepted.{check_number}
 use Rattle.format.specs.Opened.{view_of}
 use Rattle.laws.proofs.Acceptance.{accepted, header-right}
-use Rattle.checked.specs.Verdict.{Judged}
 use Rattle.search.specs.Searched.{CellSearched, RankSearched, PositionSearched}
 use Rattle.reading.proofs.Answers.{cell-found, rank-found, position-found}
 use Rattle.exports.specs.Unchecked.{Unchecked, cell_unchecked, rank_unchecked, position_unchecked}
@@ -20,15 +19,11 @@ pub short-refused : (b : List ℕ) (direct : Answer) (InRange : Answer → Type 
 short-refused b direct InRange s r =
     record { right = λ h. absurd (s (header-right b (accepted b h).header).long); short = λ l. refl; free = r }
 
--- the check's verdict over the header's own counts
-pub judged : (b : List ℕ) (v : View) → v ≡ view_of b → Judged b (check_number b) v
-judged b v e = record { number = refl; view = λ h. record { accepted = h; view = e } }
-
 module _ (b : List ℕ) (v : View) (e : v ≡ view_of b) (l : WholeHeader b) (p : ℕ) (a : Answer) where
   pub cell_unchecked_lem : CellSearched b v p a → cell_unchecked b p a
   cell_unchecked_lem c =
       record {
-        right = λ h. (cell-found b (check_number b) v (judged b v e) p h a c).said;
+        right = λ h. (cell-found b p v (record { accepted = h; view = e }) a c).said;
         short = λ s. absurd (s l);
         free = c.free;
       }
@@ -37,7 +32,7 @@ module _ (b : List ℕ) (v : View) (e : v ≡ view_of b) (l : WholeHeader b) (p 
   unfolding view_of
   rank_unchecked_lem c =
       record {
-        right = λ h. (rank-found b (check_number b) v (judged b v e) p h a c).said;
+        right = λ h. (rank-found b p v (record { accepted = h; view = e }) a c).said;
         short = λ s. absurd (s l);
         free = rw e at c.free;
       }
@@ -45,7 +40,7 @@ module _ (b : List ℕ) (v : View) (e : v ≡ view_of b) (l : WholeHeader b) (p 
   pub position_unchecked_lem : PositionSearched b v p a → position_unchecked b p a
   position_unchecked_lem c =
       record {
-        right = λ h. (position-found b (check_number b) v (judged b v e) p h a c).said;
+        right = λ h. (position-found b p v (record { accepted = h; view = e }) a c).said;
         short = λ s. absurd (s l);
         free = rw e at c.free;
       }

@@ -5,6 +5,7 @@ use mathlib.Core.Bool.{false}
 use mathlib.Core.List.{List}
 use native.Mathlib.Omega.{arith}
 use lib.ListN.{length}
+use lib.Dec.{eqb}
 use Rattle.format.specs.declared.Dimensions.{Dimensions}
 use Rattle.format.specs.Signals.{BEYOND, or_else}
 use Rattle.format.specs.Answers.{leaves}
@@ -15,11 +16,11 @@ use Rattle.laws.proofs.Tools.{cases, or_else-zero}
 use Rattle.c_values.proofs.Four.{not-inside}
 
 module _ (d : Dimensions) (low high : List ℕ) where
-  low-not-four : (length low ≡ most_dimensions → ⊥) → box_allowed d low high ≡ false
+  low-not-four : eqb (length low) most_dimensions ≡ false → box_allowed d low high ≡ false
   unfolding box_allowed
   low-not-four h = rw (not-inside d low h)
 
-  high-not-four : (length high ≡ most_dimensions → ⊥) → box_allowed d low high ≡ false
+  high-not-four : eqb (length high) most_dimensions ≡ false → box_allowed d low high ≡ false
   unfolding box_allowed
   high-not-four h = cases (inside d low) (λ t. rw (t, not-inside d high h)) (λ t. rw t)
 
@@ -36,10 +37,10 @@ module _ (b low high before : List ℕ) (n : ℕ) (e : n ≡ or_else (check_numb
   unfolding box_number
   outside h = record { number = rw h e; left = unaltered n _ before some }
 
-  pub low_corner : (length low ≡ most_dimensions → ⊥) → Boxed b low high before n before
+  pub low_corner : eqb (length low) most_dimensions ≡ false → Boxed b low high before n before
   low_corner h = outside (low-not-four (dimensions_of b) low high h)
 
-  pub high_corner : (length high ≡ most_dimensions → ⊥) → Boxed b low high before n before
+  pub high_corner : eqb (length high) most_dimensions ≡ false → Boxed b low high before n before
   high_corner h = outside (high-not-four (dimensions_of b) low high h)
 
 -- the same corners

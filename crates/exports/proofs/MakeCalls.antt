@@ -3,7 +3,10 @@ use Prim.Native.Nat.{ℕ}
 use mathlib.Core.Path.{◌≡◌, sym, ap, subst, ◌∙◌}
 use mathlib.Core.List.{List}
 use native.Mathlib.Omega.{arith}
+use mathlib.Core.Bool.{false}
 use lib.ListN.{length}
+use lib.Dec.{eqb}
+use borrow.Author.Tests.{eqb-false}
 use Rattle.format.specs.declared.Dimensions.{Dimensions}
 use Rattle.format.specs.declared.Setting.{Setting}
 use Rattle.format.specs.Signals.{EXTENT, or_else}
@@ -15,19 +18,20 @@ use Rattle.making.proofs.Making.{setting-refused, make_refused}
 use Rattle.c_values.specs.Extents.{dimensions}
 use Rattle.c_values.proofs.Four.{not-four}
 
-module _ (s : Setting) (d : Dimensions) (E : ℕ) (ws before : List ℕ) (h : length d.extents ≡ most_dimensions → ⊥) where
+module _ (s : Setting) (d : Dimensions) (E : ℕ) (ws before : List ℕ) where
   pub four-setting : (n : ℕ) → n ≡ setting_number s 0 → (n ≡ 0 → ⊥) → Made s d E ws before n before
   four-setting n e z = make_refused s d E ws before n (setting-refused s d (length ws) n e z) z
 
-  extent_number : setting_number s 0 ≡ 0 → EXTENT ≡ picture_number s d (length ws)
-  unfolding picture_number
-  extent_number t =
-      sym
-      (rw (not-four d h)
-      (setting_later s 0 EXTENT ∙ ap (λ (x : ℕ). or_else x EXTENT) t))
+  module _ (h : eqb (length d.extents) most_dimensions ≡ false) (t : setting_number s 0 ≡ 0) where
+    extent_number : EXTENT ≡ picture_number s d (length ws)
+    unfolding picture_number
+    extent_number =
+        sym
+        (rw (not-four d (eqb-false (length d.extents) most_dimensions h))
+        (setting_later s 0 EXTENT ∙ ap (λ (x : ℕ). or_else x EXTENT) t))
 
-  pub four_extent : (n : ℕ) → n ≡ setting_number s 0 → n ≡ 0 → Made s d E ws before EXTENT before
-  four_extent n e z = make_refused s d E ws before EXTENT (extent_number (sym e ∙ z)) (λ k. omega arith)
+    pub four_extent : Made s d E ws before EXTENT before
+    four_extent = make_refused s d E ws before EXTENT extent_number (λ k. omega arith)
 
 -- the same extents
 pub same-made : (s : Setting) (c : ℕ) (es fs : List ℕ) → es ≡ fs → (E : ℕ) (ws before : List ℕ) (n : ℕ) (after : List ℕ)

@@ -3,6 +3,7 @@ ghost use Rattle.format.specs.Coordinates.{PositionOf};
 ghost use Rattle.c_values.specs.Code.{Coded};
 ghost use Rattle.c_values.specs.Extents.{dimensions, CoordinatesOut};
 
+use c_values::code::signal;
 use c_values::coordinates::{coordinates_position, position_coordinates};
 
 // The position of coordinates. Extents that are not four numbers are 4; coordinates that are not four are 8.
@@ -23,5 +24,5 @@ pub extern "C" fn ra_position_coordinates(
 ) -> u32
     ensures { CoordinatesOut (dimensions dims extents.now) place dst.old result dst.new }
 {
-    position_coordinates(dims, extents, place, dst)
+    signal(position_coordinates(dims, extents, place, dst))
 }

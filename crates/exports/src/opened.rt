@@ -5,9 +5,8 @@ ghost use Rattle.search.specs.Searched.{PositionSearched};
 ghost use Rattle.c_values.specs.Code.{Coded};
 ghost use Rattle.exports.specs.Unchecked.{cell_unchecked, rank_unchecked, position_unchecked};
 
-use c_values::code::{cell_code, code_and_value, found_code, position_code, rank_code};
-use format::signals::BEYOND;
-use format::{Position, Rank, View};
+use c_values::code::{cell_code, found_code, position_code, rank_code};
+use format::{Position, Rank, Refusal, View};
 use header::view::{read_view, whole_header};
 use kinds::search::{placed_by_rank, placed_position};
 use search::{cell_in, position_in, rank_in};
@@ -18,7 +17,7 @@ pub extern "C" fn ra_opened_cell(file: &[u8], place: u32) -> u64
     ensures { Coded (cell_unchecked file.now place) result }
 {
     if !whole_header(file) {
-        return code_and_value(BEYOND, 0);
+        return cell_code(Err(Refusal::Beyond));
     }
     cell_code(cell_in(file, read_view(file), Position(place)))
 }
@@ -29,7 +28,7 @@ pub extern "C" fn ra_opened_rank(file: &[u8], place: u32) -> u64
     ensures { Coded (rank_unchecked file.now place) result }
 {
     if !whole_header(file) {
-        return code_and_value(BEYOND, 0);
+        return rank_code(Err(Refusal::Beyond));
     }
     let v = read_view(file);
     let answer = rank_in(file, v, Position(place));
@@ -42,7 +41,7 @@ fn placed_code(file: &[u8], v: View, r: Rank) -> u64
     ensures { Coded (PositionSearched file.now v r.0) result }
 {
     if v.words <= r.0 {
-        return code_and_value(BEYOND, 0);
+        return position_code(Err(Refusal::Beyond));
     }
     found_code(placed_position(file, v, r), v.cells)
 }
@@ -53,7 +52,7 @@ pub extern "C" fn ra_opened_position(file: &[u8], number: u32) -> u64
     ensures { Coded (position_unchecked file.now number) result }
 {
     if !whole_header(file) {
-        return code_and_value(BEYOND, 0);
+        return position_code(Err(Refusal::Beyond));
     }
     let v = read_view(file);
     if placed_by_rank(v.kind) {

@@ -1,13 +1,14 @@
 // Check, expand and the three lookups, each with the complete check first.
+ghost use Rattle.format.specs.Answers.{signal_of};
 ghost use Rattle.format.specs.Accepted.{Checked};
 ghost use Rattle.format.specs.Calls.{Expanded};
 ghost use Rattle.format.specs.Lookups.{CellFound, RankFound, PositionFound};
 ghost use Rattle.c_values.specs.Code.{Coded};
 ghost use Rattle.c_values.specs.Info.{InfoOut};
 
-use c_values::code::{cell_code, position_code, rank_code};
+use c_values::code::{cell_code, position_code, rank_code, signal};
 use c_values::info::put_info;
-use format::{Position, Rank};
+use format::{Position, Rank, Refusal};
 use reading::check::check;
 use reading::expand::expand;
 use reading::lookup::{cell, position, rank};
@@ -17,7 +18,15 @@ use reading::lookup::{cell, position, rank};
 pub extern "C" fn ra_check(file: &[u8]) -> u32
     ensures { Checked file.now result }
 {
-    check(file)
+    signal(check(file))
+}
+
+// The header's numbers of an accepted file.
+fn info(file: &[u8], dst: &mut [u32]) -> Result<(), Refusal>
+    ensures { InfoOut file.now dst.old (signal_of result) dst.new }
+{
+    check(file)?;
+    put_info(file, dst)
 }
 
 // What the header says: kind, width, step, dimension count, cells, E, N, and the four extents. A destination shorter than these eleven is 10.
@@ -25,11 +34,7 @@ pub extern "C" fn ra_check(file: &[u8]) -> u32
 pub extern "C" fn ra_info(file: &[u8], dst: &mut [u32]) -> u32
     ensures { InfoOut file.now dst.old result dst.new }
 {
-    let number = check(file);
-    if number != 0 {
-        return number;
-    }
-    put_info(file, dst)
+    signal(info(file, dst))
 }
 
 // The words of all cells into dst, in row order.
@@ -37,7 +42,7 @@ pub extern "C" fn ra_info(file: &[u8], dst: &mut [u32]) -> u32
 pub extern "C" fn ra_expand(file: &[u8], dst: &mut [u32]) -> u32
     ensures { Expanded file.now dst.old result dst.new }
 {
-    expand(file, dst)
+    signal(expand(file, dst))
 }
 
 // The word at a position.

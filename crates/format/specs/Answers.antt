@@ -1,13 +1,10 @@
--- What a call hands back (document 01, "The signal list"), and the number and values of each case of a declared answer. Assumes nothing.
-use Rattle.std.specs.Prelude.{ℕ, zero, suc, Bool, true, false, List, [], ◌∷◌, ◌++◌, length, drop}
-use Rattle.format.specs.declared.CellAnswer.{CellAnswer}
-use Rattle.format.specs.declared.CellAnswer.TheVariants as ca
+-- What a call hands back (document 01, "The signal list"), and the number and values of each case of an answer that code gives. Assumes nothing.
+use Rattle.std.specs.Prelude.{ℕ, zero, suc, Bool, true, false, List, [], ◌∷◌, ◌++◌, length, drop, Result, Ok, Err}
+use Rattle.format.specs.declared.Position.{Position}
+use Rattle.format.specs.declared.Refusal.{Refusal}
 use Rattle.format.specs.declared.RankAnswer.{RankAnswer}
 use Rattle.format.specs.declared.RankAnswer.TheVariants as ra
-use Rattle.format.specs.declared.PositionAnswer.{PositionAnswer}
-use Rattle.format.specs.declared.PositionAnswer.TheVariants as pa
-use Rattle.format.specs.declared.CoordinatesAnswer.{CoordinatesAnswer}
-use Rattle.format.specs.declared.CoordinatesAnswer.TheVariants as co
+use Rattle.format.specs.Signals.{signal_number}
 
 -- an answer: a refusal's number; "empty", with the number of stored cells before the cell (document 02, S-9); or a word, rank or position
 pub data Answer : Type 0 where
@@ -36,28 +33,29 @@ values_of (refused n) = []
 values_of (empty n) = n ∷ []
 values_of (given x) = x ∷ []
 
--- what each case of a declared answer says
-abbrev pub cell_says : CellAnswer → Answer
-cell_says (ca.Word x) = given x
-cell_says (ca.Refused n) = refused n
+-- the paper's number of a call that hands nothing else back: 0 where it is accepted
+abbrev pub signal_of : {X : Type 0} → Result X Refusal → ℕ
+signal_of (Ok x) = 0
+signal_of (Err r) = signal_number r
 
-abbrev pub rank_says : RankAnswer → Answer
-rank_says (ra.Rank r) = given r.0
-rank_says (ra.Empty n) = empty n.0
-rank_says (ra.Refused n) = refused n
+-- what each case of an answer that code gives says
+abbrev pub cell_says : Result ℕ Refusal → Answer
+cell_says (Ok x) = given x
+cell_says (Err r) = refused (signal_number r)
 
-abbrev pub position_says : PositionAnswer → Answer
-position_says (pa.Position p) = given p.0
-position_says (pa.Refused n) = refused n
+abbrev pub rank_says : Result RankAnswer Refusal → Answer
+rank_says (Ok (ra.Rank r)) = given r.0
+rank_says (Ok (ra.Empty n)) = empty n.0
+rank_says (Err r) = refused (signal_number r)
 
--- the number and the values of coordinates, which are four
-abbrev pub coordinates_number_of : CoordinatesAnswer → ℕ
-coordinates_number_of (co.Coordinates cs) = 0
-coordinates_number_of (co.Refused n) = n
+abbrev pub position_says : Result Position Refusal → Answer
+position_says (Ok p) = given p.0
+position_says (Err r) = refused (signal_number r)
 
-abbrev pub coordinates_values_of : CoordinatesAnswer → List ℕ
-coordinates_values_of (co.Coordinates cs) = cs
-coordinates_values_of (co.Refused n) = []
+-- the values of coordinates, which are four
+abbrev pub coordinates_values_of : Result (List ℕ) Refusal → List ℕ
+coordinates_values_of (Ok cs) = cs
+coordinates_values_of (Err r) = []
 
 -- A destination that held `before`, after a call with this number: an accepted result fills its first elements and leaves the rest unchanged,
 -- a refusal alters nothing.

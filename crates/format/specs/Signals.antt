@@ -1,5 +1,7 @@
 -- The signal list (document 01): its numbers by their words, and the first that applies. 0 is "accepted". Assumes nothing.
 use Rattle.std.specs.Prelude.{ℕ, zero, suc, Bool, true, false}
+use Rattle.format.specs.declared.Refusal.{Refusal}
+use Rattle.format.specs.declared.Refusal.TheVariants as rf
 
 abbrev pub SHORT : ℕ
 SHORT = 1
@@ -33,6 +35,20 @@ SMALL = 10
 
 abbrev pub OTHER : ℕ
 OTHER = 11
+
+-- the number of each refusal
+abbrev pub signal_number : Refusal → ℕ
+signal_number rf.Short = SHORT
+signal_number rf.Kind = KIND
+signal_number rf.Setting = SETTING
+signal_number rf.Extent = EXTENT
+signal_number rf.Counts = COUNTS
+signal_number rf.Body = BODY
+signal_number rf.Picture = PICTURE
+signal_number rf.Beyond = BEYOND
+signal_number rf.Unfit = UNFIT
+signal_number rf.Small = SMALL
+signal_number rf.Other = OTHER
 
 -- the number n where the test passes, else what the later tests give
 abbrev pub refuse : ℕ → Bool → ℕ → ℕ

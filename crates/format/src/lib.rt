@@ -1,7 +1,8 @@
-// The declared types of the archive (document 01). Their meaning is in specs/; there is no code here.
+// The declared types of the archive (document 01). Their meaning is in specs/; there is no code here but a refusal's number and a view's setting.
 #![tactic(auto)]
 
-pub mod signals;
+ghost use Rattle.std.specs.Prelude.{◌≡◌};
+ghost use Rattle.format.specs.Signals.{signal_number};
 
 // A position in the picture: LP in source document 000.
 #[derive(Clone, Copy)]
@@ -12,7 +13,7 @@ pub struct Position(pub u32);
 pub struct Rank(pub u32);
 
 // Kind, width and step.
-#[derive(Clone, Copy)]
+#[derive(Clone, Copy, PartialEq, Eq)]
 pub struct Setting {
     pub kind: u32,
     pub width: u32,
@@ -34,11 +35,41 @@ pub struct Dimensions {
     pub extents: Coordinates,
 }
 
-// Cell at a position.
-#[derive(Clone, Copy)]
-pub enum CellAnswer {
-    Word(u32),
-    Refused(u32),
+// The signal list (document 01): why a call refuses.
+#[derive(Clone, Copy, Debug, PartialEq, Eq)]
+pub enum Refusal {
+    Short,
+    Kind,
+    Setting,
+    Extent,
+    Counts,
+    Body,
+    Picture,
+    Beyond,
+    Unfit,
+    Small,
+    Other,
+}
+
+// Its number.
+impl From<Refusal> for u32 {
+    ghost from_gives = { λ r n. n ≡ signal_number r };
+
+    fn from(r: Refusal) -> u32 {
+        match r {
+            Refusal::Short => 1,
+            Refusal::Kind => 2,
+            Refusal::Setting => 3,
+            Refusal::Extent => 4,
+            Refusal::Counts => 5,
+            Refusal::Body => 6,
+            Refusal::Picture => 7,
+            Refusal::Beyond => 8,
+            Refusal::Unfit => 9,
+            Refusal::Small => 10,
+            Refusal::Other => 11,
+        }
+    }
 }
 
 // Rank at a position; at an empty cell the number of stored cells before it, which is the rank that a word written there would have.
@@ -46,21 +77,6 @@ pub enum CellAnswer {
 pub enum RankAnswer {
     Rank(Rank),
     Empty(Rank),
-    Refused(u32),
-}
-
-// Position of a rank, and position of coordinates.
-#[derive(Clone, Copy)]
-pub enum PositionAnswer {
-    Position(Position),
-    Refused(u32),
-}
-
-// Coordinates of a position.
-#[derive(Clone, Copy)]
-pub enum CoordinatesAnswer {
-    Coordinates(Coordinates),
-    Refused(u32),
 }
 
 // The header's numbers: setting, cells, the empty word, the counts of stored words and of the entries of each part, and the offsets of first part,
@@ -78,4 +94,17 @@ pub struct View {
     pub start: u32,
     pub second: u32,
     pub place: u32,
+}
+
+impl View {
+    // Its kind, width and step.
+    pub fn setting(self) -> Setting
+        ensures { result ≡ record { kind = self.kind; width = self.width; step = self.step } }
+    {
+        Setting {
+            kind: self.kind,
+            width: self.width,
+            step: self.step,
+        }
+    }
 }

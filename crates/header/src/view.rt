@@ -28,7 +28,7 @@ pub fn whole_header(file: &[u8]) -> bool
 }
 
 // Kind, width and step.
-pub fn read_setting(file: &[u8]) -> Setting
+fn read_setting(file: &[u8]) -> Setting
     requires { WholeHeader file.now }
     ensures { result ≡ setting_of file.now }
 {
@@ -76,7 +76,7 @@ pub fn read_view(file: &[u8]) -> View
     ensures { result ≡ view_of file.now }
 {
     let setting = read_setting(file);
-    let cells = cell_count(read_dimensions(file));
+    let cells = cell_count(read_dimensions(file)).unwrap_or(0);
     let empty = get_u32(file, 20);
     let counts = read_counts(file);
     View {

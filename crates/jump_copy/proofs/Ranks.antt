@@ -2,6 +2,7 @@
 use Prim.Native.Nat.{ℕ, zero, suc, ◌+◌, ◌-◌, ◌^◌, ◌≤◌, ◌<◌}
 use mathlib.Core.Path.{◌≡◌, refl, sym, ap, ◌∙◌}
 use mathlib.Core.List.{List}
+use Rattle.std.proofs.Common.{None}
 use native.Mathlib.Nat.{add-zero}
 use native.Mathlib.Numerals.{add-one}
 use native.Mathlib.Omega.{arith}
@@ -78,16 +79,16 @@ module _ (b : List ℕ) (v : View) (ls : List ℕ) (h : Held b v ls) (c : Cursor
           record { position = omega arith; taken = omega arith }
 
       -- and where it ends
-      module _ (t : Place) (target : ℕ) (g : Stopped w v.start v.second b (record { rank = c.rank; reached = reached c }) (c.rank + n) target t) (far : 2 ^ 50 ≤ target) where
+      module _ (t : Place) (g : Stopped w v.start v.second b (record { rank = c.rank; reached = reached c }) (c.rank + n) None t) where
         there : t.reached ≡ walked w v.start v.second b c.rank n (reached c)
         there =
-            let a = g.all far in
+            let a = g.all in
             let e : t.rank - c.rank ≡ n = omega arith in
             rw e at g.there
 
         pub walk-taken : t.reached.taken < 2 ^ 32
         walk-taken =
-            let a = g.all far in
+            let a = g.all in
             let i = g.within.taken in
             let m = walk-room.rank in
             let l = h.laid.cells in

@@ -10,7 +10,7 @@ ghost use Rattle.jump_walk.specs.Steps.{next};
 ghost use Rattle.jump_entries.specs.Coding.{jumps_coder};
 ghost use Rattle.jump_copy.specs.Further.{further};
 
-use differences::walk::{NO_TARGET, Place, walk};
+use differences::walk::{Place, walk};
 use format::View;
 use jump_entries::coding::{put_all, take_all};
 use jump_walk::steps::next;
@@ -31,15 +31,7 @@ fn ranks_on(file: &[u8], v: View, mut c: Cursor, n: u32) -> Cursor
         },
     };
     let end = c.rank as usize + n as usize;
-    let place = walk(
-        file,
-        v.start,
-        v.second as usize,
-        v.width,
-        from,
-        end,
-        NO_TARGET,
-    );
+    let place = walk(file, v.start, v.second as usize, v.width, from, end, None);
     let s = place.reached;
     c.rank += n;
     c.at = s.position as u32;

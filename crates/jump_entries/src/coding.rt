@@ -17,20 +17,22 @@ fn difference_at(width: u32, e: Encoder, p: u32) -> u32
     ensures { result ≡ difference_at width e p }
 {
     if e.rank == 0 {
-        return 0;
+        0
+    } else {
+        stored_difference(width, e.last, p)
     }
-    stored_difference(width, e.last, p)
 }
 
 fn taken(width: u32, e: Encoder, p: u32) -> Encoder
     requires { Next e p × (1 ≤ width) × (width ≤ 2) }
     ensures { result ≡ taken_by (jumps_coder width) e p }
 {
-    let second = e.second + width as usize;
-    if difference_at(width, e, p) == 0 {
-        return move_on(e, p, e.first + 4, second);
-    }
-    move_on(e, p, e.first, second)
+    let first = if difference_at(width, e, p) == 0 {
+        e.first + 4
+    } else {
+        e.first
+    };
+    move_on(e, p, first, e.second + width as usize)
 }
 
 fn put_one(dst: &mut [u8], width: u32, e: Encoder, p: u32) -> Encoder
@@ -50,17 +52,19 @@ pub fn take_all(width: u32, e: Encoder, ps: &[u32]) -> Encoder
     requires { (1 ≤ width) × (width ≤ 2) × Along e ps.now }
     ensures { result ≡ taken_all_by (jumps_coder width) e ps.now }
 {
-    let n = ps.len();
-    if n == 0 {
+    if ps.len() == 0 {
         return e;
     }
+    let more = ps.len() - 1;
     let jumps = count_far(ps, limit(width)) as usize;
-    let mut at = taken(width, e, ps[0]);
-    at.rank += (n - 1) as u32;
-    at.last = ps[n - 1];
-    at.first += 4 * jumps;
-    at.second += width as usize * (n - 1);
-    at
+    let at = taken(width, e, ps[0]);
+    Encoder {
+        rank: at.rank + more as u32,
+        last: ps[more],
+        first: at.first + 4 * jumps,
+        second: at.second + width as usize * more,
+        ..at
+    }
 }
 
 // The bytes that the positions add, those of the first and then those of all others; the encoder after them.

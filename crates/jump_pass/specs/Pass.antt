@@ -1,5 +1,5 @@
 -- Jumps and differences as one pass goes through them. Assumes nothing.
-use Rattle.std.specs.Prelude.{ℕ, zero, suc, ◌+◌, ◌-◌, ◌*◌, ◌^◌, ◌≤◌, ◌<◌, ◌≡◌, Bool, true, false, List, [], ◌∷◌, length, drop, leb, ltb, eqb}
+use Rattle.std.specs.Prelude.{ℕ, zero, suc, ◌+◌, ◌-◌, ◌*◌, ◌^◌, ◌≤◌, ◌<◌, ◌≡◌, Bool, false, List, [], ◌∷◌, length, drop, leb, ltb, eqb, Option, MatchOption}
 use Rattle.format.specs.declared.View.{View}
 use Rattle.format.specs.Tools.{both, first}
 use Rattle.format.specs.Bytes.{field, numbers_of}
@@ -53,14 +53,22 @@ unfoldable pub jumps_below : ℕ → ℕ → List ℕ → ℕ → ℕ
 jumps_below w second b zero = 0
 jumps_below w second b (suc i) = jumps_below w second b i + if_zero (field w (second + w * i) b) 1 0
 
--- it goes from s at rank i to t at rank `end`: however many ranks follow, the rest of the pass is right where t is right and what is left from t on is;
--- and where t is right a jump is taken for each difference 0
+-- it goes from s at rank i to t at rank `end`: however many ranks follow, the rest of the pass is right where what is left from t on is; and a jump is
+-- taken for each difference 0
 pub record Goes (w second : ℕ) (b : List ℕ) (i end : ℕ) (s t : Passed) : Type 0 where
   pub left : t.left ≤ s.left
   pub least : t.least ≤ 4295032832 + 65536 * end
   pub same : (words bound : ℕ) → end ≤ words
-      → passes_on w second words bound b s.least s.left i ≡ both t.right (passes_on w second words bound b t.least t.left end)
-  pub jumps : t.right ≡ true → t.left + jumps_below w second b end ≡ s.left + jumps_below w second b i
+      → passes_on w second words bound b s.least s.left i ≡ passes_on w second words bound b t.least t.left end
+  pub jumps : t.left + jumps_below w second b end ≡ s.left + jumps_below w second b i
+
+-- from s at rank i it goes wrong before rank `end`, however many ranks follow
+pub record Stops (w second : ℕ) (b : List ℕ) (i end : ℕ) (s : Passed) : Type 0 where
+  pub wrong : (words bound : ℕ) → end ≤ words → passes_on w second words bound b s.least s.left i ≡ false
+
+-- what a pass from s at rank i up to rank `end` answers
+abbrev pub GoesTo : ℕ → ℕ → List ℕ → ℕ → ℕ → Passed → Option Passed → Type 0
+GoesTo w second b i end s r = MatchOption r (Stops w second b i end s) (λ t. Goes w second b i end s t)
 
 -- the sum of the differences of rank k and the next, or 0 where one of them is a jump
 unfoldable pub both_near : ℕ → ℕ → List ℕ → ℕ → ℕ

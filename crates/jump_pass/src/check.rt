@@ -1,7 +1,7 @@
 // One pass over the parts.
 ghost use Rattle.std.specs.Prelude.{◌≡◌, ◌+◌, ◌*◌, ◌^◌, ◌≤◌, ◌<◌, length};
 ghost use Rattle.differences.specs.Walk.{Laid};
-ghost use Rattle.jump_pass.specs.Pass.{Readable, Goes, both_near, passes_from, starts};
+ghost use Rattle.jump_pass.specs.Pass.{Readable, GoesTo, both_near, passes_from, starts};
 
 use differences::groups::{difference, next_group, sum, zeros};
 use format::View;
@@ -12,56 +12,47 @@ pub fn starts_right(file: &[u8], v: View) -> bool
     requires { Laid file.now v }
     ensures { result ≡ starts v file.now }
 {
-    if v.words == 0 {
-        return true;
-    }
-    difference(file, v.second as usize, 0, v.width) == 0
+    v.words == 0 || difference(file, v.second as usize, 0, v.width) == 0
 }
 
-// How far a pass has come: the least position that a jump may have, which is past what a difference reaches from the position before; the
-// jumps that are left; and whether all was right.
+// How far a pass has come: the least position that a jump may have, which is past what a difference reaches from the position before, and the
+// jumps that are left.
 #[derive(Clone, Copy)]
 pub struct Passed {
     pub least: usize,
     pub left: usize,
-    pub right: bool,
 }
 
-// Over rank k; `reach` is the least distance that a difference does not reach.
-fn pass_rank(file: &[u8], second: usize, width: u32, reach: usize, k: usize, s: Passed) -> Passed
+// Over rank k, or None where it is wrong; `reach` is the least distance that a difference does not reach.
+fn pass_rank(
+    file: &[u8],
+    second: usize,
+    width: u32,
+    reach: usize,
+    k: usize,
+    s: Passed,
+) -> Option<Passed>
     requires { Readable width second file.now k (k + 1) s × (reach ≡ 256 ^ width) }
-    ensures { Goes width second file.now k (k + 1) s result }
+    ensures { GoesTo width second file.now k (k + 1) s result }
 {
-    let least = s.least;
-    let left = s.left;
     let d = difference(file, second, k, width);
     if d != 0 {
-        return Passed {
-            least: least + d as usize,
-            left,
-            right: true,
-        };
+        return Some(Passed {
+            least: s.least + d as usize,
+            left: s.left,
+        });
     }
-    if left == 0 {
-        return Passed {
-            least,
-            left,
-            right: false,
-        };
+    if s.left == 0 {
+        return None;
     }
-    let jump = get_u32(file, second - 4 * left) as usize;
-    if jump < least {
-        return Passed {
-            least,
-            left,
-            right: false,
-        };
+    let jump = get_u32(file, second - 4 * s.left) as usize;
+    if jump < s.least {
+        return None;
     }
-    Passed {
+    Some(Passed {
         least: jump + reach,
-        left: left - 1,
-        right: true,
-    }
+        left: s.left - 1,
+    })
 }
 
 // The sum of the differences of rank k and the next, or 0 where one of them is a jump.
@@ -71,10 +62,7 @@ fn both_near(file: &[u8], second: usize, width: u32, k: usize) -> u32
 {
     let d = difference(file, second, k, width);
     let e = difference(file, second, k + 1, width);
-    if d == 0 {
-        return 0;
-    }
-    if e == 0 {
+    if d == 0 || e == 0 {
         return 0;
     }
     d + e
@@ -89,12 +77,11 @@ fn pass_ranks(
     i: usize,
     end: usize,
     s: Passed,
-) -> Passed
+) -> Option<Passed>
     requires { Readable width second file.now i end s × (reach ≡ 256 ^ width) }
-    ensures { Goes width second file.now i end s result }
+    ensures { GoesTo width second file.now i end s result }
 {
     let mut t = s;
-    t.right = true;
     let mut k = i;
     while k + 1 < end {
         let two = both_near(file, second, width, k);
@@ -102,17 +89,14 @@ fn pass_ranks(
             t.least += two as usize;
             k += 2;
         } else {
-            t = pass_rank(file, second, width, reach, k, t);
-            if !t.right {
-                return t;
-            }
+            t = pass_rank(file, second, width, reach, k, t)?;
             k += 1;
         }
     }
     if k < end {
         return pass_rank(file, second, width, reach, k, t);
     }
-    t
+    Some(t)
 }
 
 // The same. 128 ranks after rank 0 without a jump are taken by their sum.
@@ -124,21 +108,15 @@ fn pass_group(
     i: usize,
     end: usize,
     s: Passed,
-) -> Passed
+) -> Option<Passed>
     requires { Readable width second file.now i end s × (reach ≡ 256 ^ width) }
-    ensures { Goes width second file.now i end s result }
+    ensures { GoesTo width second file.now i end s result }
 {
-    if 0 < i {
-        if end - i == 128 {
-            if zeros(file, second, width, i - 1) == 0 {
-                let least = s.least + sum(file, second, width, i - 1) as usize;
-                return Passed {
-                    least,
-                    left: s.left,
-                    right: true,
-                };
-            }
-        }
+    if 0 < i && end - i == 128 && zeros(file, second, width, i - 1) == 0 {
+        return Some(Passed {
+            least: s.least + sum(file, second, width, i - 1) as usize,
+            left: s.left,
+        });
     }
     pass_ranks(file, second, width, reach, i, end, s)
 }
@@ -152,22 +130,18 @@ pub fn pass_span(
     i: usize,
     end: usize,
     s: Passed,
-) -> Passed
+) -> Option<Passed>
     requires { Readable width second file.now i end s × (reach ≡ 256 ^ width) }
-    ensures { Goes width second file.now i end s result }
+    ensures { GoesTo width second file.now i end s result }
 {
     let mut t = s;
-    t.right = true;
     let mut k = i;
     while k < end {
         let next = k + next_group(end - k);
-        t = pass_group(file, second, width, reach, k, next, t);
-        if !t.right {
-            return t;
-        }
+        t = pass_group(file, second, width, reach, k, next, t)?;
         k = next;
     }
-    t
+    Some(t)
 }
 
 // One pass over all ranks: positions rise, and only the last is held against cells.
@@ -175,24 +149,20 @@ pub fn pass(file: &[u8], v: View, width: u32, reach: usize) -> bool
     requires { Laid file.now v × (width ≡ v.width) × (reach ≡ 256 ^ width) }
     ensures { result ≡ passes_from v file.now 0 0 0 }
 {
-    let s = pass_span(
+    let all = Passed {
+        least: 0,
+        left: v.firsts as usize,
+    };
+    let Some(s) = pass_span(
         file,
         v.second as usize,
         width,
         reach,
         0,
         v.words as usize,
-        Passed {
-            least: 0,
-            left: v.firsts as usize,
-            right: true,
-        },
-    );
-    if !s.right {
+        all,
+    ) else {
         return false;
-    }
-    if s.left != 0 {
-        return false;
-    }
-    s.least < v.cells as usize + reach
+    };
+    s.left == 0 && s.least < v.cells as usize + reach
 }

@@ -1,5 +1,5 @@
 -- What a search has reached, over the jumps and differences of stored positions. Assumes nothing.
-use Rattle.std.proofs.Common.{◌≡◌, ℕ, ◌+◌, ◌-◌, ◌*◌, ◌<◌, ◌≤◌, true, false, eqb, leb, List, length, get_or, sym, refl, ap, zero-add, arith, eqb-true, leb-false, leb-true}
+use Rattle.std.proofs.Common.{◌≡◌, ℕ, ◌+◌, ◌-◌, ◌*◌, ◌<◌, ◌≤◌, true, false, eqb, leb, List, Some, length, get_or, sym, refl, ap, zero-add, arith, eqb-true, leb-false, leb-true}
 use lib.Arith.{lt_of_le-ne}
 use borrow.Author.Tests.{eqb-false}
 use Rattle.format.specs.declared.View.{View}
@@ -19,9 +19,6 @@ use Rattle.jump_walk.proofs.Ahead.{Reaches, reach_start, reach_walk}
 -- a width that is not 1 is 2
 pub of_width : (v : View) → (v.width ≡ 1 → ⊥) → OfWidth v 2
 of_width v n = record { width = λ h k. other_width v.width h k n }
-
-pub next-below : {r n : ℕ} → r < n → (r + 1 ≡ n → ⊥) → r + 1 < n
-next-below {r} {n} h k = let m : r + 1 ≤ n = omega arith in lt_of_le-ne m k
 
 -- over the positions ls: s is what a search has reached at rank r, and the rank before is below p
 pub record Below (b : List ℕ) (v : View) (w p r : ℕ) (s : Reached) (ls : List ℕ) : Type 0 where
@@ -91,13 +88,13 @@ module _ (b : List ℕ) (v : View) (w : ℕ) where
         }
 
     -- by groups
-    pub seeks_group : (n : ℕ) → Stopped w v.start v.second b from n p t → t.rank < v.words
+    pub seeks_group : (n : ℕ) → Stopped w v.start v.second b from n (Some p) t → t.rank < v.words
         → Seeks p from.rank from.reached t.rank t.reached
     seeks_group n z k =
         seeks_walked z.least k z.there λ ls y g h.
         let m = y.held.size in
         let a = g.position in
-        let d = z.below h in
+        let d = z.below p refl h in
         let o = rising_lt 0 v.cells ls (t.rank - 1) t.rank y.held.rising (omega arith) (omega arith) in
         omega arith
 

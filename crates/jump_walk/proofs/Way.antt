@@ -37,11 +37,6 @@ module _ (b : List ℕ) (v : View) where
         omega arith,
       )
 
--- a walk of k steps that has left its start has gone on
-pub left_start : (c t : Cursor) (k : ℕ) → (k ≡ 0 → t ≡ c) → (1 ≤ k → c.rank < t.rank) → (t ≡ c → ⊥) → c.rank < t.rank
-left_start c t zero e l n = absurd (n (e refl))
-left_start c t (suc k) e l n = l (omega arith)
-
 -- ---- many ranks at once
 
 module _ (b : List ℕ) (v : View) (p : ℕ) (c : Cursor) where

@@ -27,28 +27,19 @@ fn step_to(file: &[u8], v: View, width: u32, from: Place, p: u32, n: usize) -> P
     requires { (1 ≤ width) × (width ≤ 2) × (from.rank < v.words) × (v.second + width * v.words ≤ length file.now) × Within (from.rank + 1) from.reached }
     ensures { Near file.now v width from p n result }
 {
+    let end = from.rank + n.min(v.words as usize - 1 - from.rank);
     let mut s = from.reached;
-    let mut r = from.rank;
-    let mut k: usize = 0;
-    while k < n {
+    for r in from.rank..end {
         if p as usize <= s.position {
             return Place {
                 rank: r,
                 reached: s,
             };
         }
-        if r + 1 == v.words as usize {
-            return Place {
-                rank: r,
-                reached: s,
-            };
-        }
-        r += 1;
-        s = advance(file, v.start, v.second as usize, width, r, s);
-        k += 1;
+        s = advance(file, v.start, v.second as usize, width, r + 1, s);
     }
     Place {
-        rank: r,
+        rank: end,
         reached: s,
     }
 }
@@ -73,7 +64,7 @@ pub fn seek_from(file: &[u8], v: View, width: u32, from: Place, p: u32) -> Found
         width,
         near,
         v.words as usize - 1,
-        target,
+        Some(target),
     );
     let at = step_to(file, v, width, far, p, 4294967295);
     if at.reached.position < target {

@@ -5,17 +5,16 @@ ghost use Rattle.parts.specs.Walks.{sought, Climbs};
 ghost use Rattle.jump_walk.specs.Steps.{next, OnWay};
 
 use difference_rows::batch::{all_there, along_u8, along_u16, jump_by};
-use differences::walk::{NO_TARGET, Place, Reached, walk};
+use differences::walk::{Place, Reached, walk};
 use format::{Position, View};
 use parts::Cursor;
 use parts::walk::entry_of;
-use std::num::wrapping_add_u32;
 
 // The cursor at the next rank.
 pub fn next(file: &[u8], v: View, c: Cursor) -> Cursor
     ensures { result ≡ next file.now v c }
 {
-    let rank = wrapping_add_u32(c.rank, 1);
+    let rank = c.rank.wrapping_add(1);
     jump_by(file, v.start, entry_of(file, v, rank), c)
 }
 
@@ -23,11 +22,9 @@ pub fn next(file: &[u8], v: View, c: Cursor) -> Cursor
 fn each(file: &[u8], v: View, mut c: Cursor, out: &mut [u32]) -> Cursor
     ensures { Batch (next file.now v) c (length out.old) result out.new }
 {
-    let mut i: usize = 0;
-    while i < out.len() {
-        out[i] = c.at;
+    for p in out.iter_mut() {
+        *p = c.at;
         c = next(file, v, c);
-        i += 1;
     }
     c
 }
@@ -74,7 +71,7 @@ fn leap(file: &[u8], v: View, mut c: Cursor, p: u32) -> Cursor
         v.width,
         from,
         rank + 128,
-        NO_TARGET,
+        None,
     );
     let t = place.reached;
     let at = t.position;
@@ -92,9 +89,8 @@ fn step_on(file: &[u8], v: View, c: Cursor, p: u32) -> Cursor
     requires { (c.rank < v.words) × (c.at < p) }
     ensures { OnWay (next file.now v) v.words p c result × (c.rank < result.rank) }
 {
-    let mut t = c;
-    let mut k: usize = 0;
-    while k < 128 {
+    let mut t = next(file, v, c);
+    for _ in 1..128 {
         if v.words <= t.rank {
             return t;
         }
@@ -102,7 +98,6 @@ fn step_on(file: &[u8], v: View, c: Cursor, p: u32) -> Cursor
             return t;
         }
         t = next(file, v, t);
-        k += 1;
     }
     t
 }

@@ -4,7 +4,7 @@ ghost use Rattle.format.specs.Jumps.{jumps_kind};
 ghost use Rattle.parts.specs.Found.{FoundIn, PositionIn};
 ghost use Rattle.jump_walk.specs.Width.{OfWidth};
 
-use differences::walk::{NO_TARGET, walk};
+use differences::walk::walk;
 use format::{Position, Rank, View};
 use jump_walk::search::{first_place, seek_from};
 use parts::Found;
@@ -45,7 +45,7 @@ fn seek_position(file: &[u8], v: View, width: u32, rank: u32) -> u64
         width,
         first_place(file, v.start),
         rank as usize,
-        NO_TARGET,
+        None,
     );
     place.reached.position as u64
 }

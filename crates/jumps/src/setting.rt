@@ -7,26 +7,24 @@ use format::View;
 use parts::PartBytes;
 
 // Width is 1 or 2, step is 0.
+#[tactic(auto, unfolding(format::specs::Jumps::jumps_kind))]
 pub fn allowed(width: u32, step: u32) -> bool
     ensures { result ≡ (jumps_kind width step).allowed }
 {
-    match width {
-        1..=2 => match step {
-            0 => true,
-            _ => false,
-        },
+    match (width, step) {
+        (1..=2, 0) => true,
         _ => false,
     }
 }
 
-// Jumps, at most as many as the words, and a difference for each word.
-pub fn part_bytes(v: View) -> PartBytes
+// Jumps, at most as many as the words, and a difference for each word. None where the counts are others.
+pub fn part_bytes(v: View) -> Option<PartBytes>
     requires { ((jumps_kind v.width v.step).allowed ≡ true) × (v.cells ≤ 16777216) × (v.words ≤ v.cells) }
     ensures { Sized (jumps_kind v.width v.step) v result }
 {
-    PartBytes {
-        right: v.firsts <= v.words && v.seconds == v.words,
+    let right = v.firsts <= v.words && v.seconds == v.words;
+    right.then_some(PartBytes {
         first: 4 * v.firsts as usize,
         second: v.width as usize * v.seconds as usize,
-    }
+    })
 }

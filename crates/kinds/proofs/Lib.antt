@@ -1,3 +1,4 @@
+pub mod Told
 pub mod None
 pub mod At
 pub mod Numbers

@@ -1,3 +1,4 @@
+pub mod Kind
 pub mod Steps
 pub mod Coding
 pub mod Copying

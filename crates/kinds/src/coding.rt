@@ -10,6 +10,7 @@ ghost use Rattle.parts.specs.Codes.{Standing};
 ghost use Rattle.kinds.specs.Steps.{stores_runs};
 ghost use Rattle.kinds.specs.Coding.{coder, taken_all, derived, sized_by_ranks, counted_by};
 
+use super::kind::Kind;
 use format::Setting;
 use parts::encode::begin;
 use parts::{Encoder, Sizes};
@@ -19,15 +20,14 @@ pub fn take_all(s: Setting, e: Encoder, ps: &[u32]) -> Encoder
     requires { (setting_allowed s ≡ true) × Along e ps.now }
     ensures { result ≡ taken_all s e ps.now }
 {
-    let kind = s.kind;
-    match kind {
-        1 => runs::coding::take_all(s.width, s.step, e, ps),
-        2 => positions::coding::take_all(s.width, s.step, e, ps),
-        3 => base_offset::coding::take_all(s.width, s.step, e, ps),
-        4 => jumps::coding::take_all(s.width, s.step, e, ps),
-        5 => paged_runs::coding::take_all(s.width, s.step, e, ps),
-        6 => pointed_jumps::coding::take_all(s.width, s.step, e, ps),
-        _ => e,
+    match Kind::try_from(s.kind) {
+        Ok(Kind::Runs) => runs::coding::take_all(s.width, s.step, e, ps),
+        Ok(Kind::Positions) => positions::coding::take_all(s.width, s.step, e, ps),
+        Ok(Kind::BaseOffset) => base_offset::coding::take_all(s.width, s.step, e, ps),
+        Ok(Kind::Jumps) => jumps::coding::take_all(s.width, s.step, e, ps),
+        Ok(Kind::PagedRuns) => paged_runs::coding::take_all(s.width, s.step, e, ps),
+        Ok(Kind::PointedJumps) => pointed_jumps::coding::take_all(s.width, s.step, e, ps),
+        Err(_) => e,
     }
 }
 
@@ -36,15 +36,14 @@ pub fn put_all(dst: &mut [u8], s: Setting, e: Encoder, ps: &[u32]) -> Encoder
     requires { (setting_allowed s ≡ true) × Along e ps.now × RoomAll (coder s) e ps.now (length dst.old) }
     ensures { (result ≡ taken_all s e ps.now) × (dst.new ≡ put_all_by (coder s) dst.old e ps.now) }
 {
-    let kind = s.kind;
-    match kind {
-        1 => runs::coding::put_all(dst, s.width, s.step, e, ps),
-        2 => positions::coding::put_all(dst, s.width, s.step, e, ps),
-        3 => base_offset::coding::put_all(dst, s.width, s.step, e, ps),
-        4 => jumps::coding::put_all(dst, s.width, s.step, e, ps),
-        5 => paged_runs::coding::put_all(dst, s.width, s.step, e, ps),
-        6 => pointed_jumps::coding::put_all(dst, s.width, s.step, e, ps),
-        _ => e,
+    match Kind::try_from(s.kind) {
+        Ok(Kind::Runs) => runs::coding::put_all(dst, s.width, s.step, e, ps),
+        Ok(Kind::Positions) => positions::coding::put_all(dst, s.width, s.step, e, ps),
+        Ok(Kind::BaseOffset) => base_offset::coding::put_all(dst, s.width, s.step, e, ps),
+        Ok(Kind::Jumps) => jumps::coding::put_all(dst, s.width, s.step, e, ps),
+        Ok(Kind::PagedRuns) => paged_runs::coding::put_all(dst, s.width, s.step, e, ps),
+        Ok(Kind::PointedJumps) => pointed_jumps::coding::put_all(dst, s.width, s.step, e, ps),
+        Err(_) => e,
     }
 }
 
@@ -53,10 +52,12 @@ pub fn ended(s: Setting, e: Encoder) -> Encoder
     requires { (setting_allowed s ≡ true) × Sound e }
     ensures { result ≡ ended_by (coder s) e }
 {
-    let kind = s.kind;
+    let Ok(kind) = Kind::try_from(s.kind) else {
+        return e;
+    };
     match kind {
-        1 => runs::coding::ended(s.width, s.step, e),
-        5 => paged_runs::coding::ended(s.width, s.step, e),
+        Kind::Runs => runs::coding::ended(s.width, s.step, e),
+        Kind::PagedRuns => paged_runs::coding::ended(s.width, s.step, e),
         _ => e,
     }
 }
@@ -66,10 +67,12 @@ pub fn finish(dst: &mut [u8], s: Setting, e: Encoder)
     requires { (setting_allowed s ≡ true) × Sound e × (e.first + length ((coder s).end_first e) ≤ length dst.old) × (e.second + length ((coder s).end_second e) ≤ length dst.old) }
     ensures { dst.new ≡ put (put dst.old e.first ((coder s).end_first e)) e.second ((coder s).end_second e) }
 {
-    let kind = s.kind;
+    let Ok(kind) = Kind::try_from(s.kind) else {
+        return;
+    };
     match kind {
-        1 => runs::coding::finish(dst, s.width, s.step, e),
-        5 => paged_runs::coding::finish(dst, s.width, s.step, e),
+        Kind::Runs => runs::coding::finish(dst, s.width, s.step, e),
+        Kind::PagedRuns => paged_runs::coding::finish(dst, s.width, s.step, e),
         _ => (),
     }
 }
@@ -79,15 +82,14 @@ pub fn sizes(s: Setting, e: Encoder) -> Sizes
     requires { (setting_allowed s ≡ true) × (e.rank ≤ 16777216) × (e.first ≤ 268435456) × (e.second ≤ 134217728) }
     ensures { result ≡ (coder s).sizes e }
 {
-    let kind = s.kind;
-    match kind {
-        1 => runs::coding::sizes(s.width, s.step, e),
-        2 => positions::coding::sizes(s.width, s.step, e),
-        3 => base_offset::coding::sizes(s.width, s.step, e),
-        4 => jumps::coding::sizes(s.width, s.step, e),
-        5 => paged_runs::coding::sizes(s.width, s.step, e),
-        6 => pointed_jumps::coding::sizes(s.width, s.step, e),
-        _ => Sizes {
+    match Kind::try_from(s.kind) {
+        Ok(Kind::Runs) => runs::coding::sizes(s.width, s.step, e),
+        Ok(Kind::Positions) => positions::coding::sizes(s.width, s.step, e),
+        Ok(Kind::BaseOffset) => base_offset::coding::sizes(s.width, s.step, e),
+        Ok(Kind::Jumps) => jumps::coding::sizes(s.width, s.step, e),
+        Ok(Kind::PagedRuns) => paged_runs::coding::sizes(s.width, s.step, e),
+        Ok(Kind::PointedJumps) => pointed_jumps::coding::sizes(s.width, s.step, e),
+        Err(_) => Sizes {
             words: 0,
             firsts: 0,
             seconds: 0,
@@ -102,10 +104,10 @@ pub fn put_run(dst: &mut [u8], s: Setting, e: Encoder, p: u32, n: u32) -> Encode
     requires { (setting_allowed s ≡ true) × stores_runs s.kind × (1 ≤ n) × Sound e × (passed e ≤ p) × (p + n ≤ 16777216) × RoomAll (coder s) e (range p n) (length dst.old) }
     ensures { (result ≡ taken_all s e (range p n)) × (dst.new ≡ put_all_by (coder s) dst.old e (range p n)) }
 {
-    if s.kind == 1 {
-        return runs::coding::put_run(dst, s.width, s.step, e, p, n);
+    match Kind::try_from(s.kind) {
+        Ok(Kind::Runs) => runs::coding::put_run(dst, s.width, s.step, e, p, n),
+        _ => paged_runs::coding::put_run(dst, s.width, s.step, e, p, n),
     }
-    paged_runs::coding::put_run(dst, s.width, s.step, e, p, n)
 }
 
 // What is made of the parts that stand in dst, the first from `start` on: kind 5's upper levels, kind 6's pointers; nothing for the other kinds.
@@ -113,10 +115,12 @@ pub fn put_derived(dst: &mut [u8], s: Setting, z: Sizes, start: usize)
     requires { (setting_allowed s ≡ true) × (start ≤ 4294967296) × Standing (coder s) (codec s) z start dst.old }
     ensures { dst.new ≡ derived s z start dst.old }
 {
-    let kind = s.kind;
+    let Ok(kind) = Kind::try_from(s.kind) else {
+        return;
+    };
     match kind {
-        5 => paged_runs::coding::put_derived(dst, s.width, s.step, z, start),
-        6 => pointed_jumps::coding::put_derived(dst, s.width, s.step, z, start),
+        Kind::PagedRuns => paged_runs::coding::put_derived(dst, s.width, s.step, z, start),
+        Kind::PointedJumps => pointed_jumps::coding::put_derived(dst, s.width, s.step, z, start),
         _ => (),
     }
 }
@@ -125,7 +129,7 @@ pub fn put_derived(dst: &mut [u8], s: Setting, z: Sizes, start: usize)
 pub fn sized_by_ranks(kind: u32) -> bool
     ensures { result ≡ true → sized_by_ranks kind }
 {
-    kind == 2
+    matches!(Kind::try_from(kind), Ok(Kind::Positions))
 }
 
 // An encoder after the end, in a kind whose sizes follow from a count: of so many ranks, with so many runs.
@@ -134,14 +138,10 @@ pub fn counted(kind: u32, ranks: u32, entries: u32) -> Encoder
 {
     let mut e = begin(0, 0);
     e.rank = ranks;
-    if kind == 2 {
-        e.first = 4 * ranks as usize;
-        return e;
+    match Kind::try_from(kind) {
+        Ok(Kind::Positions) => e.first = 4 * ranks as usize,
+        Ok(Kind::PagedRuns) => e.second = 8 * entries as usize,
+        _ => e.first = 8 * entries as usize,
     }
-    if kind == 5 {
-        e.second = 8 * entries as usize;
-        return e;
-    }
-    e.first = 8 * entries as usize;
     e
 }

@@ -7,33 +7,20 @@ ghost use Rattle.parts.specs.Batch.{Along, RoomAll};
 ghost use Rattle.parts.specs.Carried.{carried, PutAs, Reached};
 ghost use Rattle.kinds.specs.Steps.{next_of};
 ghost use Rattle.kinds.specs.Coding.{coder};
-ghost use Rattle.kinds.specs.Copying.{has_jumps, copies_jumps, copies_to};
+ghost use Rattle.kinds.specs.Copying.{copies_jumps, copies_to};
 
-use super::steps::stores_runs;
+use super::kind::Kind;
+use super::steps::{by_walk, stores_runs};
 use format::{Setting, View};
 use parts::walk::Walk;
 use parts::{Cursor, Encoder};
-
-// Whether a kind has jumps and differences.
-fn has_jumps(kind: u32) -> bool
-    ensures { result ≡ true → has_jumps kind }
-{
-    if kind == 4 {
-        return true;
-    }
-    kind == 6
-}
 
 // Whether ranks of a file are copied to one of a setting as jumps and differences: both have them, of one width.
 pub fn copies_jumps(v: View, s: Setting) -> bool
     ensures { result ≡ true → copies_jumps v s }
 {
-    if has_jumps(v.kind) {
-        if has_jumps(s.kind) {
-            return s.width == v.width;
-        }
-    }
-    false
+    // The kinds that have jumps are those that are walked along
+    by_walk(v.kind) && by_walk(s.kind) && s.width == v.width
 }
 
 // Whether ranks of a file are copied to one of a setting: so, or as runs to the same kind of runs.
@@ -60,10 +47,9 @@ pub fn copy_ranks(
         × Along e (walked_as (next_of file.now v) c n) × RoomAll (coder s) e (walked_as (next_of file.now v) c n) (length dst.old) }
     ensures { PutAs (next_of file.now v) (coder s) c e n dst.old result dst.new }
 {
-    let kind = v.kind;
-    match kind {
-        1 => runs_copy::copy::put_runs(dst, file, v, s.width, s.step, c, e, n),
-        5 => pages_copy::put_runs(dst, file, v, s.width, s.step, c, e, n),
+    match Kind::try_from(v.kind) {
+        Ok(Kind::Runs) => runs_copy::copy::put_runs(dst, file, v, s.width, s.step, c, e, n),
+        Ok(Kind::PagedRuns) => pages_copy::put_runs(dst, file, v, s.width, s.step, c, e, n),
         _ => jump_copy::put_ranks(dst, file, v, c, e, n),
     }
 }

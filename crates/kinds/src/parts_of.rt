@@ -2,27 +2,23 @@
 ghost use Rattle.std.specs.Prelude.{◌≡◌, true, ◌≤◌};
 ghost use Rattle.parts.specs.Holds.{kind_of, Sized, Counted, parts_right};
 
+use super::kind::Kind;
 use format::View;
 use parts::PartBytes;
 
-// Whether the entry counts are the kind's, and the bytes of each part.
-pub fn part_bytes(v: View) -> PartBytes
+// The bytes of each part. None where the entry counts are not the kind's.
+pub fn part_bytes(v: View) -> Option<PartBytes>
     requires { ((kind_of v).allowed ≡ true) × (v.cells ≤ 16777216) × (v.words ≤ v.cells) }
     ensures { Sized (kind_of v) v result }
 {
-    let kind = v.kind;
-    match kind {
-        1 => runs::setting::part_bytes(v),
-        2 => positions::setting::part_bytes(v),
-        3 => base_offset::setting::part_bytes(v),
-        4 => jumps::setting::part_bytes(v),
-        5 => paged_runs::setting::part_bytes(v),
-        6 => pointed_jumps::setting::part_bytes(v),
-        _ => PartBytes {
-            right: false,
-            first: 0,
-            second: 0,
-        },
+    match Kind::try_from(v.kind) {
+        Ok(Kind::Runs) => runs::setting::part_bytes(v),
+        Ok(Kind::Positions) => positions::setting::part_bytes(v),
+        Ok(Kind::BaseOffset) => base_offset::setting::part_bytes(v),
+        Ok(Kind::Jumps) => jumps::setting::part_bytes(v),
+        Ok(Kind::PagedRuns) => paged_runs::setting::part_bytes(v),
+        Ok(Kind::PointedJumps) => pointed_jumps::setting::part_bytes(v),
+        Err(_) => None,
     }
 }
 
@@ -31,14 +27,13 @@ pub fn parts_right(file: &[u8], v: View) -> bool
     requires { Counted (kind_of v) file.now v }
     ensures { result ≡ parts_right (kind_of v) file.now v }
 {
-    let kind = v.kind;
-    match kind {
-        1 => runs::check::parts_right(file, v),
-        2 => positions::check::parts_right(file, v),
-        3 => base_offset::check::parts_right(file, v),
-        4 => jumps::check::parts_right(file, v),
-        5 => paged_runs::check::parts_right(file, v),
-        6 => pointed_jumps::check::parts_right(file, v),
-        _ => false,
+    match Kind::try_from(v.kind) {
+        Ok(Kind::Runs) => runs::check::parts_right(file, v),
+        Ok(Kind::Positions) => positions::check::parts_right(file, v),
+        Ok(Kind::BaseOffset) => base_offset::check::parts_right(file, v),
+        Ok(Kind::Jumps) => jumps::check::parts_right(file, v),
+        Ok(Kind::PagedRuns) => paged_runs::check::parts_right(file, v),
+        Ok(Kind::PointedJumps) => pointed_jumps::check::parts_right(file, v),
+        Err(_) => false,
     }
 }

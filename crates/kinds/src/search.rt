@@ -5,6 +5,7 @@ ghost use Rattle.parts.specs.Found.{FoundIn, PositionIn, RunIn};
 ghost use Rattle.kinds.specs.Search.{placed_by_rank};
 ghost use Rattle.kinds.specs.Steps.{stores_runs};
 
+use super::kind::Kind;
 use format::{Position, Rank, View};
 use parts::{Found, RunPart};
 
@@ -13,15 +14,14 @@ pub fn find(file: &[u8], v: View, p: Position) -> Found
     requires { p.0 < v.cells }
     ensures { FoundIn (kind_of v) file.now v p.0 result }
 {
-    let kind = v.kind;
-    match kind {
-        1 => runs::search::find(file, v, p),
-        2 => positions::search::find(file, v, p),
-        3 => base_offset::search::find(file, v, p),
-        4 => jumps::search::find(file, v, p),
-        5 => paged_runs::search::find(file, v, p),
-        6 => pointed_jumps::search::find(file, v, p),
-        _ => Found {
+    match Kind::try_from(v.kind) {
+        Ok(Kind::Runs) => runs::search::find(file, v, p),
+        Ok(Kind::Positions) => positions::search::find(file, v, p),
+        Ok(Kind::BaseOffset) => base_offset::search::find(file, v, p),
+        Ok(Kind::Jumps) => jumps::search::find(file, v, p),
+        Ok(Kind::PagedRuns) => paged_runs::search::find(file, v, p),
+        Ok(Kind::PointedJumps) => pointed_jumps::search::find(file, v, p),
+        Err(_) => Found {
             below: 0,
             here: false,
         },
@@ -33,15 +33,14 @@ pub fn position_of(file: &[u8], v: View, r: Rank) -> u64
     requires { r.0 < v.words }
     ensures { PositionIn (kind_of v) file.now v r.0 result }
 {
-    let kind = v.kind;
-    match kind {
-        1 => runs::search::position_of(file, v, r),
-        2 => positions::search::position_of(file, v, r),
-        3 => base_offset::search::position_of(file, v, r),
-        4 => jumps::search::position_of(file, v, r),
-        5 => paged_runs::search::position_of(file, v, r),
-        6 => pointed_jumps::search::position_of(file, v, r),
-        _ => 0,
+    match Kind::try_from(v.kind) {
+        Ok(Kind::Runs) => runs::search::position_of(file, v, r),
+        Ok(Kind::Positions) => positions::search::position_of(file, v, r),
+        Ok(Kind::BaseOffset) => base_offset::search::position_of(file, v, r),
+        Ok(Kind::Jumps) => jumps::search::position_of(file, v, r),
+        Ok(Kind::PagedRuns) => paged_runs::search::position_of(file, v, r),
+        Ok(Kind::PointedJumps) => pointed_jumps::search::position_of(file, v, r),
+        Err(_) => 0,
     }
 }
 
@@ -49,10 +48,7 @@ pub fn position_of(file: &[u8], v: View, r: Rank) -> u64
 pub fn placed_by_rank(kind: u32) -> bool
     ensures { result ≡ true → placed_by_rank kind }
 {
-    if kind == 2 {
-        return true;
-    }
-    kind == 3
+    matches!(Kind::try_from(kind), Ok(Kind::Positions | Kind::BaseOffset))
 }
 
 // In such a kind: the position of a rank, with no search.
@@ -60,10 +56,10 @@ pub fn placed_position(file: &[u8], v: View, r: Rank) -> u64
     requires { placed_by_rank v.kind × (r.0 < v.words) }
     ensures { PositionIn (kind_of v) file.now v r.0 result }
 {
-    if v.kind == 2 {
-        return positions::search::position_of(file, v, r);
+    match Kind::try_from(v.kind) {
+        Ok(Kind::Positions) => positions::search::position_of(file, v, r),
+        _ => base_offset::search::position_of(file, v, r),
     }
-    base_offset::search::position_of(file, v, r)
 }
 
 // In a file that stores runs: where a rank stands, and the ranks after it in its run; over unfit bytes any numbers.
@@ -71,8 +67,8 @@ pub fn run_of(file: &[u8], v: View, r: Rank) -> RunPart
     requires { stores_runs v.kind × (r.0 < v.words) }
     ensures { RunIn (kind_of v) file.now v r.0 result }
 {
-    if v.kind == 1 {
-        return runs::search::run_of(file, v, r);
+    match Kind::try_from(v.kind) {
+        Ok(Kind::Runs) => runs::search::run_of(file, v, r),
+        _ => paged_runs::search::run_of(file, v, r),
     }
-    paged_runs::search::run_of(file, v, r)
 }

@@ -4,6 +4,7 @@ ghost use Rattle.parts.specs.Holds.{kind_of};
 ghost use Rattle.parts.specs.Walks.{Climbs};
 ghost use Rattle.kinds.specs.Steps.{next_of, start_of, walked, stepped_by, by_walk, sought_by, stores_runs, runs_of};
 
+use super::kind::Kind;
 use format::{Position, View};
 use parts::Cursor;
 use parts::walk::before_first;
@@ -13,15 +14,14 @@ pub fn next(file: &[u8], v: View, c: Cursor) -> Cursor
     requires { (kind_of v).allowed ≡ true }
     ensures { result ≡ next_of file.now v c }
 {
-    let kind = v.kind;
-    match kind {
-        1 => runs::steps::next(file, v, c),
-        2 => positions::steps::next(file, v, c),
-        3 => base_offset::steps::next(file, v, c),
-        4 => jump_walk::steps::next(file, v, c),
-        5 => paged_runs::steps::next(file, v, c),
-        6 => jump_walk::steps::next(file, v, c),
-        _ => c,
+    match Kind::try_from(v.kind) {
+        Ok(Kind::Runs) => runs::steps::next(file, v, c),
+        Ok(Kind::Positions) => positions::steps::next(file, v, c),
+        Ok(Kind::BaseOffset) => base_offset::steps::next(file, v, c),
+        Ok(Kind::Jumps) => jump_walk::steps::next(file, v, c),
+        Ok(Kind::PagedRuns) => paged_runs::steps::next(file, v, c),
+        Ok(Kind::PointedJumps) => jump_walk::steps::next(file, v, c),
+        Err(_) => c,
     }
 }
 
@@ -38,16 +38,14 @@ pub fn positions(file: &[u8], v: View, c: Cursor, out: &mut [u32]) -> Cursor
     requires { (kind_of v).allowed ≡ true }
     ensures { (result ≡ stepped_by file.now v c (length out.old)) × (out.new ≡ walked file.now v c (length out.old)) }
 {
-    if by_walk(v.kind) {
-        return jump_walk::steps::positions(file, v, c, out);
-    }
-    let kind = v.kind;
-    match kind {
-        1 => runs::steps::positions(file, v, c, out),
-        2 => positions::steps::positions(file, v, c, out),
-        3 => base_offset::steps::positions(file, v, c, out),
-        5 => paged_runs::steps::positions(file, v, c, out),
-        _ => c,
+    match Kind::try_from(v.kind) {
+        Ok(Kind::Runs) => runs::steps::positions(file, v, c, out),
+        Ok(Kind::Positions) => positions::steps::positions(file, v, c, out),
+        Ok(Kind::BaseOffset) => base_offset::steps::positions(file, v, c, out),
+        Ok(Kind::Jumps) => jump_walk::steps::positions(file, v, c, out),
+        Ok(Kind::PagedRuns) => paged_runs::steps::positions(file, v, c, out),
+        Ok(Kind::PointedJumps) => jump_walk::steps::positions(file, v, c, out),
+        Err(_) => c,
     }
 }
 
@@ -55,10 +53,7 @@ pub fn positions(file: &[u8], v: View, c: Cursor, out: &mut [u32]) -> Cursor
 pub fn by_walk(kind: u32) -> bool
     ensures { result ≡ by_walk kind }
 {
-    if kind == 4 {
-        return true;
-    }
-    kind == 6
+    matches!(Kind::try_from(kind), Ok(Kind::Jumps | Kind::PointedJumps))
 }
 
 // In such a kind, where the positions ahead never fall: on to the first position from p on, or past the last rank.
@@ -73,10 +68,7 @@ pub fn seek(file: &[u8], v: View, c: Cursor, p: Position) -> Cursor
 pub fn stores_runs(kind: u32) -> bool
     ensures { (result ≡ true → stores_runs kind) × (stores_runs kind → result ≡ true) }
 {
-    if kind == 1 {
-        return true;
-    }
-    kind == 5
+    matches!(Kind::try_from(kind), Ok(Kind::Runs | Kind::PagedRuns))
 }
 
 // In a file that stores runs: k cells along the cursor's run, then one step.
@@ -84,15 +76,18 @@ pub fn past_cells(file: &[u8], v: View, c: Cursor, k: u32) -> Cursor
     requires { stores_runs v.kind × (k ≤ c.last - c.at) }
     ensures { result ≡ stepped_by file.now v c (k + 1) }
 {
-    if v.kind == 1 {
-        return runs::steps::past(file, v, c, k);
+    match Kind::try_from(v.kind) {
+        Ok(Kind::Runs) => runs::steps::past(file, v, c, k),
+        _ => paged_runs::steps::past(file, v, c, k),
     }
-    paged_runs::steps::past(file, v, c, k)
 }
 
 // In a file that stores runs: how many they are.
 pub fn run_count(v: View) -> u32
     ensures { result ≡ runs_of v }
 {
-    if v.kind == 1 { v.firsts } else { v.seconds }
+    match Kind::try_from(v.kind) {
+        Ok(Kind::Runs) => v.firsts,
+        _ => v.seconds,
+    }
 }

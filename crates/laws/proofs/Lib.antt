@@ -37,3 +37,4 @@ pub mod Search
 pub mod Descent
 pub mod Ranks
 pub mod Streams
+pub mod Refusals

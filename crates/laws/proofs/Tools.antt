@@ -8,7 +8,9 @@ use native.Mathlib.Omega.{arith}
 use lib.ListN.{length, get_or}
 use lib.Dec.{eqb, leb}
 use borrow.Author.Tests.{eqb-true, eq-eqb, leb-true}
-use Rattle.format.specs.Tools.{both, listed, range, same, within}
+use Rattle.std.specs.Prelude.{Option, Some, None, Result, Ok, Err}
+use Rattle.std.specs.Option.{ok_or}
+use Rattle.format.specs.Tools.{pick, both, listed, range, same, within}
 use Rattle.format.specs.Signals.{refuse, or_else}
 
 -- by a test's value
@@ -122,3 +124,44 @@ pub range_snoc : (a n : ℕ) → range a (suc n) ≡ range a n ++ (a + n) ∷ []
 unfolding range
 range_snoc a zero = simp (native.Mathlib.Nat.add-zero)
 range_snoc a (suc n) = ap (λ (l : List ℕ). a ∷ l) (range_snoc (suc a) n ∙ simp (suc-add, add-suc))
+
+-- ---- a number that is 0 for none
+
+pub none_of : (t : Bool) (n : ℕ) → (t ≡ true → 1 ≤ n) → 0 ≡ pick t n 0 → None ≡ pick t (Some n) None
+none_of true n h e = absurd (omega (arith, h refl))
+none_of false n h e = refl
+
+pub some_of : (t : Bool) (n x : ℕ) → 1 ≤ x → x ≡ pick t n 0 → Some x ≡ pick t (Some n) None
+some_of true n x l e = ap Some e
+some_of false n x l e = absurd (omega arith)
+
+-- and back, of any value
+module _ {A : Type 0} where
+  pub some_is : (t : Bool) (n x : A) → Some x ≡ pick t (Some n) None → (t ≡ true) × (x ≡ n)
+  some_is true n x e = (refl, cc)
+  some_is false n x e = cc
+
+  pub none_is : (t : Bool) (n : A) → None ≡ pick t (Some n) None → t ≡ false
+  none_is true n e = cc
+  none_is false n e = refl
+
+  -- what is not some is none
+  pub not_some : (t : Bool) (n : A) (o : Option A) → o ≡ pick t (Some n) None → ((x : A) → o ≡ Some x → ⊥) → t ≡ false
+  not_some true n o e h = absurd (h n e)
+  not_some false n o e h = refl
+
+-- the same by what `ok_or` gave
+module _ {A E : Type 0} (t : Bool) (n : A) (o : Option A) (e : E) (r : Result A E) (is : o ≡ pick t (Some n) None) (by : r ≡ ok_or o e) where
+  pub ok_is : (x : A) → r ≡ Ok x → (t ≡ true) × (x ≡ n)
+  ok_is x h = go t (sym h ∙ by ∙ ap (λ (o : Option A). ok_or o e) is)
+    where
+      go : (t : Bool) → Ok x ≡ ok_or (pick t (Some n) None) e → (t ≡ true) × (x ≡ n)
+      go true h = (refl, cc)
+      go false h = cc
+
+  pub err_is : (d : E) → r ≡ Err d → (t ≡ false) × (d ≡ e)
+  err_is d h = go t (sym h ∙ by ∙ ap (λ (o : Option A). ok_or o e) is)
+    where
+      go : (t : Bool) → Err d ≡ ok_or (pick t (Some n) None) e → (t ≡ false) × (d ≡ e)
+      go true h = cc
+      go false h = (refl, cc)

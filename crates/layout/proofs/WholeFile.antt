@@ -1,12 +1,13 @@
 -- What was measured of a picture's file, and its pieces put one after the other: the layout. Assumes nothing.
 use Prim.Native.Nat.{ℕ, ◌+◌, ◌*◌, ◌≤◌}
 use mathlib.Core.Path.{◌≡◌, refl, sym, ap, subst, ◌∙◌}
-use mathlib.Core.Bool.{true, not}
+use mathlib.Core.Bool.{true}
 use mathlib.Core.List.{List, ◌++◌}
 use native.Mathlib.Omega.{arith}
 use lib.ListN.{length, drop, length-append}
 use lib.Dec.{ltb}
-use borrow.Author.Tests.{ltb-false, not-false}
+use borrow.Author.Tests.{ltb-false}
+use Rattle.std.specs.Prelude.{Option, Some}
 use Rattle.format.specs.declared.Setting.{Setting}
 use Rattle.format.specs.declared.Dimensions.{Dimensions}
 use Rattle.format.specs.Signals.{SMALL, refuse}
@@ -26,11 +27,10 @@ use Rattle.parts.specs.declared.Sizes.{Sizes}
 use Rattle.parts.specs.Encoder.{begun}
 use Rattle.parts.specs.Codes.{Standing, sizes_in}
 use Rattle.parts.proofs.Outright.{words_in, first_in, second_in}
-use Rattle.kinds.specs.declared.Measured.{Measured}
 use Rattle.kinds.specs.Coding.{coder, firsts, seconds, derived, Apart}
 use Rattle.layout.specs.Laid.{counts_in, total_of, Fitting, Measures, out_of, Goes}
 use Rattle.layout.proofs.Header.{length-header}
-use Rattle.layout.proofs.Measuring.{not-true, fitting}
+use Rattle.layout.proofs.Measuring.{some_picked, fits}
 use Rattle.layout.proofs.Pieces.{apart, standing, assembled}
 
 -- the destination before what is made of the parts: header, the encoder's bytes and the words
@@ -84,28 +84,25 @@ module _ (s : Setting) (a : setting_allowed s ≡ true) (d : Dimensions) (four :
         omega arith
 
   -- 9 and 10 by what was measured
-  pub out-number : (m : Measured) → Measures s (length ws) ls m → (room : ℕ) → out_of m room ≡ out_number s d E ws room
-  unfolding out_of out_number
+  pub out-number : (m : Option Sizes) → Measures s (length ws) ls m → (room : ℕ) → out_of m room ≡ out_number s d E ws room
+  unfolding out_number
   out-number m k room =
-      cases ((codec s).unfit ls)
-      (λ t. rw (k.fits, t))
-      (λ t.
-      let f : m.fits ≡ true = k.fits ∙ rw t in
-      rw (f, t) (ap (λ (n : ℕ). refuse SMALL (ltb room n) 0) (total-length m.sizes (k.sizes f))))
+      rw k.sizes
+      (cases ((codec s).unfit ls)
+      (λ t. rw t)
+      (λ t. rw t (ap (λ (n : ℕ). refuse SMALL (ltb room n) 0) (total-length (sizes_in (length ls) parts) refl))))
 
   -- neither 9 nor 10
-  pub goes : (m : Measured) → Measures s (length ws) ls m → (room : ℕ) → out_of m room ≡ 0 → Goes s d E ws m.sizes room
-  unfolding out_of
-  goes m k room o =
-      let later = refuse SMALL (ltb room (total_of m.sizes)) 0 in
-      let u = refuse-zero 8 (not m.fits) later o in
-      let f : m.fits ≡ true = not-false m.fits u.0 in
+  pub goes : (m : Option Sizes) → Measures s (length ws) ls m → (room : ℕ) → out_of m room ≡ 0 → (z : Sizes) → m ≡ Some z → Goes s d E ws z room
+  goes m k room o z e =
+      let t = some_picked _ _ _ (sym e ∙ k.sizes) in
+      let u : refuse SMALL (ltb room (total_of z)) 0 ≡ 0 = rw e at o in
       record {
         allowed = a;
         few = few;
-        fits = not-true m.fits ((codec s).unfit ls) k.fits f;
-        sizes = k.sizes f;
-        room = ltb-false room (total_of m.sizes) (refuse-zero 9 (ltb room (total_of m.sizes)) 0 u.1).0;
+        fits = t.0;
+        sizes = t.1;
+        room = ltb-false room (total_of z) (refuse-zero 9 (ltb room (total_of z)) 0 u).0;
       }
 
 -- what the code that puts the file out relies on
@@ -133,8 +130,7 @@ laid_out_lem s d E ws before z four size g =
     let k = length-bytes_of 4 (kept E ws) in
     let t = total-length s a d four E ws size g.few z q in
     record {
-      fitting = subst Fitting (sym q) (fitting s a n ls g.few r (record { fits = true; sizes = sizes_in (length ls) ((codec s).parts n ls) })
-          (record { fits = rw g.fits; sizes = λ t. refl }) refl);
+      fitting = subst Fitting (sym q) (fits s a n ls g.few r g.fits);
       long = omega arith;
       apart = apart s a n ls g.few r z q;
       words-room = omega arith;

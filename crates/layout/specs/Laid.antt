@@ -1,5 +1,5 @@
 -- What a file measures, and whether it goes into a destination. Assumes nothing.
-use Rattle.std.specs.Prelude.{ℕ, ◌+◌, ◌*◌, ◌^◌, ◌≤◌, ◌<◌, ◌≡◌, true, false, not, List, length, ltb}
+use Rattle.std.specs.Prelude.{ℕ, ◌+◌, ◌*◌, ◌^◌, ◌≤◌, ◌<◌, ◌≡◌, true, false, List, length, ltb, Option, Some, None}
 use Rattle.format.specs.declared.Dimensions.{Dimensions}
 use Rattle.format.specs.declared.Setting.{Setting}
 use Rattle.format.specs.Tools.{pick}
@@ -12,11 +12,7 @@ use Rattle.parts.specs.declared.Sizes.{Sizes}
 use Rattle.parts.specs.Encoder.{ended_by}
 use Rattle.parts.specs.Ready.{Sound}
 use Rattle.parts.specs.Codes.{sizes_in}
-use Rattle.kinds.specs.declared.Measured.{Measured}
 use Rattle.kinds.specs.Coding.{coder}
-
-abbrev pub no_sizes : Sizes
-no_sizes = record { words = 0; firsts = 0; seconds = 0; first = 0; second = 0 }
 
 -- the sizes as the counts of the header
 abbrev pub counts_in : Sizes → Counts
@@ -37,18 +33,18 @@ pub record Bounded (s : Setting) (e : Encoder) : Type 0 where
   pub first : (ended_by (coder s) e).first ≤ 268435456
   pub second : (ended_by (coder s) e).second ≤ 134217728
 
--- what an encoder has measured that has taken all positions
-unfoldable pub measured_by : Setting → Encoder → Measured
-measured_by s e = record { fits = e.fits; sizes = pick e.fits ((coder s).sizes (ended_by (coder s) e)) no_sizes }
+-- what an encoder has measured that has taken all positions: the sizes, where each offset fits its width
+unfoldable pub measured_by : Setting → Encoder → Option Sizes
+measured_by s e = pick e.fits (Some ((coder s).sizes (ended_by (coder s) e))) None
 
 -- m measures the file of the stored positions ls of n cells
-pub record Measures (s : Setting) (n : ℕ) (ls : List ℕ) (m : Measured) : Type 0 where
-  pub fits : m.fits ≡ not ((codec s).unfit ls)
-  pub sizes : m.fits ≡ true → m.sizes ≡ sizes_in (length ls) ((codec s).parts n ls)
+pub record Measures (s : Setting) (n : ℕ) (ls : List ℕ) (m : Option Sizes) : Type 0 where
+  pub sizes : m ≡ pick ((codec s).unfit ls) None (Some (sizes_in (length ls) ((codec s).parts n ls)))
 
 -- 9 and 10, of what was measured
-unfoldable pub out_of : Measured → ℕ → ℕ
-out_of m room = refuse UNFIT (not m.fits) (refuse SMALL (ltb room (total_of m.sizes)) 0)
+abbrev pub out_of : Option Sizes → ℕ → ℕ
+out_of None room = UNFIT
+out_of (Some z) room = refuse SMALL (ltb room (total_of z)) 0
 
 -- z are the sizes of the file of the words ws, and the file goes into `most` bytes
 pub record Goes (s : Setting) (d : Dimensions) (E : ℕ) (ws : List ℕ) (z : Sizes) (most : ℕ) : Type 0 where

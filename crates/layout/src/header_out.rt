@@ -25,10 +25,8 @@ fn put_numbers(dst: &mut [u8], at: usize, numbers: &[u32])
     requires { at + 4 * length numbers.now ≤ length dst.old }
     ensures { dst.new ≡ put dst.old at (bytes_of 4 numbers.now) }
 {
-    let mut i: usize = 0;
-    while i < numbers.len() {
-        put_u32(dst, at + 4 * i, numbers[i]);
-        i += 1;
+    for (i, x) in numbers.iter().enumerate() {
+        put_u32(dst, at + 4 * i, *x);
     }
 }
 

@@ -3,56 +3,33 @@
 
 pub mod header_out;
 
-ghost use Rattle.std.specs.Prelude.{◌≡◌, true, ◌≤◌};
+ghost use Rattle.std.specs.Prelude.{◌≡◌, true, ◌≤◌, IfSome, IfOk};
+ghost use Rattle.format.specs.Answers.{signal_of};
 ghost use Rattle.format.specs.Kinds.{setting_allowed};
 ghost use Rattle.kinds.specs.Coding.{coder, counted_by};
-ghost use Rattle.layout.specs.Laid.{no_sizes, Fitting, total_of, out_of, measured_by, Bounded};
+ghost use Rattle.layout.specs.Laid.{Fitting, total_of, out_of, measured_by, Bounded};
 
-use format::signals::{SMALL, UNFIT};
-use format::{HEADER, Setting};
-use kinds::Measured;
+use format::{HEADER, Refusal, Setting};
 use kinds::coding::{counted, ended, sizes};
 use parts::{Encoder, Sizes};
 
-// What an encoder has measured that has taken all positions: whether they fit, and the sizes with the end.
-pub fn measured(s: Setting, e: Encoder) -> Measured
+// The sizes with the end, by an encoder that has taken all positions; none where an offset does not fit its width.
+pub fn measured(s: Setting, e: Encoder) -> Option<Sizes>
     requires { (setting_allowed s ≡ true) × (e.fits ≡ true → Bounded s e) }
     ensures { result ≡ measured_by s e }
 {
     if !e.fits {
-        return Measured {
-            fits: false,
-            sizes: no_sizes(),
-        };
+        return None;
     }
-    Measured {
-        fits: true,
-        sizes: sizes(s, ended(s, e)),
-    }
+    Some(sizes(s, ended(s, e)))
 }
 
-// What a file of so many ranks and runs measures, in a kind whose sizes follow from these.
-pub fn by_counts(s: Setting, ranks: u32, runs: u32) -> Measured
+// The sizes of a file of so many ranks and runs, in a kind whose sizes follow from these.
+pub fn by_counts(s: Setting, ranks: u32, runs: u32) -> Sizes
     requires { (setting_allowed s ≡ true) × (ranks ≤ 16777216) × (runs ≤ 16777216) }
-    ensures { (result.fits ≡ true) × (result.sizes ≡ (coder s).sizes (counted_by s.kind ranks runs)) }
+    ensures { result ≡ (coder s).sizes (counted_by s.kind ranks runs) }
 {
-    Measured {
-        fits: true,
-        sizes: sizes(s, counted(s.kind, ranks, runs)),
-    }
-}
-
-// All sizes 0.
-fn no_sizes() -> Sizes
-    ensures { result ≡ no_sizes }
-{
-    Sizes {
-        words: 0,
-        firsts: 0,
-        seconds: 0,
-        first: 0,
-        second: 0,
-    }
+    sizes(s, counted(s.kind, ranks, runs))
 }
 
 // The file's length.
@@ -63,17 +40,14 @@ pub fn total(z: Sizes) -> usize
     HEADER + (z.first + z.second + 4 * z.words) as usize
 }
 
-// 9 where an offset does not fit its width, 10 where `room` bytes are too few for the file, else 0.
-pub fn out_number(m: Measured, room: usize) -> u32
-    requires { m.fits ≡ true → Fitting m.sizes }
-    ensures { result ≡ out_of m room }
+// The sizes of a file that goes out: 9 where an offset does not fit its width, 10 where `room` bytes are too few.
+pub fn going(m: Option<Sizes>, room: usize) -> Result<Sizes, Refusal>
+    requires { IfSome m Fitting }
+    ensures { (signal_of result ≡ out_of m room) × IfOk result (λ z. m ≡ Some z) }
 {
-    if !m.fits {
-        return UNFIT;
-    }
-    let z = m.sizes;
+    let z = m.ok_or(Refusal::Unfit)?;
     if room < total(z) {
-        return SMALL;
+        return Err(Refusal::Small);
     }
-    0
+    Ok(z)
 }

@@ -1,14 +1,9 @@
--- The number of a range of ranks by what a check found, and what two files have in common, as the code compares them. Assumes nothing.
-use Rattle.std.specs.Prelude.{ℕ, ◌≡◌, Bool, not, List, drop, leb, eqb}
+-- What two files have in common, as the code compares them. Assumes nothing.
+use Rattle.std.specs.Prelude.{ℕ, ◌≡◌, Bool, List, drop, eqb}
 use Rattle.format.specs.declared.View.{View}
 use Rattle.format.specs.Tools.{both, same}
-use Rattle.format.specs.Signals.{BEYOND, refuse, or_else}
 use Rattle.format.specs.Bytes.{field, numbers_of}
 use Rattle.parts.specs.Holds.{ViewOf}
-
--- of a file with a number and `words` stored words: ranks a up to c
-unfoldable pub range_number : ℕ → ℕ → ℕ → ℕ → ℕ
-range_number number words a c = or_else number (refuse BEYOND (not (both (leb a c) (leb c words))) 0)
 
 -- the same dimension count, extents, E and N
 unfoldable pub same_header : List ℕ → List ℕ → Bool

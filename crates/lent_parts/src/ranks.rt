@@ -1,33 +1,24 @@
 // The stored bytes of a range of ranks, as a part of the caller's file.
-ghost use Rattle.std.specs.Prelude.{◌≡◌, ◌+◌, ◌*◌};
+ghost use Rattle.std.specs.Prelude.{◌≡◌, ◌+◌, ◌*◌, IfOk};
 ghost use Rattle.format.specs.RankRange.{ranks_number, RanksPart};
-ghost use Rattle.lent_parts.specs.Pair.{range_number};
+ghost use Rattle.format.specs.Answers.{signal_of};
+ghost use Rattle.parts.specs.Holds.{ViewOf};
 
-use checked::{Verdict, check};
-use format::signals::BEYOND;
-use format::{Rank, View};
+use checked::check;
+use format::{Rank, Refusal, View};
 
-// The number of the ranks from a up to but not including c, by what the file's check found.
-fn range_number(found: Verdict, a: Rank, c: Rank) -> u32
-    ensures { result ≡ range_number found.number found.view.words a.0 c.0 }
+// The view of a file with the ranks from a up to but not including c: 1 to 6 of the file, then 8 unless a <= c <= N.
+pub fn check_ranks(file: &[u8], a: Rank, c: Rank) -> Result<View, Refusal>
+    ensures { (signal_of result ≡ ranks_number file.now a.0 c.0) × IfOk result (ViewOf file.now) }
 {
-    if found.number != 0 {
-        return found.number;
-    }
+    let v = check(file)?;
     if c.0 < a.0 {
-        return BEYOND;
+        return Err(Refusal::Beyond);
     }
-    if found.view.words < c.0 {
-        return BEYOND;
+    if v.words < c.0 {
+        return Err(Refusal::Beyond);
     }
-    0
-}
-
-// 0, the file's 1 to 6, then 8 unless a <= c <= N.
-pub fn ranks_number(file: &[u8], a: Rank, c: Rank) -> u32
-    ensures { result ≡ ranks_number file.now a.0 c.0 }
-{
-    range_number(check(file), a, c)
+    Ok(v)
 }
 
 // Where the word of a rank stands.
@@ -41,11 +32,9 @@ fn word_at(v: View, rank: Rank) -> usize
 pub fn ranks(file: &[u8], a: Rank, c: Rank) -> &[u8]
     ensures { RanksPart file.entry a.0 c.0 result }
 {
-    let found = check(file);
-    if range_number(found, a, c) != 0 {
+    let Ok(v) = check_ranks(file, a, c) else {
         return &file[0..0];
-    }
-    let v = found.view;
+    };
     let from = word_at(v, a);
     let to = word_at(v, c);
     &file[from..to]

@@ -1,5 +1,5 @@
 // Whether two accepted files are of one picture, by their headers, stored words and stored positions: no picture is expanded.
-ghost use Rattle.std.specs.Prelude.{◌≡◌, ◌+◌, ◌*◌, ◌≤◌, ◌<◌, length, drop};
+ghost use Rattle.std.specs.Prelude.{◌≡◌, ◌+◌, ◌*◌, ◌≤◌, length, drop};
 ghost use Rattle.format.specs.Tools.{same};
 ghost use Rattle.format.specs.Bytes.{numbers_of};
 ghost use Rattle.format.specs.File.{WholeHeader};
@@ -11,25 +11,15 @@ ghost use Rattle.lent_parts.specs.Pair.{same_header, Views};
 use format::View;
 use kinds::steps::{positions, start};
 use parts::walk::batch_of;
-use wire::{get_u8, get_u32};
+use wire::get_u8;
 
-// The n numbers of 4 bytes from an offset on in each are the same.
+// The n numbers of 4 bytes from an offset on in each are the same: their bytes are.
 fn same_numbers<'a>(first: &'a [u8], at: usize, second: &'a [u8], to: usize, n: u32) -> bool
     requires { (at + 4 * n ≤ length first.now) × (to + 4 * n ≤ length second.now) }
     ensures { result ≡ same (numbers_of 4 n (drop at first.now)) (numbers_of 4 n (drop to second.now)) }
 {
-    let mut i = at;
-    let mut j = to;
-    let mut left = n;
-    while 0 < left {
-        if get_u32(first, i) != get_u32(second, j) {
-            return false;
-        }
-        i += 4;
-        j += 4;
-        left -= 1;
-    }
-    true
+    let size = 4 * n as usize;
+    first[at..at + size] == second[to..to + size]
 }
 
 // The dimension counts are the same, and the extents, E and N, which stand one after the other.
@@ -51,21 +41,6 @@ fn same_words<'a>(first: &'a [u8], v: View, second: &'a [u8], w: View) -> bool
     same_numbers(first, v.place as usize, second, w.place as usize, v.words)
 }
 
-// The elements are the same.
-fn same_batch<'a>(first: &'a [u32], second: &'a [u32]) -> bool
-    requires { length first.now ≡ length second.now }
-    ensures { result ≡ same first.now second.now }
-{
-    let mut i: usize = 0;
-    while i < first.len() {
-        if first[i] != second[i] {
-            return false;
-        }
-        i += 1;
-    }
-    true
-}
-
 // The stored positions are the same: a cursor walks along each file, batch by batch.
 fn same_positions<'a>(first: &'a [u8], v: View, second: &'a [u8], w: View) -> bool
     requires { Views first.now v second.now w }
@@ -80,7 +55,7 @@ fn same_positions<'a>(first: &'a [u8], v: View, second: &'a [u8], w: View) -> bo
         let n = batch_of(v.words - rank);
         c = positions(first, v, c, &mut here[..n]);
         d = positions(second, w, d, &mut there[..n]);
-        if !same_batch(&here[..n], &there[..n]) {
+        if here[..n] != there[..n] {
             return false;
         }
         rank += n as u32;

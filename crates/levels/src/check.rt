@@ -9,9 +9,9 @@ use crate::entry::pair_at;
 use format::View;
 use parts::encode::left_after;
 use wire::Pair;
-use wire::numbers::{index, lesser, long};
 
-// A level above so far: how many entries are left in the page, the entry before, and whether each entry is the sum that it should be.
+// A level above so far: how many entries are left in the page, the entry before, and whether each entry is the sum that it should be, gathered without a
+// branch.
 #[derive(Clone, Copy)]
 struct Compared {
     left: u32,
@@ -23,7 +23,7 @@ struct Compared {
 fn before_of(left: u32, before: u32) -> u64
     ensures { (result ≡ pick (eqb left 0) 0 before) × (result < 2 ^ 32) }
 {
-    if left == 0 { 0 } else { long(before) }
+    if left == 0 { 0 } else { u64::from(before) }
 }
 
 // Past one more entry u of a level, where x is the last entry of its page below.
@@ -33,9 +33,9 @@ fn compare(step: u32, s: Compared, u: Pair, x: Pair) -> Compared
 {
     let left = s.left;
     let before = s.sum;
-    let cells = before_of(left, before.first) + long(x.first);
-    let empty = before_of(left, before.second) + long(x.second);
-    let right = s.right & (long(u.first) == cells) & (long(u.second) == empty);
+    let cells = before_of(left, before.first) + u64::from(x.first);
+    let empty = before_of(left, before.second) + u64::from(x.second);
+    let right = s.right & (u64::from(u.first) == cells) & (u64::from(u.second) == empty);
     Compared {
         left: left_after(step, left),
         sum: u,
@@ -57,7 +57,7 @@ fn level_right(
     ensures { result ≡ same_spans (take size (drop first (entries start file.now)))
         (level step (lasts step (take under (drop below (entries start file.now))))) }
 {
-    let page = index(step);
+    let page = step as usize;
     let mut s = Compared {
         left: 0,
         sum: Pair {
@@ -66,17 +66,15 @@ fn level_right(
         },
         right: true,
     };
-    let mut i = 0;
     let mut end = 0;
-    while i < size {
-        end = lesser(end + page, under);
+    for i in 0..size {
+        end = (end + page).min(under);
         s = compare(
             step,
             s,
             pair_at(file, start, first + i),
             pair_at(file, start, below + end - 1),
         );
-        i += 1;
     }
     s.right
 }
@@ -87,9 +85,9 @@ pub fn upper_right(file: &[u8], v: View) -> bool
     ensures { result ≡ same_spans (take v.firsts (entries v.start file.now))
         (upper_levels v.step (take v.seconds (drop v.firsts (entries v.start file.now)))) }
 {
-    let page = index(v.step);
-    let mut below = index(v.firsts);
-    let mut under = index(v.seconds);
+    let page = v.step as usize;
+    let mut below = v.firsts as usize;
+    let mut under = v.seconds as usize;
     while page < under {
         let size = (under + (page - 1)) / page;
         let first = below - size;

@@ -8,7 +8,6 @@ ghost use Rattle.levels.specs.Levels.{span_of};
 ghost use Rattle.levels.specs.LevelZero.{level_in, Stands, LevelZero, summed};
 
 use stores::put_pair;
-use wire::numbers::{index, lesser};
 use wire::{Pair, get_pair};
 
 // The sums of a page so far, all cells and the empty ones among them, and how many entries are left in it.
@@ -43,7 +42,7 @@ fn put_level(dst: &mut [u8], step: u32, start: usize, below: usize, under: usize
     requires { Stands dst.old step under below × (start + 8 * up_to under step ≡ below) }
     ensures { dst.new ≡ put dst.old start (bytes_of 4 (flat_spans (level step (lasts step (level_in dst.old under below))))) }
 {
-    let page = index(step);
+    let page = step as usize;
     let mut s = Sums {
         left: 0,
         cells: 0,
@@ -53,7 +52,7 @@ fn put_level(dst: &mut [u8], step: u32, start: usize, below: usize, under: usize
     let mut from = below;
     let mut rest = under;
     while 0 < rest {
-        let size = lesser(page, rest);
+        let size = page.min(rest);
         from += 8 * size;
         rest -= size;
         s = add(step, s, get_pair(&dst[..], from - 8));
@@ -67,9 +66,9 @@ pub fn put_levels(dst: &mut [u8], start: usize, step: u32, runs: u32, second: us
     requires { LevelZero dst.old start step runs second }
     ensures { dst.new ≡ put dst.old start (bytes_of 4 (flat_spans (upper_levels step (level_in dst.old runs second)))) }
 {
-    let page = index(step);
+    let page = step as usize;
     let mut below = second;
-    let mut under = index(runs);
+    let mut under = runs as usize;
     while page < under {
         let size = (under + (page - 1)) / page;
         let at = below - 8 * size;

@@ -4,14 +4,12 @@ ghost use Rattle.format.specs.Tools.{up_to};
 ghost use Rattle.format.specs.PagedRuns.{upper_entries};
 ghost use Rattle.levels.specs.Levels.{Sized};
 
-use wire::numbers::{index, long};
-
 // 2^32 over the step, rounded up. A number below 2^25 times this, over 2^32, is that number over the step.
 fn share_of(step: u32) -> u64
     requires { (2 ≤ step) × (step ≤ 64) }
     ensures { result ≡ up_to 4294967296 step }
 {
-    long(4294967295 / step) + 1
+    u64::from(4294967295 / step) + 1
 }
 
 // How many pages of `step` entries a level has, from the step's share and without a division by the step.
@@ -19,7 +17,7 @@ fn pages(size: u32, step: u32, share: u64) -> u32
     requires { (2 ≤ step) × (step ≤ 64) × (size ≤ 16777216) × (share ≡ up_to 4294967296 step) }
     ensures { result ≡ up_to size step }
 {
-    ((long(size + (step - 1)) * share) / 4294967296) as u32
+    ((u64::from(size + (step - 1)) * share) / 4294967296) as u32
 }
 
 // The entries above a level of v entries: while a level has more than b entries, one more for each of its pages.
@@ -51,14 +49,14 @@ pub fn level_sizes(step: u32, seconds: u32, sizes: &mut [u32; 24]) -> Levels
 {
     let mut size = seconds;
     let mut count = 1;
-    let mut entries = index(seconds);
+    let mut entries = seconds as usize;
     sizes[0] = seconds;
     let share = share_of(step);
     while step < size {
         size = pages(size, step, share);
         sizes[count] = size;
         count += 1;
-        entries += index(size);
+        entries += size as usize;
     }
     Levels { count, entries }
 }
@@ -68,5 +66,5 @@ pub fn size_at(sizes: &[u32; 24], level: usize) -> usize
     requires { level < 24 }
     ensures { (result ≡ get_or sizes.now level 0) × (result < 2 ^ 32) }
 {
-    index(sizes[level])
+    sizes[level] as usize
 }

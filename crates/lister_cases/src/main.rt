@@ -3,24 +3,11 @@
 
 ghost use Rattle.std.specs.Prelude.{◌≤◌, length};
 
+use listing::input::read_full;
 use std::env::{Env, FillError};
 use std::fs::File;
-use std::io::{Read, Write};
+use std::io::Write;
 use std::{io, str};
-
-// Reads until the buffer is full, the input ends or a read fails; how many bytes at its start are read.
-fn read_full(input: &mut impl Read, buf: &mut [u8]) -> usize
-    ensures { result ≤ length buf.new }
-{
-    let mut done = 0;
-    while done < buf.len() {
-        match input.read(&mut buf[done..]) {
-            Ok(0) | Err(_) => break,
-            Ok(n) => done += n,
-        }
-    }
-    done
-}
 
 // The file open for reading.
 fn list_open(rt: &HostRuntime, file: &mut File) -> io::Result<()> {

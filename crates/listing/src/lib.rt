@@ -1,6 +1,7 @@
 // What the lister prints for an input (document 01, "The sample picture").
 #![tactic(auto)]
 
+pub mod input;
 pub mod measure;
 
 ghost use Rattle.std.specs.Prelude.{◌≤◌, length};
@@ -52,12 +53,10 @@ fn put_ranks(file: &[u8], v: View, out: &mut [u8], at: usize) -> usize
     let words = v.place as usize;
     let mut c = start(file, v);
     let mut to = at;
-    let mut rank: u32 = 0;
-    while rank < v.words {
+    for rank in 0..v.words {
         let word = get_u32(file, words + 4 * rank as usize);
         to = put_line(out, to, rank, c.at, word);
         c = next(file, v, c);
-        rank += 1;
     }
     to
 }
@@ -92,9 +91,8 @@ pub fn list(input: &[u8], out: &mut [u8]) -> usize
     if 65536 < input.len() {
         return offer(b"too long\n", out);
     }
-    let verdict = check(input);
-    if verdict.number != 0 {
-        return offer_refused(verdict.number, out);
+    match check(input) {
+        Ok(v) => offer_file(input, v, out),
+        Err(refusal) => offer_refused(u32::from(refusal), out),
     }
-    offer_file(input, verdict.view, out)
 }

@@ -17,12 +17,10 @@ fn ranks_length(file: &[u8], v: View) -> usize
     let words = v.place as usize;
     let mut c = start(file, v);
     let mut total: usize = 0;
-    let mut rank: u32 = 0;
-    while rank < v.words {
+    for rank in 0..v.words {
         let word = get_u32(file, words + 4 * rank as usize);
         total += line_length(rank, c.at, word);
         c = next(file, v, c);
-        rank += 1;
     }
     total
 }

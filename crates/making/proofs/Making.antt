@@ -1,15 +1,15 @@
 -- What make answers and leaves. Assumes nothing.
 use Prim.Native.Nat.{ℕ, zero, suc, ◌+◌, ◌*◌, ◌≤◌}
 use mathlib.Core.Path.{◌≡◌, refl, sym, ap, subst, ◌∙◌}
-use mathlib.Core.Bool.{true, not}
+use mathlib.Core.Bool.{true, false, not}
 use mathlib.Core.List.{List, ◌++◌}
 use native.Mathlib.Omega.{arith}
 use lib.ListN.{length, drop}
 use lib.Dec.{eqb}
 use borrow.Author.Tests.{eq-eqb, ne_eqb, eqb-true, not-false}
+use Rattle.std.specs.Prelude.{Option, Some, IfSome}
 use Rattle.format.specs.declared.Dimensions.{Dimensions}
 use Rattle.format.specs.declared.Setting.{Setting}
-use Rattle.format.specs.Tools.{pick}
 use Rattle.format.specs.Signals.{EXTENT, PICTURE, refuse, or_else}
 use Rattle.format.specs.Answers.{leaves}
 use Rattle.format.specs.Picture.{most_dimensions, cells, dimensions_allowed}
@@ -26,13 +26,11 @@ use Rattle.stores.specs.Put.{put}
 use Rattle.stores.proofs.Laws.{length-put}
 use Rattle.parts.specs.declared.Sizes.{Sizes}
 use Rattle.parts.specs.Encoder.{begun}
-use Rattle.kinds.specs.declared.Measured.{Measured}
 use Rattle.kinds.specs.Coding.{firsts, seconds, derived}
 use Rattle.layout.specs.Laid.{counts_in, Fitting, Measures, out_of, Goes}
 use Rattle.layout.proofs.Measuring.{fitting}
 use Rattle.layout.proofs.WholeFile.{Derivable, out-number, goes, laid_out, Laid, laid_out_lem}
 use Rattle.checked.proofs.Number.{refuse_later, setting_later}
-use Rattle.header.proofs.CellCount.{count_none, count-some}
 use Rattle.making.specs.Known.{picture_number}
 
 -- ---- the numbers before the file is measured
@@ -79,24 +77,18 @@ module _ (s : Setting) (d : Dimensions) (n : ℕ) where
     after-setting : (later : ℕ) → later ≡ setting_number s later
     after-setting later = sym (setting_later s 0 later ∙ ap (λ (x : ℕ). or_else x later) t)
 
-    pub extent_refused : pick (dimensions_allowed d) (cells d) 0 ≡ 0 → EXTENT ≡ picture_number s d n
+    pub extent_refused : dimensions_allowed d ≡ false → EXTENT ≡ picture_number s d n
     unfolding picture_number
-    extent_refused e = rw (count_none d e) (after-setting EXTENT)
+    extent_refused e = rw e (after-setting EXTENT)
 
-    module _ (c : ℕ) (e : c ≡ pick (dimensions_allowed d) (cells d) 0) (some : c ≡ 0 → ⊥) where
-      allowed : dimensions_allowed d ≡ true
-      allowed = count-some d (λ z. some (e ∙ z))
-
-      all-cells : c ≡ cells d
-      all-cells = e ∙ rw allowed
-
+    module _ (c : ℕ) (some : (dimensions_allowed d ≡ true) × (c ≡ cells d)) where
       pub words-refused : (n ≡ c → ⊥) → PICTURE ≡ picture_number s d n
       unfolding picture_number
-      words-refused h = rw (allowed, ne_eqb n (cells d) (λ z. h (z ∙ sym all-cells))) (after-setting PICTURE)
+      words-refused h = rw (some.0, ne_eqb n (cells d) (λ z. h (z ∙ sym some.1))) (after-setting PICTURE)
 
       pub none-refused : n ≡ c → 0 ≡ picture_number s d n
       unfolding picture_number
-      none-refused h = rw (allowed, eq-eqb n (cells d) (h ∙ all-cells)) (after-setting 0)
+      none-refused h = rw (some.0, eq-eqb n (cells d) (h ∙ some.1)) (after-setting 0)
 
 -- ---- the contract
 
@@ -156,16 +148,16 @@ module _ (s : Setting) (d : Dimensions) (E : ℕ) (ws before : List ℕ) (z : Si
 
 -- ---- what was measured of a picture
 
-module _ (s : Setting) (d : Dimensions) (E : ℕ) (ws : List ℕ) (p : picture_number s d (length ws) ≡ 0) (m : Measured)
+module _ (s : Setting) (d : Dimensions) (E : ℕ) (ws : List ℕ) (p : picture_number s d (length ws) ≡ 0) (m : Option Sizes)
     (k : Measures s (length ws) (stored E ws) m) where
   r : PictureRight s d (length ws)
   r = picture_right s d (length ws) p
 
-  pub measured_fitting : m.fits ≡ true → Fitting m.sizes
+  pub measured_fitting : IfSome m Fitting
   measured_fitting = fitting s r.setting (length ws) (stored E ws) r.few (rising E ws) m k
 
   pub measured_number : (room n : ℕ) → n ≡ out_of m room → n ≡ out_number s d E ws room
   measured_number room n o = o ∙ out-number s r.setting d r.four E ws (sym r.size) r.few m k room
 
-  pub measured_goes : (room : ℕ) → out_of m room ≡ 0 → (cells d ≡ length ws) × Goes s d E ws m.sizes room
-  measured_goes room o = (sym r.size, goes s r.setting d r.four E ws (sym r.size) r.few m k room o)
+  pub measured_goes : (room : ℕ) → out_of m room ≡ 0 → (z : Sizes) → m ≡ Some z → (cells d ≡ length ws) × Goes s d E ws z room
+  measured_goes room o z e = (sym r.size, goes s r.setting d r.four E ws (sym r.size) r.few m k room o z e)

@@ -2,39 +2,32 @@
 #![tactic(auto)]
 
 ghost use Rattle.std.specs.Prelude.{◌≡◌, length};
-ghost use Rattle.format.specs.Answers.{leaves};
+ghost use Rattle.format.specs.Answers.{signal_of, leaves};
 ghost use Rattle.format.specs.Picture.{cells};
 ghost use Rattle.format.specs.File.{layout};
 ghost use Rattle.format.specs.Calls.{Made};
 ghost use Rattle.layout.specs.Laid.{Goes};
 ghost use Rattle.making.specs.Known.{picture_number};
 
-use format::signals::{EXTENT, PICTURE};
-use format::{Dimensions, HEADER, Setting};
+use format::{Dimensions, HEADER, Refusal, Setting};
 use header::extents::cell_count;
 use kinds::coding::put_derived;
-use kinds::setting::setting_number;
+use kinds::setting::check_setting;
+use layout::going;
 use layout::header_out::put_header;
-use layout::out_number;
 use parts::Sizes;
 use picture::{measure, put_out};
 
 // 2, 3, 4 and 7: setting, dimensions, and as many words as cells.
-fn picture_number(s: Setting, d: Dimensions, words: usize) -> u32
-    ensures { result ≡ picture_number s d words }
+fn check_picture(s: Setting, d: Dimensions, words: usize) -> Result<(), Refusal>
+    ensures { signal_of result ≡ picture_number s d words }
 {
-    let number = setting_number(s);
-    if number != 0 {
-        return number;
-    }
-    let cells = cell_count(d);
-    if cells == 0 {
-        return EXTENT;
-    }
+    check_setting(s)?;
+    let cells = cell_count(d).ok_or(Refusal::Extent)?;
     if words != cells as usize {
-        return PICTURE;
+        return Err(Refusal::Picture);
     }
-    0
+    Ok(())
 }
 
 // The file of the words, with the sizes z.
@@ -49,20 +42,18 @@ fn put_picture(dst: &mut [u8], d: Dimensions, empty: u32, words: &[u32], s: Sett
     put_derived(dst, s, z, HEADER);
 }
 
-// 0 with the file in the destination's first bytes; 2, 3, 4, 7, 9, 10.
-pub fn make(d: Dimensions, empty: u32, words: &[u32], s: Setting, dst: &mut [u8]) -> u32
-    ensures { Made s d empty words.now dst.old result dst.new }
+// The file in the destination's first bytes; refused with 2, 3, 4, 7, 9, 10.
+pub fn make(
+    d: Dimensions,
+    empty: u32,
+    words: &[u32],
+    s: Setting,
+    dst: &mut [u8],
+) -> Result<(), Refusal>
+    ensures { Made s d empty words.now dst.old (signal_of result) dst.new }
 {
-    let number = picture_number(s, d, words.len());
-    if number != 0 {
-        return number;
-    }
-    let m = measure(words, empty, s);
-    let number = out_number(m, dst.len());
-    if number != 0 {
-        return number;
-    }
-    let z = m.sizes;
+    check_picture(s, d, words.len())?;
+    let z = going(measure(words, empty, s), dst.len())?;
     put_picture(dst, d, empty, words, s, z);
-    0
+    Ok(())
 }

@@ -3,6 +3,8 @@ pub mod Widths
 pub mod Falling
 -- A group by its ends.
 pub mod OneGroup
+-- Entries searched.
+pub mod Searching
 -- Sums with a base.
 pub mod Summing
 -- Offsets put out.

@@ -5,29 +5,15 @@ ghost use Rattle.laws.proofs.Stored.{Rising};
 ghost use Rattle.stores.specs.Put.{put};
 ghost use Rattle.offsets.specs.Over.{offsets_over};
 
-use stores::{put_u8, put_u16};
+use entries::Entry;
 
-// The offsets of positions from a base, a byte each.
-fn put_offsets_u8(dst: &mut [u8], at: usize, base: u32, ps: &[u32])
-    requires { Rising base 16777216 ps.now × (at + 1 * length ps.now ≤ length dst.old) }
-    ensures { dst.new ≡ put dst.old at (bytes_of 1 (offsets_over base ps.now)) }
+// The offsets of positions from a base.
+fn put_offsets_of<E: Entry>(dst: &mut [u8], at: usize, base: u32, ps: &[u32])
+    requires { Rising base 16777216 ps.now × (at + E.WIDTH * length ps.now ≤ length dst.old) }
+    ensures { dst.new ≡ put dst.old at (bytes_of E.WIDTH (offsets_over base ps.now)) }
 {
-    let mut i: usize = 0;
-    while i < ps.len() {
-        put_u8(dst, at + i, ps[i] - base);
-        i += 1;
-    }
-}
-
-// The same, two bytes each.
-fn put_offsets_u16(dst: &mut [u8], at: usize, base: u32, ps: &[u32])
-    requires { Rising base 16777216 ps.now × (at + 2 * length ps.now ≤ length dst.old) }
-    ensures { dst.new ≡ put dst.old at (bytes_of 2 (offsets_over base ps.now)) }
-{
-    let mut i: usize = 0;
-    while i < ps.len() {
-        put_u16(dst, at + 2 * i, ps[i] - base);
-        i += 1;
+    for (i, p) in ps.iter().enumerate() {
+        E::put(dst, at + E::WIDTH * i, *p - base);
     }
 }
 
@@ -37,8 +23,8 @@ pub fn put_offsets(dst: &mut [u8], at: usize, width: u32, base: u32, ps: &[u32])
     ensures { dst.new ≡ put dst.old at (bytes_of width (offsets_over base ps.now)) }
 {
     if width == 1 {
-        put_offsets_u8(dst, at, base, ps);
+        put_offsets_of::<u8>(dst, at, base, ps);
     } else {
-        put_offsets_u16(dst, at, base, ps);
+        put_offsets_of::<u16>(dst, at, base, ps);
     }
 }

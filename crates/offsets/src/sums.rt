@@ -4,8 +4,8 @@ ghost use Rattle.format.specs.Bytes.{numbers_of};
 ghost use Rattle.wire.specs.Wire.{entry_size};
 ghost use Rattle.offsets.specs.Sums.{There, sums};
 
-use std::num::wrapping_add_u32;
-use wire::{entry_size, get_u8, get_u16};
+use entries::Entry;
+use wire::entry_size;
 
 // Whether the offsets of n ranks from a rank on are all there.
 pub fn all_there(file: &[u8], width: u32, second: u32, rank: u32, n: usize) -> bool
@@ -25,27 +25,13 @@ pub fn all_there(file: &[u8], width: u32, second: u32, rank: u32, n: usize) -> b
     second as usize + size * end <= file.len()
 }
 
-// The sums of a base and the numbers of one byte from an index on.
-fn sums_u8(file: &[u8], at: usize, base: u32, out: &mut [u32])
-    requires { at + 1 * length out.old ≤ length file.now }
-    ensures { out.new ≡ sums base (numbers_of 1 (length out.old) (drop at file.now)) }
+// The sums of a base and the numbers from an index on.
+fn sums_of<E: Entry>(file: &[u8], at: usize, base: u32, out: &mut [u32])
+    requires { at + E.WIDTH * length out.old ≤ length file.now }
+    ensures { out.new ≡ sums base (numbers_of E.WIDTH (length out.old) (drop at file.now)) }
 {
-    let mut i: usize = 0;
-    while i < out.len() {
-        out[i] = wrapping_add_u32(base, get_u8(file, at + i));
-        i += 1;
-    }
-}
-
-// The same of two bytes.
-fn sums_u16(file: &[u8], at: usize, base: u32, out: &mut [u32])
-    requires { at + 2 * length out.old ≤ length file.now }
-    ensures { out.new ≡ sums base (numbers_of 2 (length out.old) (drop at file.now)) }
-{
-    let mut i: usize = 0;
-    while i < out.len() {
-        out[i] = wrapping_add_u32(base, get_u16(file, at + 2 * i));
-        i += 1;
+    for (i, x) in out.iter_mut().enumerate() {
+        *x = base.wrapping_add(E::get(file, at + E::WIDTH * i));
     }
 }
 
@@ -55,8 +41,8 @@ pub fn sums(file: &[u8], width: u32, second: u32, rank: u32, base: u32, out: &mu
     ensures { out.new ≡ sums base (numbers_of (entry_size width) (length out.old) (drop (second + entry_size width * rank) file.now)) }
 {
     if width == 1 {
-        sums_u8(file, second as usize + rank as usize, base, out);
+        sums_of::<u8>(file, second as usize + rank as usize, base, out);
     } else {
-        sums_u16(file, second as usize + 2 * rank as usize, base, out);
+        sums_of::<u16>(file, second as usize + 2 * rank as usize, base, out);
     }
 }

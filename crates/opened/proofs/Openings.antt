@@ -18,7 +18,6 @@ use Rattle.laws.proofs.Tools.{cases}
 use Rattle.laws.proofs.Settings.{small-setting}
 use Rattle.parts.specs.Holds.{ViewOf}
 use Rattle.parts.proofs.Seen as parts
-use Rattle.checked.specs.Verdict.{Judged}
 use Rattle.search.specs.Searched.{CellSearched, RankSearched, PositionSearched}
 use Rattle.opened.specs.Kept.{Kept}
 
@@ -43,11 +42,11 @@ kind_opened b e z =
     let o = ap (λ (x : Opened). x.view.kind) (opening-accepted b e) in
     omega (arith, (small-setting _ s.header.right.setting).kind_least)
 
-pub view-accepted : (b : List ℕ) (n : ℕ) (v : View) → Judged b n v → n ≡ 0 → v ≡ (opening b).view
-view-accepted b n v j z = let o = j.view z in o.view ∙ sym (ap (λ (x : Opened). x.view) (opening-accepted b o.accepted))
+pub view-accepted : (b : List ℕ) (v : View) → ViewOf b v → v ≡ (opening b).view
+view-accepted b v o = o.view ∙ sym (ap (λ (x : Opened). x.view) (opening-accepted b o.accepted))
 
-pub view-refused : (b : List ℕ) (n : ℕ) (v : View) → Judged b n v → (n ≡ 0 → ⊥) → no_view ≡ (opening b).view
-view-refused b n v j h = sym (ap (λ (x : Opened). x.view) (opening-refused b (λ e. h (j.number ∙ e))))
+pub view-refused : (b : List ℕ) → (check_number b ≡ 0 → ⊥) → no_view ≡ (opening b).view
+view-refused b h = sym (ap (λ (x : Opened). x.view) (opening-refused b h))
 
 -- the contract of open, by what it keeps
 pub opened : (x r : Bor (List ℕ)) (v : View) → v ≡ (opening x.now).view → Kept x v r → OpeningOf x r v

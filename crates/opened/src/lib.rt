@@ -8,8 +8,7 @@ ghost use Rattle.format.specs.Opened.{opening, OpeningOf, OpenedCell, OpenedRank
 ghost use Rattle.opened.specs.Kept.{Kept, over, file_of};
 
 use checked::{check, no_view};
-use format::signals::BEYOND;
-use format::{CellAnswer, Position, PositionAnswer, Rank, RankAnswer, View};
+use format::{Position, Rank, RankAnswer, Refusal, View};
 
 // The bytes and the header's numbers of an accepted file; of a refused one no bytes, and all counts 0.
 #[derive(Clone, Copy)]
@@ -18,15 +17,14 @@ pub struct Opened<'a> {
     pub view: View,
 }
 
-// The header's numbers, all 0 where the file is refused.
+// The header's numbers, all 0 where the file is refused: opening cannot fail (document 01), and a kind of 0 tells of it.
 fn opened_view(file: &[u8]) -> View
     ensures { result ≡ (opening file.now).view }
 {
-    let verdict = check(file);
-    if verdict.number != 0 {
-        return no_view();
+    match check(file) {
+        Ok(view) => view,
+        Err(_) => no_view(),
     }
-    verdict.view
 }
 
 // The file itself, or no bytes of it where the numbers are those of a refusal: no kind is 0.
@@ -39,7 +37,7 @@ fn opened_bytes<'a>(file: &'a [u8], v: View) -> &'a [u8]
     file
 }
 
-// Opens a file: the complete check first. Check is the companion call that gives the number of a refusal.
+// Opens a file: the complete check first. Check is the companion call that says why a file is refused.
 pub fn open<'a>(file: &'a [u8]) -> Opened<'a>
     ensures { OpeningOf file.entry result.bytes result.view }
 {
@@ -49,51 +47,51 @@ pub fn open<'a>(file: &'a [u8]) -> Opened<'a>
 }
 
 // The word at a position; 8 where the opening was refused.
-fn cell_within(file: &[u8], v: View, p: Position) -> CellAnswer
+fn cell_within(file: &[u8], v: View, p: Position) -> Result<u32, Refusal>
     ensures { OpenedCell (over file.entry v) p.0 (cell_says result) }
 {
     if v.kind == 0 {
-        return CellAnswer::Refused(BEYOND);
+        return Err(Refusal::Beyond);
     }
     search::cell_in(file, v, p)
 }
 
 // The rank at a position, or "empty" with the number of stored cells before it; 8 where the opening was refused.
-fn rank_within(file: &[u8], v: View, p: Position) -> RankAnswer
+fn rank_within(file: &[u8], v: View, p: Position) -> Result<RankAnswer, Refusal>
     ensures { OpenedRank (over file.entry v) p.0 (rank_says result) }
 {
     if v.kind == 0 {
-        return RankAnswer::Refused(BEYOND);
+        return Err(Refusal::Beyond);
     }
     search::rank_in(file, v, p)
 }
 
 // The position of a rank; 8 where the opening was refused.
-fn position_within(file: &[u8], v: View, r: Rank) -> PositionAnswer
+fn position_within(file: &[u8], v: View, r: Rank) -> Result<Position, Refusal>
     ensures { OpenedPosition (over file.entry v) r.0 (position_says result) }
 {
     if v.kind == 0 {
-        return PositionAnswer::Refused(BEYOND);
+        return Err(Refusal::Beyond);
     }
     search::position_in(file, v, r)
 }
 
 // The word at a position, through the opened file.
-pub fn cell<'a>(o: Opened<'a>, p: Position) -> CellAnswer
+pub fn cell<'a>(o: Opened<'a>, p: Position) -> Result<u32, Refusal>
     ensures { OpenedCell (file_of o.entry) p.0 (cell_says result) }
 {
     cell_within(o.bytes, o.view, p)
 }
 
 // The rank at a position, or "empty" with the number of stored cells before it, through the opened file.
-pub fn rank<'a>(o: Opened<'a>, p: Position) -> RankAnswer
+pub fn rank<'a>(o: Opened<'a>, p: Position) -> Result<RankAnswer, Refusal>
     ensures { OpenedRank (file_of o.entry) p.0 (rank_says result) }
 {
     rank_within(o.bytes, o.view, p)
 }
 
 // The position of a rank, through the opened file.
-pub fn position<'a>(o: Opened<'a>, r: Rank) -> PositionAnswer
+pub fn position<'a>(o: Opened<'a>, r: Rank) -> Result<Position, Refusal>
     ensures { OpenedPosition (file_of o.entry) r.0 (position_says result) }
 {
     position_within(o.bytes, o.view, r)

@@ -21,12 +21,9 @@ fn put_ends<'a>(dst: &mut [u8], step: u32, e: Encoder, ps: &'a [u32], ends: &'a 
 {
     let mut at = e;
     let mut taken: u32 = 0;
-    let mut t: usize = 0;
-    while t < ends.len() {
-        let end = ends[t];
+    for &end in ends {
         at = put_entry(dst, step, grow(at, end - taken), ps[end as usize]);
         taken = end + 1;
-        t += 1;
     }
     grow(at, ps.len() as u32 - taken)
 }
@@ -37,10 +34,8 @@ pub fn put_each(dst: &mut [u8], step: u32, e: Encoder, ps: &[u32]) -> Encoder
     ensures { (result ≡ taken_all_by (pages_coder step) e ps.now) × (dst.new ≡ put_all_by (pages_coder step) dst.old e ps.now) }
 {
     let mut at = e;
-    let mut i: usize = 0;
-    while i < ps.len() {
-        at = pages_put(dst, step, at, ps[i]);
-        i += 1;
+    for &p in ps {
+        at = pages_put(dst, step, at, p);
     }
     at
 }

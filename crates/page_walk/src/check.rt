@@ -8,8 +8,8 @@ use format::View;
 use rises::pairs::{fall, pair_falls};
 use wire::{Pair, get_pair};
 
-// The pages of level 0 so far: how many begin with an entry that does not follow on the one before, whether each past the first begins with a run of its own,
-// and the sums of their last entries, all cells and the empty ones among them.
+// The pages of level 0 so far: how many begin with an entry that does not follow on the one before, whether each past the first begins with a run of its own
+// (gathered without a branch), and the sums of their last entries, all cells and the empty ones among them.
 #[derive(Clone, Copy)]
 struct Pages {
     falls: u32,
@@ -26,8 +26,8 @@ fn past_page(s: Pages, x: Pair, y: Pair) -> Pages
     Pages {
         falls: s.falls + fall(x, y),
         right: s.right & (0 < y.second) & (y.second < y.first),
-        cells: s.cells + x.first as u64,
-        empty: s.empty + x.second as u64,
+        cells: s.cells + u64::from(x.first),
+        empty: s.empty + u64::from(x.second),
     }
 }
 
@@ -57,7 +57,10 @@ pub fn runs_right(file: &[u8], v: View) -> bool
         s = past_page(s, get_pair(file, at - 8), get_pair(file, at));
     }
     let last = get_pair(file, at + 8 * (left - 1) as usize);
-    let cells = s.cells + last.first as u64;
-    let empty = s.empty + last.second as u64;
-    s.right & (falls == s.falls) & (cells <= v.cells as u64) & (cells == empty + v.words as u64)
+    let cells = s.cells + u64::from(last.first);
+    let empty = s.empty + u64::from(last.second);
+    s.right
+        & (falls == s.falls)
+        & (cells <= u64::from(v.cells))
+        & (cells == empty + u64::from(v.words))
 }

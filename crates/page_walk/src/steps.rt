@@ -6,7 +6,6 @@ ghost use Rattle.page_walk.specs.Steps.{page_of, entered_by, next_in, next, Ther
 use format::View;
 use parts::Cursor;
 use parts::walk::{along_run, fill_run};
-use std::num::wrapping_add_u32;
 use wire::{Pair, get_pair};
 
 // The page of the next entry: the same, or the one after the run where the cursor stands at the end.
@@ -19,10 +18,7 @@ pub fn page_of(step: u32, mut c: Cursor) -> Cursor
     }
     c.used = 1;
     c.base = c.at;
-    c.empty = 0;
-    if c.rank <= c.at {
-        c.empty = c.at - c.rank;
-    }
+    c.empty = c.at.saturating_sub(c.rank);
     c
 }
 
@@ -30,10 +26,10 @@ pub fn page_of(step: u32, mut c: Cursor) -> Cursor
 pub fn enter(x: Pair, mut p: Cursor) -> Cursor
     ensures { result ≡ entered_by x p }
 {
-    p.rank = wrapping_add_u32(p.rank, 1);
-    p.at = wrapping_add_u32(p.rank, wrapping_add_u32(p.empty, x.second));
-    p.next = wrapping_add_u32(p.next, 1);
-    p.last = wrapping_add_u32(p.base, x.first);
+    p.rank = p.rank.wrapping_add(1);
+    p.at = p.rank.wrapping_add(p.empty.wrapping_add(x.second));
+    p.next = p.next.wrapping_add(1);
+    p.last = p.base.wrapping_add(x.first);
     p
 }
 
@@ -56,7 +52,7 @@ fn past_there(file: &[u8], v: View, c: Cursor, k: u32) -> Cursor
 {
     let mut d = along_run(c, k);
     if d.at < d.last {
-        d.rank = wrapping_add_u32(d.rank, 1);
+        d.rank = d.rank.wrapping_add(1);
         d.at += 1;
         return d;
     }
@@ -93,15 +89,15 @@ fn along_page(
         i += m;
         let more = (m - 1) as u32;
         let at = c.at + more;
-        c.rank = wrapping_add_u32(wrapping_add_u32(c.rank, more), 1);
+        c.rank = c.rank.wrapping_add(more).wrapping_add(1);
         if at < c.last {
             c.at = at + 1;
         } else {
             let x = get_pair(file, second + 8 * c.next as usize);
             c.used += 1;
-            c.at = wrapping_add_u32(c.rank, wrapping_add_u32(c.empty, x.second));
-            c.next = wrapping_add_u32(c.next, 1);
-            c.last = wrapping_add_u32(c.base, x.first);
+            c.at = c.rank.wrapping_add(c.empty.wrapping_add(x.second));
+            c.next = c.next.wrapping_add(1);
+            c.last = c.base.wrapping_add(x.first);
         }
     }
     Ahead { c, filled: i }

@@ -1,16 +1,18 @@
 -- What the place that a search finds says: where a position stands among the stored ones, and the position of a rank. Assumes nothing.
-use Rattle.std.proofs.Common.{◌≡◌, ℕ, zero, suc, ◌+◌, ◌-◌, ◌*◌, ◌/◌, ◌%◌, ◌^◌, ◌<◌, ◌≤◌, true, false, eqb, ltb, leb, List, [], ◌∷◌, ◌++◌, length, sym, refl, add-zero, arith, length-append, ltb-false, ltb-true, le-ltb, lt-ltb, eq-eqb, ne_eqb, eqb-true, leb-false, leb-true}
+use Rattle.std.proofs.Common.{◌≡◌, ℕ, Option, Some, None, zero, suc, ◌+◌, ◌-◌, ◌*◌, ◌/◌, ◌%◌, ◌^◌, ◌<◌, ◌≤◌, true, false, eqb, ltb, leb, List, [], ◌∷◌, ◌++◌, length, sym, refl, add-zero, arith, length-append, ltb-false, ltb-true, le-ltb, lt-ltb, eq-eqb, ne_eqb, eqb-true, leb-false, leb-true}
 use lib.Arith.{lt_of_le-ne}
 use borrow.Author.Tests.{eqb-false}
-use Rattle.format.specs.Tools.{pick, both, range}
+use Rattle.format.specs.Tools.{both, range}
 use Rattle.format.specs.Answers.{given}
 use Rattle.format.specs.Runs.{Span, positions_from}
 use Rattle.format.specs.PagedRuns.{plus, none, all_cells, stored_cells, Place, lost, at, position_at_place}
 use Rattle.laws.proofs.Tools.{cases, both_true, length-range}
 use Rattle.laws.proofs.Search.{seek_from, Proper}
 use Rattle.parts.specs.declared.Found.{Found}
+use Rattle.parts.specs.declared.RunPart.{RunPart}
 use Rattle.parts.specs.Found.{count_below, among}
-use Rattle.descent.specs.Descent.{nowhere, answered}
+use Rattle.descent.specs.declared.search.Asked.TheVariants as ask
+use Rattle.descent.specs.Descent.{answered}
 
 -- ---- a position among others, r of which are counted already
 
@@ -66,19 +68,19 @@ clear_from p from (x ∷ xs) h =
 -- ---- the place of a position
 
 -- by what a search answers: of the cells below p those that are not empty, or all n words where no run is reached
-abbrev pub place_by : ℕ → ℕ → ℕ → Found
-place_by e p n =
-    pick (eqb e nowhere) (record { below = n; here = false }) (record { below = p - e / 2; here = both (eqb (e % 2) 1) (ltb (p - e / 2) n) })
+abbrev pub place_by : Option ℕ → ℕ → ℕ → Found
+place_by None p n = record { below = n; here = false }
+place_by (Some e) p n = record { below = p - e / 2; here = both (eqb (e % 2) 1) (ltb (p - e / 2) n) }
 
-place-empty : (m p n : ℕ) → place_by (2 * m) p n ≡ record { below = p - m; here = false }
+place-empty : (m p n : ℕ) → place_by (Some (2 * m)) p n ≡ record { below = p - m; here = false }
 place-empty m p n =
     let h : 2 * m / 2 ≡ m = omega arith in
-    rw (ne_eqb (2 * m) nowhere (λ z. omega arith), h, ne_eqb (2 * m % 2) 1 (λ z. omega arith))
+    rw (h, ne_eqb (2 * m % 2) 1 (λ z. omega arith))
 
-place-stored : (m p n : ℕ) → m < 2 ^ 32 → p - m < n → place_by (2 * m + 1) p n ≡ record { below = p - m; here = true }
-place-stored m p n l k =
+place-stored : (m p n : ℕ) → p - m < n → place_by (Some (2 * m + 1)) p n ≡ record { below = p - m; here = true }
+place-stored m p n k =
     let h : (2 * m + 1) / 2 ≡ m = omega arith in
-    rw (ne_eqb (2 * m + 1) nowhere (λ z. omega arith), h, eq-eqb ((2 * m + 1) % 2) 1 (omega arith), lt-ltb (p - m) n k)
+    rw (h, eq-eqb ((2 * m + 1) % 2) 1 (omega arith), lt-ltb (p - m) n k)
 
 -- Arithmetic of one run past c cells, e of them empty; q is what is left of p.
 module _ (c e q p : ℕ) (g : e ≤ c) (h : c + q ≡ p) where
@@ -94,7 +96,7 @@ module _ (c e q p : ℕ) (g : e ≤ c) (h : c + q ≡ p) where
 -- along pairs, a before them, with n stored cells in all
 pub place-along : (p n i q : ℕ) (a : Span) (xs : List Span) → p < 2 ^ 32 → Proper xs → a.empty ≤ a.cells → a.cells + q ≡ p
     → n ≡ a.cells - a.empty + length (positions_from a.cells xs)
-    → CountedFrom p (a.cells - a.empty) (positions_from a.cells xs) (place_by (answered 0 (seek_from all_cells i q a xs)) p n)
+    → CountedFrom p (a.cells - a.empty) (positions_from a.cells xs) (place_by (answered ask.Place (seek_from all_cells i q a xs)) p n)
 unfolding positions_from seek_from
 place-along p n i q a [] s o g h m = unfold count_below among in (record { below = m; here = refl })
 place-along p n i q a (x ∷ xs) f o g h m =
@@ -114,7 +116,7 @@ place-along p n i q a (x ∷ xs) f o g h m =
   where
     here : n ≡ a.cells - a.empty + (x.cells - x.empty + length (positions_from (a.cells + x.cells) xs)) → q < x.cells
         → CountedFrom p (a.cells - a.empty) (range (a.cells + x.empty) (x.cells - x.empty) ++ positions_from (a.cells + x.cells) xs)
-        (place_by (answered 0 (at i q a x)) p n)
+        (place_by (answered ask.Place (at i q a x)) p n)
     here k t =
         let c = clear_from p (a.cells + x.cells) xs (omega arith) in
         cases (leb x.empty q)
@@ -124,7 +126,7 @@ place-along p n i q a (x ∷ xs) f o g h m =
         (omega arith) (omega arith) c in
         let d0 = d.below in
         let z = stored-rank a.cells a.empty q p g h x.empty w in
-        rw (u, place-stored (a.empty + x.empty) p n (omega arith) (omega arith)) (record { below = omega arith; here = d.here }))
+        rw (u, place-stored (a.empty + x.empty) p n (omega arith)) (record { below = omega arith; here = d.here }))
         (λ u.
         let w = leb-false x.empty q u in
         let d = clear_range p (a.cells + x.empty) (x.cells - x.empty) (positions_from (a.cells + x.cells) xs) (omega arith) c in
@@ -133,11 +135,9 @@ place-along p n i q a (x ∷ xs) f o g h m =
         rw (u, place-empty (a.empty + q) p n) (record { below = omega arith; here = sym d.1 }))
 
 -- any stored cell has a rank below n
-pub place-free : (e p n : ℕ) → (place_by e p n).here ≡ true → (place_by e p n).below < n
-place-free e p n h =
-    cases (eqb e nowhere)
-    (λ t. let k = rw t at h in let z : ◌≡◌ {A = ℕ} 0 1 = cc in absurd (omega arith))
-    (λ t. rw t (ltb-true (p - e / 2) n (both_true (eqb (e % 2) 1) (ltb (p - e / 2) n) (rw t at h)).1))
+pub place-free : (e : Option ℕ) (p n : ℕ) → (place_by e p n).here ≡ true → (place_by e p n).below < n
+place-free None p n h = let z : ◌≡◌ {A = ℕ} 0 1 = cc in absurd (omega arith)
+place-free (Some e) p n h = ltb-true (p - e / 2) n (both_true (eqb (e % 2) 1) (ltb (p - e / 2) n) h).1
 
 -- ---- the position of a rank
 
@@ -162,14 +162,20 @@ pub stored_at : (r : ℕ) (xs : List Span) → Proper xs → StoredAt r (seek_fr
 stored_at r xs o = stored_from_lem 0 r r none xs o (omega arith) (omega arith)
 
 -- by what a search answers: the rank and the empty cells up to it, or 0 where no run is reached
-abbrev pub position_by : ℕ → ℕ → ℕ
-position_by e r = pick (eqb e nowhere) 0 (r + e / 2)
+abbrev pub position_by : Option ℕ → ℕ → ℕ
+position_by None r = 0
+position_by (Some e) r = r + e / 2
 
-pub position_at : (r k : ℕ) (q : Place) → StoredAt r q → position_at_place q ≡ given k → k < 2 ^ 32 → position_by (answered 1 q) r ≡ k
+-- the same of the ranks of its run from there on
+abbrev pub part_by : Option ℕ → ℕ → RunPart
+part_by None r = record { at = r + 4294967295; cells = 4294967295 }
+part_by (Some e) r = record { at = r + e / 2 ^ 32; cells = e % 2 ^ 32 }
+
+pub position_at : (r k : ℕ) (q : Place) → StoredAt r q → position_at_place q ≡ given k → k < 2 ^ 32 → position_by (answered ask.Rank q) r ≡ k
 position_at r k (lost a) h e l = let z : ◌≡◌ {A = ℕ} 0 1 = cc in absurd (omega arith)
 position_at r k (at i q a x) h e l =
     let h0 = h.0 in
     let h1 = h.1 in
     let d : a.cells + x.empty + q ≡ k = cc in
     let m : (2 * (a.empty + x.empty) + 1) / 2 ≡ a.empty + x.empty = omega arith in
-    rw (ne_eqb (2 * (a.empty + x.empty) + 1) nowhere (λ z. omega arith), m) (omega arith)
+    rw m (omega arith)

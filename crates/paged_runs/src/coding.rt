@@ -25,10 +25,8 @@ pub fn take_all(width: u32, step: u32, e: Encoder, ps: &[u32]) -> Encoder
     ensures { result ≡ taken_all_by (coder width step) e ps.now }
 {
     let mut at = e;
-    let mut i: usize = 0;
-    while i < ps.len() {
-        at = pages_taken(step, at, ps[i]);
-        i += 1;
+    for &p in ps {
+        at = pages_taken(step, at, p);
     }
     at
 }

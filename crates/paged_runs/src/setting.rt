@@ -6,17 +6,14 @@ ghost use Rattle.parts.specs.Holds.{Sized};
 use format::View;
 use levels::sizes::upper_count;
 use parts::PartBytes;
-use wire::numbers::index;
 
 // Width is 0, step is 2 to 64.
+#[tactic(auto, unfolding(format::specs::PagedRuns::pages_kind))]
 pub fn allowed(width: u32, step: u32) -> bool
     ensures { result ≡ (pages_kind width step).allowed }
 {
-    match width {
-        0 => match step {
-            2..=64 => true,
-            _ => false,
-        },
+    match (width, step) {
+        (0, 2..=64) => true,
         _ => false,
     }
 }
@@ -29,14 +26,13 @@ fn counts_right(v: View) -> bool
     v.seconds <= v.words && v.firsts == upper_count(v.step, v.seconds)
 }
 
-// Whether the entry counts are right, and the bytes of each part: 8 an entry.
-pub fn part_bytes(v: View) -> PartBytes
+// The bytes of each part, 8 an entry. None where the counts are not the kind's.
+pub fn part_bytes(v: View) -> Option<PartBytes>
     requires { ((pages_kind v.width v.step).allowed ≡ true) × (v.cells ≤ 16777216) × (v.words ≤ v.cells) }
     ensures { Sized (pages_kind v.width v.step) v result }
 {
-    PartBytes {
-        right: counts_right(v),
-        first: 8 * index(v.firsts),
-        second: 8 * index(v.seconds),
-    }
+    counts_right(v).then_some(PartBytes {
+        first: 8 * v.firsts as usize,
+        second: 8 * v.seconds as usize,
+    })
 }

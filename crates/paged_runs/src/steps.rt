@@ -7,7 +7,6 @@ use format::View;
 use page_walk::steps::{all_there, along, enter, page_of};
 use parts::Cursor;
 use parts::walk::{along_run, fill_run};
-use std::num::wrapping_add_u32;
 use wire::load_pair;
 
 // The cursor at the next rank.
@@ -15,7 +14,7 @@ pub fn next(file: &[u8], v: View, mut c: Cursor) -> Cursor
     ensures { result ≡ next file.now v c }
 {
     if c.at < c.last {
-        c.rank = wrapping_add_u32(c.rank, 1);
+        c.rank = c.rank.wrapping_add(1);
         c.at += 1;
         return c;
     }

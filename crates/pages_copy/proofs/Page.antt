@@ -18,6 +18,13 @@ use Rattle.pages_copy.proofs.Behind.{pair_on, Behind, pair_on_lem, pair-here}
 use Rattle.pages_copy.proofs.Apart as on
 use Rattle.pages_copy.proofs.Copying.{left_on, gone}
 
+-- a difference of 32 bits, which wraps; the number that was taken off gives the first back
+abbrev pub sub32 : ℕ → ℕ → ℕ
+sub32 a b = (a + (2 ^ 32 - b)) % 2 ^ 32
+
+pub sub32_back : (a b : ℕ) → a < 2 ^ 32 → b < 2 ^ 32 → (sub32 a b + b) % 2 ^ 32 ≡ a
+sub32_back a b h k = omega arith
+
 -- none
 pub none-further : (f : Cursor → Cursor) (k : Coder) (c : Cursor) (e : Encoder) (left : ℕ) (d : List ℕ) → Further f k c e left d (record { c = c; e = e }) d
 none-further f k c e left d =

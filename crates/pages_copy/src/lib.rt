@@ -18,7 +18,6 @@ use parts::encode::left_after;
 use parts::walk::{Walk, along_run, stretch};
 use parts::{Cursor, Encoder};
 use rises::pairs::copy_pairs;
-use std::num::wrapping_sub_u32;
 use wire::get_pair;
 
 // How many runs behind the cursor's are in its page, at most `room`; 0 where the cursor is not at the end of its run.
@@ -28,24 +27,9 @@ fn runs_behind(v: View, c: Cursor, room: u32) -> u32
     if c.at != c.last {
         return 0;
     }
-    if v.step <= c.used {
-        return 0;
-    }
-    if v.seconds <= c.next {
-        return 0;
-    }
-    let page = v.step - c.used;
-    let runs = v.seconds - c.next;
-    if page < room {
-        if page < runs {
-            return page;
-        }
-        return runs;
-    }
-    if runs < room {
-        return runs;
-    }
-    room
+    let page = v.step.saturating_sub(c.used);
+    let runs = v.seconds.saturating_sub(c.next);
+    page.min(runs).min(room)
 }
 
 // Cursor and encoder m runs further in their pages; so many cells and ranks are in these, and the new page takes `left` more entries.
@@ -95,8 +79,8 @@ fn put_page(
         return Walk { c, e };
     }
     let end = e.last + 1;
-    let first = wrapping_sub_u32(end - e.cells, x.first);
-    let second = wrapping_sub_u32(end - e.rank - e.empty, x.second);
+    let first = (end - e.cells).wrapping_sub(x.first);
+    let second = (end - e.rank - e.empty).wrapping_sub(x.second);
     copy_pairs(dst, e.second, file, at, m as usize, first, second);
     run_on(c, e, cells, ranks, m, room - (m - 1))
 }

@@ -1,6 +1,7 @@
 -- A stretch of cells within a run, its positions filled at once: the same cursor and positions as by single steps. Assumes nothing.
-use Rattle.std.proofs.Common.{◌≡◌, ℕ, zero, suc, ◌+◌, ◌-◌, ◌^◌, ◌<◌, ◌≤◌, leb, List, [], ◌∷◌, ◌++◌, length, take, set, sym, refl, ap, ◌∙◌, append_assoc, append-nil, add-zero, arith, length-set, take-suc-set, leb-false, leb-true}
-use lib.Seq.{take-set-le}
+use Rattle.std.proofs.Common.{◌≡◌, ℕ, zero, suc, ◌+◌, ◌-◌, ◌^◌, ◌<◌, ◌≤◌, leb, List, [], ◌∷◌, ◌++◌, length, take, set, sym, refl, ap, ◌∙◌, append_assoc, append-nil, add-zero, zero-add, arith, length-set, length-take, length-drop, take-suc-set, leb-false, leb-true}
+use lib.Seq.{take-set-le, length-take-le, take-append-add, take-append-le}
+use borrow.Rule.Slice.PartMut.{mid_of, post_of, put_mid, same_len_mid}
 use Rattle.format.specs.Tools.{range}
 use Rattle.laws.proofs.Tools.{cases, range_snoc}
 use Rattle.parts.specs.declared.Cursor.{Cursor}
@@ -41,6 +42,22 @@ fill_turn p from t q before out h e x = record { size = length-set out (from + t
 
 pub fill_less : (p from m n : ℕ) (before after : List ℕ) → m ≤ n → Filled p from n before after → Filled p from m before after
 fill_less p from m n before after h x = record { size = x.size; front = λ k l w. x.front k (omega arith) w }
+
+-- a part of a buffer, put back at its place: k is how long it is
+pub fill_part : (p from n k : ℕ) (before ys : List ℕ) → k ≡ n → from + n ≤ length before → Filled p 0 n (mid_of from k before) ys
+    → Filled p from n before (put_mid from k before ys)
+fill_part p from n k before ys e h x =
+    record { size = same_len_mid from k before ys x.size; front = front }
+  where
+    long : length ys ≡ n
+    long = x.size ∙ simp (length-take, length-drop) (omega arith)
+
+    front : (m : ℕ) → m ≤ n → p + m ≤ 2 ^ 32 → take (from + m) (put_mid from k before ys) ≡ take from before ++ range p m
+    front m l w =
+        let a : length (take from before) ≡ from = length-take-le from before (omega arith) in
+        let b : take m ys ≡ range p m = rw (zero-add m) at (x.front m l w) in
+        rw a at (take-append-add (take from before) (ys ++ post_of from k before) m)
+        ∙ ap (λ (r : List ℕ). take from before ++ r) (take-append-le m ys (post_of from k before) (rw long l) ∙ b)
 
 -- ---- a turn
 

@@ -1,5 +1,6 @@
 -- A search for the last number that is at most x, by counts: one turn, and its end. Assumes nothing.
 use Rattle.std.proofs.Common.{◌≡◌, ℕ, zero, suc, ◌+◌, ◌-◌, ◌*◌, ◌/◌, ◌<◌, ◌≤◌, Bool, true, false, leb, List, length, sym, refl, ap, ◌∙◌, ⊎_elim, true≢false, mul_assoc, eq-or-lt_of_le, mul-le-mul_left, mul-zero, mul-suc, add-one, arith, le-leb, leb-false, leb-true}
+use Rattle.std.specs.Int.{from_bool}
 use Rattle.format.specs.Tools.{pick}
 use Rattle.laws.proofs.Tools.{cases}
 use Rattle.wire.specs.Wire.{whole}
@@ -19,6 +20,11 @@ passing-none t = refl
 
 pub passing-next : (t : ℕ → Bool) (n m : ℕ) → m ≡ pick (t (n + 1)) 1 0 → passing t n + m ≡ passing t (n + 1)
 passing-next t n m h = rw (h, add-one n) (unfold passing in refl)
+
+-- a test as a number
+pub picked : (t : Bool) (n : ℕ) → n ≡ from_bool t → (n ≡ pick t 1 0) × (n ≤ 1)
+picked true n e = rw e (refl, omega arith)
+picked false n e = rw e (refl, omega arith)
 
 -- the tests 1 to c pass, and those after them up to n fail
 record Upto (t : ℕ → Bool) (n c : ℕ) : Type 0 where

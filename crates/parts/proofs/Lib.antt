@@ -19,3 +19,4 @@ pub mod Carried
 pub mod Last
 pub mod Places
 pub mod Seen
+pub mod Sizing

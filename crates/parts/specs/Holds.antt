@@ -1,5 +1,5 @@
 -- The two parts of a file as a kind's code is told of them, by a view: where they stand, and the stored positions that they hold. Assumes nothing.
-use Rattle.std.specs.Prelude.{◌≡◌, ℕ, suc, ◌+◌, ◌^◌, ◌<◌, ◌≤◌, Bool, true, false, not, List, [], ◌∷◌, length, take, drop, ◌==◌, nat_le, nat_lt}
+use Rattle.std.specs.Prelude.{◌≡◌, ℕ, suc, ◌+◌, ◌^◌, ◌<◌, ◌≤◌, Bool, true, false, not, List, [], ◌∷◌, length, take, drop, ◌==◌, nat_le, nat_lt, Option, MatchOption}
 use Rattle.format.specs.declared.View.{View}
 use Rattle.format.specs.Tools.{both, same}
 use Rattle.format.specs.Picture.{most_cells}
@@ -26,13 +26,17 @@ pub record Counted (k : Codec) (b : List ℕ) (v : View) : Type 0 where
   pub second : v.second ≡ v.start + first_bytes k v
   pub inside : v.second + second_bytes k v ≤ length b
 
--- what is measured of a header's counts: whether they are the kind's, and then the bytes of each part
-pub record Sized (k : Codec) (v : View) (r : PartBytes) : Type 0 where
-  pub right : r.right ≡ k.counts v.cells v.words v.firsts v.seconds
-  pub first : r.right ≡ true → r.first ≡ first_bytes k v
-  pub second : r.right ≡ true → r.second ≡ second_bytes k v
-  pub first-most : r.first < 2 ^ 40
-  pub second-most : r.second < 2 ^ 40
+-- the counts are the kind's, and these are the bytes of each part
+pub record PartSizes (k : Codec) (v : View) (p : PartBytes) : Type 0 where
+  pub right : k.counts v.cells v.words v.firsts v.seconds ≡ true
+  pub first : p.first ≡ first_bytes k v
+  pub second : p.second ≡ second_bytes k v
+  pub first-most : p.first < 2 ^ 40
+  pub second-most : p.second < 2 ^ 40
+
+-- what is measured of a header's counts: the bytes of each part, where the counts are the kind's, and nothing where they are not
+abbrev pub Sized : Codec → View → Option PartBytes → Type 0
+Sized k v r = MatchOption r (k.counts v.cells v.words v.firsts v.seconds ≡ false) (λ p. PartSizes k v p)
 
 -- the stored positions that the parts say
 unfoldable pub said : Codec → List ℕ → View → List ℕ

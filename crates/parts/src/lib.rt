@@ -6,7 +6,8 @@ pub mod encode;
 pub mod search;
 pub mod walk;
 
-// Where a position stands among the stored ones: how many are below it, and whether it is one of them.
+// Where a position stands among the stored ones: how many are below it, and whether it is one of them. The number holds in both cases, and is read without
+// asking which.
 #[derive(Clone, Copy)]
 pub struct Found {
     pub below: u32,
@@ -20,10 +21,9 @@ pub struct RunPart {
     pub cells: u32,
 }
 
-// Whether the entry counts are the kind's, and the bytes of each part by them.
+// The bytes of each part, by the entry counts.
 #[derive(Clone, Copy)]
 pub struct PartBytes {
-    pub right: bool,
     pub first: usize,
     pub second: usize,
 }
@@ -62,7 +62,7 @@ pub struct Encoder {
     // where the next entry of each part goes
     pub first: usize,
     pub second: usize,
-    // kind 3: each offset so far is at most 256^w - 1
+    // kind 3: each offset so far is at most 256^w - 1, gathered without a branch
     pub fits: bool,
 }
 

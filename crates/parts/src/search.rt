@@ -10,7 +10,7 @@ use wire::get_u32;
 pub fn counted(y: u32, x: u32) -> usize
     ensures { (result ≡ pick (nat_le y x) 1 0) × (result ≤ 1) }
 {
-    if y <= x { 1 } else { 0 }
+    usize::from(y <= x)
 }
 
 // How many of the numbers of 4 bytes at one stride from an offset, at two, and so on up to n strides, are at most x.
@@ -19,10 +19,8 @@ fn at_most(file: &[u8], at: usize, stride: usize, n: usize, x: u32) -> usize
     ensures { (result ≡ passing (λ i. leb (whole 4 (at + stride * i) file.now) x) n) × (result ≤ n) }
 {
     let mut count: usize = 0;
-    let mut i: usize = 0;
-    while i < n {
-        i += 1;
-        count += counted(get_u32(file, at + stride * i), x);
+    for i in 0..n {
+        count += counted(get_u32(file, at + stride * (i + 1)), x);
     }
     count
 }

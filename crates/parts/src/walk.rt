@@ -5,7 +5,6 @@ ghost use Rattle.parts.specs.Stretch.{Filled, Stretch};
 
 use super::{Cursor, Encoder};
 use format::View;
-use std::num::wrapping_add_u32;
 use wire::{load_u8, load_u16};
 
 // Where a walk along the ranks of a file into an encoder stands.
@@ -47,35 +46,19 @@ pub fn entry_of(file: &[u8], v: View, rank: u32) -> u32
 pub fn stretch(c: Cursor, left: u32) -> u32
     ensures { (result ≤ left) × (0 < left → 0 < result) × (1 < result → c.at + result ≤ c.last + 1) }
 {
-    if left <= 1 {
-        return left;
+    if left == 0 {
+        return 0;
     }
-    if c.last <= c.at {
-        return 1;
-    }
-    if c.last - c.at < left - 1 {
-        return c.last - c.at + 1;
-    }
-    left
+    (left - 1).min(c.last.saturating_sub(c.at)) + 1
 }
 
 // The cursor k cells further in its run.
 pub fn along_run(mut c: Cursor, k: u32) -> Cursor
     ensures { result ≡ along_by k c }
 {
-    c.rank = wrapping_add_u32(c.rank, k);
-    c.at = wrapping_add_u32(c.at, k);
+    c.rank = c.rank.wrapping_add(k);
+    c.at = c.at.wrapping_add(k);
     c
-}
-
-// The cells from the cursor to the end of its run; 1 where it stands past the end.
-fn cells_ahead(c: Cursor) -> usize
-    ensures { (1 ≤ result) × (result ≤ 1 + (c.last - c.at)) × (c.at + result ≤ 2 ^ 32) }
-{
-    if c.at < c.last {
-        return (c.last - c.at) as usize + 1;
-    }
-    1
 }
 
 // n consecutive positions from p on, in the elements from an index on.
@@ -84,32 +67,25 @@ fn fill_from(out: &mut [u32], from: usize, n: usize, p: u32)
     ensures { Filled p from n out.old out.new }
 {
     let mut q = p;
-    let mut t: usize = 0;
-    while t < n {
-        out[from + t] = q;
-        q = wrapping_add_u32(q, 1);
-        t += 1;
+    for x in &mut out[from..from + n] {
+        *x = q;
+        q = q.wrapping_add(1);
     }
 }
 
-// The positions from the cursor to the end of its run, as far as there is room, and how many they are. A short run fills 8 elements, without a
-// branch on its length: those past it are for the next run.
+// The positions from the cursor to the end of its run, as far as there is room, and how many they are; that of the cursor alone where it stands past
+// the end. A short run fills 8 elements, without a branch on its length: those past it are for the next run.
 pub fn fill_run(out: &mut [u32], from: usize, c: Cursor) -> usize
     requires { 1 + from ≤ length out.old }
     ensures { Stretch c from result out.old out.new }
 {
     let left = out.len() - from;
-    let m = cells_ahead(c);
-    if m <= 8 {
-        if 8 <= left {
-            fill_from(out, from, 8, c.at);
-            return m;
-        }
+    let cells = c.last.saturating_sub(c.at) as usize + 1;
+    if cells <= 8 && 8 <= left {
+        fill_from(out, from, 8, c.at);
+        return cells;
     }
-    if left < m {
-        fill_from(out, from, left, c.at);
-        return left;
-    }
+    let m = cells.min(left);
     fill_from(out, from, m, c.at);
     m
 }
@@ -118,8 +94,5 @@ pub fn fill_run(out: &mut [u32], from: usize, c: Cursor) -> usize
 pub fn batch_of(left: u32) -> usize
     ensures { (result ≤ left) × (result ≤ 512) × (0 < left → 0 < result) }
 {
-    if left < 512 {
-        return left as usize;
-    }
-    512
+    left.min(512) as usize
 }

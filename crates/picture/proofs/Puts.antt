@@ -20,7 +20,7 @@ use Rattle.parts.specs.Batch.{put_all_by, Along}
 use Rattle.kinds.specs.Coding.{coder, taken_all, firsts, seconds, added_first, added_second, Apart}
 use Rattle.kinds.proofs.Driving.{rank-added, room-first-all, room-second-all, apart_added, put_turn_all}
 use Rattle.picture.specs.Chunk.{put_chunk, ChunkRoom}
-use Rattle.picture.proofs.Chunks.{left, chunk, listed, Cut, left-none, along-begun, stored_cut, kept-cut, along_chunk, along-left}
+use Rattle.picture.proofs.Chunks.{left, chunk, listed, left-none, along-begun, stored_cut, kept-cut, along_chunk, along-left}
 
 -- d with the bytes of the positions ls and of the end, and with the words vs after those put out before
 abbrev pub put_rest : Setting → List ℕ → Encoder → List ℕ → ℕ → List ℕ → List ℕ
@@ -46,65 +46,65 @@ module _ (s : Setting) (E : ℕ) (ws : List ℕ) (place n : ℕ) where
   put-begun f g d = rw add-zero
 
   -- a chunk
-  module _ (e : Encoder) (at end : ℕ) (z : Cut (length ws) at end) (g : Going s E ws place n e at) where
-    apart_cut : (v : ℕ) → place ≤ v → Apart s e (listed E ws at end ++ left E ws end) v
+  module _ (e : Encoder) (at : ℕ) (g : Going s E ws place n e at) where
+    apart_cut : (v : ℕ) → place ≤ v → Apart s e (listed E ws at ++ left E ws (at + 1024)) v
     apart_cut v h =
         let k = g.apart.second in
         let a : Apart s e (left E ws at) v = record { first = g.apart.first; second = omega arith } in
-        rw (← stored_cut E ws at end z) a
+        rw (← stored_cut E ws at) a
 
-    length_cut : length (kept E (drop at ws)) ≡ length (listed E ws at end) + length (kept E (drop end ws))
+    length_cut : length (kept E (drop at ws)) ≡ length (listed E ws at) + length (kept E (drop (at + 1024) ws))
     length_cut =
-        ap length (kept-cut E ws at end z) ∙ length-append (kept E (chunk ws at end)) (kept E (drop end ws))
-        ∙ rw (length-stored E at (chunk ws at end))
+        ap length (kept-cut E ws at) ∙ length-append (kept E (chunk ws at)) (kept E (drop (at + 1024) ws))
+        ∙ rw (length-stored E at (chunk ws at))
 
-    pub room_chunk : ChunkRoom s e (listed E ws at end) (place + 4 * e.rank) n
+    pub room_chunk : ChunkRoom s e (listed E ws at) (place + 4 * e.rank) n
     unfolding added_first added_second
     room_chunk =
         let a = apart_cut place (omega arith) in
         let r = g.room in
         let l = length_cut in
         record {
-          along = along_chunk E ws at end z e g.along;
+          along = along_chunk E ws at e g.along;
           room =
               record {
-                first = room-first-all s e (listed E ws at end) (left E ws end) place a;
-                second = room-second-all s e (listed E ws at end) (left E ws end) place a n (omega arith);
+                first = room-first-all s e (listed E ws at) (left E ws (at + 1024)) place a;
+                second = room-second-all s e (listed E ws at) (left E ws (at + 1024)) place a n (omega arith);
               };
           words = omega arith;
         }
 
-    pub going_next : setting_allowed s ≡ true → Going s E ws place n (taken_all s e (listed E ws at end)) end
+    pub going_next : setting_allowed s ≡ true → Going s E ws place n (taken_all s e (listed E ws at)) (at + 1024)
     going_next t =
         let r = g.room in
         let l = length_cut in
-        let k = rank-added s e (listed E ws at end) in
+        let k = rank-added s e (listed E ws at) in
         record {
-          along = along-left E ws at end z s e t g.along;
-          apart = apart_added s e (listed E ws at end) (left E ws end) place (apart_cut place (omega arith));
+          along = along-left E ws at s e t g.along;
+          apart = apart_added s e (listed E ws at) (left E ws (at + 1024)) place (apart_cut place (omega arith));
           room = omega arith;
         }
 
     pub put_next : (d : List ℕ)
-        → put_rest s (put_chunk s d e (listed E ws at end) (place + 4 * e.rank) (kept E (chunk ws at end)))
-        (taken_all s e (listed E ws at end)) (left E ws end) place (kept E (drop end ws))
+        → put_rest s (put_chunk s d e (listed E ws at) (place + 4 * e.rank) (kept E (chunk ws at)))
+        (taken_all s e (listed E ws at)) (left E ws (at + 1024)) place (kept E (drop (at + 1024) ws))
         ≡ put_rest s d e (left E ws at) place (kept E (drop at ws))
     unfolding put_chunk put_all_by added_first added_second
     put_next d =
-        let xs : List ℕ = listed E ws at end in
-        let ys : List ℕ = left E ws end in
+        let xs : List ℕ = listed E ws at in
+        let ys : List ℕ = left E ws (at + 1024) in
         let t : Encoder = taken_all s e xs in
         let v : ℕ = place + 4 * e.rank in
-        let b : List ℕ = put_chunk s d e xs v (kept E (chunk ws at end)) in
-        let cells : bytes_of 4 (kept E (drop at ws)) ≡ bytes_of 4 (kept E (chunk ws at end)) ++ bytes_of 4 (kept E (drop end ws))
-        = ap (bytes_of 4) (kept-cut E ws at end z) ∙ bytes-append 4 (kept E (chunk ws at end)) (kept E (drop end ws)) in
-        let l = length-bytes_of 4 (kept E (chunk ws at end)) in
-        let m = length-stored E at (chunk ws at end) in
+        let b : List ℕ = put_chunk s d e xs v (kept E (chunk ws at)) in
+        let cells : bytes_of 4 (kept E (drop at ws)) ≡ bytes_of 4 (kept E (chunk ws at)) ++ bytes_of 4 (kept E (drop (at + 1024) ws))
+        = ap (bytes_of 4) (kept-cut E ws at) ∙ bytes-append 4 (kept E (chunk ws at)) (kept E (drop (at + 1024) ws)) in
+        let l = length-bytes_of 4 (kept E (chunk ws at)) in
+        let m = length-stored E at (chunk ws at) in
         let k = rank-added s e xs in
-        let to : v + length (bytes_of 4 (kept E (chunk ws at end))) ≡ place + 4 * t.rank = omega arith in
-        sym (ap₂ (λ (ls vs : List ℕ). put (put (put d e.first (firsts s e ls)) e.second (seconds s e ls)) v vs) (stored_cut E ws at end z) cells
-        ∙ put_turn_all s e xs ys v (apart_cut v (omega arith)) d (bytes_of 4 (kept E (chunk ws at end))) (bytes_of 4 (kept E (drop end ws)))
-        ∙ ap (λ (p : ℕ). put (put (put b t.first (firsts s t ys)) t.second (seconds s t ys)) p (bytes_of 4 (kept E (drop end ws)))) to)
+        let to : v + length (bytes_of 4 (kept E (chunk ws at))) ≡ place + 4 * t.rank = omega arith in
+        sym (ap₂ (λ (ls vs : List ℕ). put (put (put d e.first (firsts s e ls)) e.second (seconds s e ls)) v vs) (stored_cut E ws at) cells
+        ∙ put_turn_all s e xs ys v (apart_cut v (omega arith)) d (bytes_of 4 (kept E (chunk ws at))) (bytes_of 4 (kept E (drop (at + 1024) ws)))
+        ∙ ap (λ (p : ℕ). put (put (put b t.first (firsts s t ys)) t.second (seconds s t ys)) p (bytes_of 4 (kept E (drop (at + 1024) ws)))) to)
 
   -- after the last cell
   module _ (e : Encoder) (at : ℕ) (h : length ws ≤ at) where

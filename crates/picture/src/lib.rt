@@ -1,7 +1,7 @@
 // A picture's lent words, chunk by chunk: measured, and put out.
 #![tactic(auto)]
 
-ghost use Rattle.std.specs.Prelude.{◌≡◌, true, ◌⊎◌, ◌+◌, ◌*◌, ◌≤◌, min, length};
+ghost use Rattle.std.specs.Prelude.{◌≡◌, true, ◌⊎◌, ◌+◌, ◌*◌, ◌≤◌, Some, length};
 ghost use Rattle.format.specs.Kinds.{setting_allowed};
 ghost use Rattle.format.specs.Bytes.{bytes_of};
 ghost use Rattle.format.specs.Stored.{stored_from, stored, kept};
@@ -14,24 +14,16 @@ ghost use Rattle.layout.specs.Laid.{Measures};
 ghost use Rattle.picture.specs.Chunk.{put_chunk, ChunkRoom};
 
 use format::Setting;
-use kinds::Measured;
 use kinds::coding::{finish, put_all, sized_by_ranks, take_all};
 use kinds::steps::stores_runs;
 use layout::{by_counts, measured};
-use parts::Encoder;
 use parts::encode::begin;
+use parts::{Encoder, Sizes};
 use stored_cells::tally::count_cells;
 use stored_cells::{put_kept, stored_cells};
 
 // The cells of a chunk, at most.
 const CHUNK: usize = 1024;
-
-// The lesser of two numbers.
-fn lesser(x: usize, y: usize) -> usize
-    ensures { result ≡ min x y }
-{
-    if x < y { x } else { y }
-}
 
 // The encoder after the stored cells of a chunk, of which the first stands at position `at`.
 fn measure_chunk(
@@ -51,41 +43,37 @@ fn measure_chunk(
 }
 
 // What the file of the words measures, along its stored positions.
-fn measure_along(words: &[u32], empty: u32, s: Setting) -> Measured
+fn measure_along(words: &[u32], empty: u32, s: Setting) -> Option<Sizes>
     requires { (setting_allowed s ≡ true) × (length words.now ≤ 16777216) }
     ensures { Measures s (length words.now) (stored empty words.now) result }
 {
     let mut batch = [0u32; CHUNK];
     let mut e = begin(0, 0);
-    let mut at: usize = 0;
-    while at < words.len() {
-        let end = lesser(at + CHUNK, words.len());
-        let chunk = &words[at..end];
-        e = measure_chunk(chunk, at as u32, empty, s, e, &mut batch);
-        at = end;
+    for (i, chunk) in words.chunks(CHUNK).enumerate() {
+        e = measure_chunk(chunk, (CHUNK * i) as u32, empty, s, e, &mut batch);
     }
     measured(s, e)
 }
 
-// What the file of the words measures, in a kind whose sizes follow from the stored cells and their runs.
-fn measure_counted(words: &[u32], empty: u32, s: Setting) -> Measured
+// The sizes of the file of the words, in a kind where they follow from the stored cells and their runs.
+fn measure_counted(words: &[u32], empty: u32, s: Setting) -> Sizes
     requires { (setting_allowed s ≡ true) × (length words.now ≤ 16777216) × (sized_by_ranks s.kind ⊎ stores_runs s.kind) }
-    ensures { Measures s (length words.now) (stored empty words.now) result }
+    ensures { Measures s (length words.now) (stored empty words.now) (Some result) }
 {
     let n = count_cells(words, empty);
     by_counts(s, n.stored, n.runs)
 }
 
 // What the file of the words measures, with nothing put out.
-pub fn measure(words: &[u32], empty: u32, s: Setting) -> Measured
+pub fn measure(words: &[u32], empty: u32, s: Setting) -> Option<Sizes>
     requires { (setting_allowed s ≡ true) × (length words.now ≤ 16777216) }
     ensures { Measures s (length words.now) (stored empty words.now) result }
 {
     if sized_by_ranks(s.kind) {
-        return measure_counted(words, empty, s);
+        return Some(measure_counted(words, empty, s));
     }
     if stores_runs(s.kind) {
-        return measure_counted(words, empty, s);
+        return Some(measure_counted(words, empty, s));
     }
     measure_along(words, empty, s)
 }
@@ -132,12 +120,17 @@ pub fn put_out(
 {
     let mut batch = [0u32; CHUNK];
     let mut e = begin(start, second);
-    let mut at: usize = 0;
-    while at < words.len() {
-        let next = lesser(at + CHUNK, words.len());
-        let chunk = &words[at..next];
-        e = put_chunk(dst, chunk, at as u32, empty, s, e, place, &mut batch);
-        at = next;
+    for (i, part) in words.chunks(CHUNK).enumerate() {
+        e = put_chunk(
+            dst,
+            part,
+            (CHUNK * i) as u32,
+            empty,
+            s,
+            e,
+            place,
+            &mut batch,
+        );
     }
     finish(dst, s, e);
 }

@@ -26,30 +26,26 @@ fn pass(file: &[u8], v: View, width: u32, reach: usize) -> bool
     let mut s = Passed {
         least: 0,
         left: jumps,
-        right: true,
     };
     let mut rank: usize = 0;
-    let mut k: usize = 0;
-    while k < count {
+    for k in 0..count {
         let next = get_u32(file, pointers + 4 * k) as usize;
         if next < rank || words <= next {
             return false;
         }
-        s = pass_span(file, second, width, reach, rank, next, s);
-        if !s.right || s.left + k * step != jumps {
+        let Some(t) = pass_span(file, second, width, reach, rank, next, s) else {
+            return false;
+        };
+        if t.left + k * step != jumps || difference(file, second, next, width) != 0 {
             return false;
         }
-        if difference(file, second, next, width) != 0 {
-            return false;
-        }
+        s = t;
         rank = next;
-        k += 1;
     }
-    s = pass_span(file, second, width, reach, rank, words, s);
-    if !s.right || s.left != 0 {
+    let Some(end) = pass_span(file, second, width, reach, rank, words, s) else {
         return false;
-    }
-    s.least < v.cells as usize + reach
+    };
+    end.left == 0 && end.least < v.cells as usize + reach
 }
 
 // The parts are those of rising positions below cells, as many as the words, with the pointers of their jumps.

@@ -58,10 +58,8 @@ pub fn put_derived(dst: &mut [u8], width: u32, step: u32, z: Sizes, start: usize
     let last = z.words as usize - 1;
     put_u32(dst, at, 0);
     let mut rank: usize = 0;
-    let mut k: usize = 1;
-    while k < count {
-        rank = jump_after(&dst[..], second, width, rank, step as usize, last);
+    for k in 1..count {
+        rank = jump_after(dst, second, width, rank, step as usize, last);
         put_u32(dst, at + 4 * k, rank as u32);
-        k += 1;
     }
 }

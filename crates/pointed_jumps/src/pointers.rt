@@ -7,7 +7,7 @@ pub fn pointer_count(jumps: u32, step: u32) -> u32
     requires { 1 ≤ step }
     ensures { (result ≡ up_to jumps step) × (result ≤ jumps) }
 {
-    ((jumps as u64 + (step as u64 - 1)) / step as u64) as u32
+    jumps.div_ceil(step)
 }
 
 // The place of the pointers, where there are so many words.

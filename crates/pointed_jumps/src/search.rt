@@ -7,13 +7,12 @@ ghost use Rattle.pointed_jumps.specs.Search.{Searchable, AtJump, Placed, OfJump}
 
 use super::pointers::{pointer_count, pointers_at};
 use differences::after::jump_after;
-use differences::walk::{NO_TARGET, Place, Reached, walk};
+use differences::walk::{Place, Reached, walk};
 use format::{Position, Rank, View};
 use jump_walk::search::{first_place, seek_from};
 use parts::Found;
 use parts::search::last_at_most;
 use wire::load_u32;
-use wire::numbers::lesser;
 
 // Whether there are ranks, jumps and pointers to search, and the differences lie in the file. The width is 1 or 2.
 fn searchable(file: &[u8], v: View, width: u32) -> bool
@@ -54,7 +53,7 @@ fn jump_place(file: &[u8], v: View, width: u32, j: u32) -> Place
     let pointers = pointers_at(second, width, v.words);
     let pointer = load_u32(file, pointers + 4 * k as usize) as usize;
     let between = (j - k * v.step) as usize;
-    let rank = jump_after(file, second, width, lesser(pointer, last), between, last);
+    let rank = jump_after(file, second, width, pointer.min(last), between, last);
     at_jump(file, v, rank, j, last)
 }
 
@@ -101,7 +100,7 @@ fn seek_position(file: &[u8], v: View, width: u32, rank: u32) -> u64
         width,
         from,
         rank as usize,
-        NO_TARGET,
+        None,
     );
     place.reached.position as u64
 }

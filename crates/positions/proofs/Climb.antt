@@ -1,5 +1,5 @@
 -- Rising numbers, tested step by step: each is above the one before, and the last is below the bound. Assumes nothing.
-use Rattle.std.proofs.Common.{◌≡◌, ℕ, suc, ◌+◌, ◌-◌, ◌<◌, ◌≤◌, Bool, true, false, ◌&&◌, ltb, leb, List, [], ◌∷◌, drop, sym, refl, arith, ltb-false, ltb-true, le-leb, leb-true}
+use Rattle.std.proofs.Common.{◌≡◌, ℕ, suc, ◌+◌, ◌-◌, ◌*◌, ◌<◌, ◌≤◌, Bool, true, false, ◌&&◌, ltb, leb, List, [], ◌∷◌, drop, sym, refl, arith, ltb-false, ltb-true, le-leb, leb-true}
 use borrow.Author.Tests.{lt-leb}
 use Rattle.format.specs.Tools.{both}
 use Rattle.format.specs.Bytes.{field, numbers_of}
@@ -33,18 +33,22 @@ pub rises-none : (w B n : ℕ) (b : List ℕ) → n ≡ 0 → rises 0 B (numbers
 unfolding rises
 rises-none w B n b h = rw (numbers-end w n b (omega arith))
 
--- ---- a loop along numbers of w bytes
+-- ---- a loop along n numbers of 4 bytes
 
-pub climb_first : (w n at B : ℕ) (b : List ℕ) → 0 < n
-    → climbs (suc (field w at b)) B (numbers_of w (n - 1) (drop (at + w) b)) ≡ climbs 0 B (numbers_of w n (drop at b))
+pub climb_first : (n at B : ℕ) (b : List ℕ) → 0 < n
+    → climbs (suc (field 4 at b)) B (numbers_of 4 (n - 1) (drop (at + 4) b)) ≡ climbs 0 B (numbers_of 4 n (drop at b))
 unfolding climbs
-climb_first w n at B b h = rw (numbers_turn w n at b h, le-leb 0 (field w at b) (omega arith))
+climb_first n at B b h = rw (numbers_turn 4 n at b h, le-leb 0 (field 4 at b) (omega arith))
 
-pub climb_turn : (w n at before B : ℕ) (b : List ℕ) (right : Bool) → 0 < n
-    → both (right && ltb before (field w at b)) (climbs (suc (field w at b)) B (numbers_of w (n - 1) (drop (at + w) b)))
-    ≡ both right (climbs (suc before) B (numbers_of w n (drop at b)))
+-- past the number after the first i
+pub climb_turn : (n at i before B : ℕ) (b : List ℕ) (right : Bool) → i < n
+    → both (right && ltb before (field 4 (at + 4 * i) b)) (climbs (suc (field 4 (at + 4 * i) b)) B (numbers_of 4 (n - (i + 1)) (drop (at + 4 * (i + 1)) b)))
+    ≡ both right (climbs (suc before) B (numbers_of 4 (n - i) (drop (at + 4 * i) b)))
 unfolding climbs
-climb_turn w n at before B b right h = rw (numbers_turn w n at b h) (both_and right (ltb before (field w at b)) _)
+climb_turn n at i before B b right h =
+    let m : n - (i + 1) ≡ n - i - 1 = omega arith in
+    let p : at + 4 * (i + 1) ≡ at + 4 * i + 4 = omega arith in
+    rw (m, p, numbers_turn 4 (n - i) (at + 4 * i) b (omega arith)) (both_and right (ltb before (field 4 (at + 4 * i) b)) _)
 
 pub climb_end : (w n before B : ℕ) (b : List ℕ) (right : Bool) → n ≤ 0 → right && ltb before B ≡ both right (climbs (suc before) B (numbers_of w n b))
 unfolding climbs

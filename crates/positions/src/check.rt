@@ -16,15 +16,11 @@ fn positions_rise(file: &[u8], at: usize, n: u32, cells: u32) -> bool
         return true;
     }
     let mut before = get_u32(file, at);
-    let mut place = at + 4;
-    let mut left = n - 1;
     let mut right = true;
-    while 0 < left {
-        let p = get_u32(file, place);
+    for i in 1..n {
+        let p = get_u32(file, at + 4 * i as usize);
         right = right & (before < p);
         before = p;
-        place += 4;
-        left -= 1;
     }
     right & (before < cells)
 }

@@ -1,8 +1,7 @@
 // Positions into the first part, 4 bytes each.
 ghost use Rattle.std.specs.Prelude.{◌≡◌, ◌+◌, ◌≤◌, true, length};
 ghost use Rattle.format.specs.Positions.{positions_kind};
-ghost use Rattle.parts.specs.Encoder.{taken_by, taken_all_by};
-ghost use Rattle.parts.specs.Ready.{Next, Room, put_by};
+ghost use Rattle.parts.specs.Encoder.{taken_all_by};
 ghost use Rattle.parts.specs.Batch.{Along, RoomAll, put_all_by};
 ghost use Rattle.positions.specs.Coding.{coder};
 
@@ -33,25 +32,15 @@ pub fn take_all(width: u32, step: u32, e: Encoder, ps: &[u32]) -> Encoder
     }
 }
 
-// One position put out; the encoder after it.
-fn put_one(dst: &mut [u8], width: u32, step: u32, e: Encoder, p: u32) -> Encoder
-    requires { Next e p × Room (coder width step) e p (length dst.old) }
-    ensures { (result ≡ taken_by (coder width step) e p) × (dst.new ≡ put_by (coder width step) dst.old e p) }
-{
-    put_u32(dst, e.first, p);
-    move_on(e, p, e.first + 4, e.second)
-}
-
 // The positions put out; the encoder after them.
 pub fn put_all(dst: &mut [u8], width: u32, step: u32, e: Encoder, ps: &[u32]) -> Encoder
     requires { ((positions_kind width step).allowed ≡ true) × Along e ps.now × RoomAll (coder width step) e ps.now (length dst.old) }
     ensures { (result ≡ taken_all_by (coder width step) e ps.now) × (dst.new ≡ put_all_by (coder width step) dst.old e ps.now) }
 {
     let mut at = e;
-    let mut i: usize = 0;
-    while i < ps.len() {
-        at = put_one(dst, width, step, at, ps[i]);
-        i += 1;
+    for &p in ps {
+        put_u32(dst, at.first, p);
+        at = move_on(at, p, at.first + 4, at.second);
     }
     at
 }

@@ -40,5 +40,5 @@ pub fn position_of(file: &[u8], v: View, r: Rank) -> u64
     ensures { PositionIn (positions_kind v.width v.step) file.now v r.0 result }
 {
     let rank = r.0;
-    load_u32(file, v.start as usize + 4 * (rank as usize)) as u64
+    u64::from(load_u32(file, v.start as usize + 4 * rank as usize))
 }

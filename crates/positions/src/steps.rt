@@ -5,14 +5,13 @@ ghost use Rattle.positions.specs.Steps.{next, There};
 
 use format::View;
 use parts::Cursor;
-use std::num::wrapping_add_u32;
 use wire::{get_u32, load_u32};
 
 // The next rank.
 pub fn next(file: &[u8], v: View, mut c: Cursor) -> Cursor
     ensures { result ≡ next file.now v c }
 {
-    c.rank = wrapping_add_u32(c.rank, 1);
+    c.rank = c.rank.wrapping_add(1);
     c.at = load_u32(file, v.start as usize + 4 * c.rank as usize);
     c
 }
@@ -42,10 +41,8 @@ fn along(file: &[u8], v: View, mut c: Cursor, out: &mut [u32]) -> Cursor
     }
     let place = v.start as usize + 4 * c.rank as usize;
     out[0] = c.at;
-    let mut i: usize = 1;
-    while i < n {
+    for i in 1..n {
         out[i] = get_u32(file, place + 4 * i);
-        i += 1;
     }
     c.rank += n as u32;
     c.at = get_u32(file, place + 4 * n);
@@ -59,11 +56,9 @@ pub fn positions(file: &[u8], v: View, mut c: Cursor, out: &mut [u32]) -> Cursor
     if all_there(file, v, c, out.len()) {
         return along(file, v, c, out);
     }
-    let mut i: usize = 0;
-    while i < out.len() {
-        out[i] = c.at;
+    for x in out.iter_mut() {
+        *x = c.at;
         c = next(file, v, c);
-        i += 1;
     }
     c
 }

@@ -13,38 +13,37 @@ use Rattle.format.specs.Calls.{expand_number, Expanded}
 use Rattle.format.specs.Lookups.{cell_in, rank_in, position_in, cell_answer, rank_answer, position_answer, CellFound, RankFound, PositionFound}
 use Rattle.parts.specs.Holds.{ViewOf}
 use Rattle.parts.proofs.Seen.{seen}
-use Rattle.checked.specs.Verdict.{Judged}
 use Rattle.search.specs.Searched.{CellSearched, RankSearched, PositionSearched}
 
 -- ---- lookups
 
-refuses : (m n : ℕ) (a : Answer) → n ≡ m → (n ≡ 0 → ⊥) → refused n ≡ answered m a
-refuses m zero a e h = absurd (h refl)
-refuses m (suc n) a e h = rw (← e)
+pub refuses : (m n : ℕ) (a : Answer) → n ≡ m → (m ≡ 0 → ⊥) → refused n ≡ answered m a
+refuses zero n a e h = absurd (h refl)
+refuses (suc m) n a e h = rw e
 
-gives : (m n : ℕ) (a : Answer) → n ≡ m → n ≡ 0 → a ≡ answered m a
-gives m n a e z = rw (← e, z)
-
-module _ (b : List ℕ) (n : ℕ) (v : View) (j : Judged b n v) (p : ℕ) where
-  module _ (h : n ≡ 0 → ⊥) where
+module _ (b : List ℕ) (p : ℕ) where
+  module _ (n : ℕ) (e : n ≡ check_number b) (h : check_number b ≡ 0 → ⊥) where
     pub cell-refused : CellFound b p (refused n)
-    cell-refused = record { said = unfold cell_answer in (refuses (check_number b) n (cell_in (words_of b) p) j.number h) }
+    cell-refused = record { said = unfold cell_answer in (refuses (check_number b) n (cell_in (words_of b) p) e h) }
 
     pub rank-refused : RankFound b p (refused n)
-    rank-refused = record { said = unfold rank_answer in (refuses (check_number b) n (rank_in (empty_of b) (words_of b) p) j.number h) }
+    rank-refused = record { said = unfold rank_answer in (refuses (check_number b) n (rank_in (empty_of b) (words_of b) p) e h) }
 
     pub position-refused : PositionFound b p (refused n)
-    position-refused = record { said = unfold position_answer in (refuses (check_number b) n (position_in (empty_of b) (words_of b) p) j.number h) }
+    position-refused = record { said = unfold position_answer in (refuses (check_number b) n (position_in (empty_of b) (words_of b) p) e h) }
 
-  module _ (z : n ≡ 0) (a : Answer) where
+  module _ (v : View) (o : ViewOf b v) (a : Answer) where
+    gives : a ≡ answered (check_number b) a
+    gives = rw o.accepted
+
     pub cell-found : CellSearched b v p a → CellFound b p a
-    cell-found s = record { said = unfold cell_answer in (s.right (j.view z) ∙ gives (check_number b) n (cell_in (words_of b) p) j.number z) }
+    cell-found s = record { said = unfold cell_answer in (rw (← s.right o) gives) }
 
     pub rank-found : RankSearched b v p a → RankFound b p a
-    rank-found s = record { said = unfold rank_answer in (s.right (j.view z) ∙ gives (check_number b) n (rank_in (empty_of b) (words_of b) p) j.number z) }
+    rank-found s = record { said = unfold rank_answer in (rw (← s.right o) gives) }
 
     pub position-found : PositionSearched b v p a → PositionFound b p a
-    position-found s = record { said = unfold position_answer in (s.right (j.view z) ∙ gives (check_number b) n (position_in (empty_of b) (words_of b) p) j.number z) }
+    position-found s = record { said = unfold position_answer in (rw (← s.right o) gives) }
 
 -- ---- expand
 

@@ -3,21 +3,17 @@ use Prim.Native.Nat.{ℕ, zero, suc, ◌≤◌, ◌<◌}
 use mathlib.Core.Path.{◌≡◌, refl, sym, ◌∙◌}
 use mathlib.Core.Bool.{true, false}
 use mathlib.Core.List.{List}
-use native.Mathlib.Omega.{arith}
 use lib.ListN.{length}
 use borrow.Author.Tests.{lt-ltb, le-ltb}
 use Rattle.format.specs.declared.Dimensions.{Dimensions}
-use Rattle.format.specs.Tools.{pick}
 use Rattle.format.specs.Signals.{BEYOND, SMALL}
 use Rattle.format.specs.Answers.{leaves}
-use Rattle.format.specs.Picture.{dimensions_allowed, most_dimensions}
+use Rattle.format.specs.Picture.{dimensions_allowed}
 use Rattle.format.specs.Accepted.{dimensions_of, check_number}
 use Rattle.format.specs.Opened.{view_of}
 use Rattle.format.specs.Box.{box_allowed, box_words, box_number, Boxed}
-use Rattle.laws.proofs.Tools.{cases}
 use Rattle.laws.proofs.Acceptance.{accepted, header-right}
 use Rattle.box_region.specs.Bounds.{box_count}
-use Rattle.box_region.proofs.Counted.{allowed_as, count-least}
 use Rattle.box_rows.proofs.Whole.{length_box_words}
 
 pub box_refused : (b low high before : List ℕ) (n : ℕ) → n ≡ check_number b → (n ≡ 0 → ⊥) → Boxed b low high before n before
@@ -29,23 +25,12 @@ box_refused b low high before (suc n) e h = record { number = rw (← e); left =
 pub dimensions-right : (b : List ℕ) (d : Dimensions) → check_number b ≡ 0 → d ≡ dimensions_of b → dimensions_allowed d ≡ true
 dimensions-right b d z e = rw e (header-right b (accepted b z).header).dims
 
-module _ (b low high before : List ℕ) (d : Dimensions) (count : ℕ) (right : check_number b ≡ 0) (e : d ≡ dimensions_of b)
-    (counts : count ≡ pick (box_allowed d low high) (box_count d.extents low high) 0) where
-  pub box_beyond : length low ≡ most_dimensions → length high ≡ most_dimensions → count ≡ 0 → Boxed b low high before BEYOND before
+module _ (b low high before : List ℕ) (d : Dimensions) (right : check_number b ≡ 0) (e : d ≡ dimensions_of b) where
+  pub box_beyond : box_allowed d low high ≡ false → Boxed b low high before BEYOND before
   unfolding box_number
-  box_beyond l h z =
-      let not-allowed : box_allowed d low high ≡ false
-      = cases (box_allowed d low high)
-      (λ a. let k = count-least d.extents low high (sym (allowed_as d low high l h) ∙ a) in let y = rw a at counts in absurd (omega arith)) (λ a. a) in
-      record { number = rw (right, ← e, not-allowed); left = refl }
+  box_beyond h = record { number = rw (right, ← e, h); left = refl }
 
-  module _ (some : count ≡ 0 → ⊥) where
-    pub allowed : box_allowed d low high ≡ true
-    allowed = cases (box_allowed d low high) (λ a. a) (λ a. absurd (some (rw a at counts)))
-
-    pub counted : count ≡ box_count d.extents low high
-    counted = rw allowed at counts
-
+  module _ (allowed : box_allowed d low high ≡ true) (count : ℕ) (counted : count ≡ box_count d.extents low high) where
     as_long : length (box_words b low high) ≡ count
     as_long = length_box_words b (view_of b) d low high (record { accepted = right; view = refl }) e ∙ sym counted
 

@@ -1,22 +1,19 @@
 // The words of a file, all cells in row order.
+ghost use Rattle.format.specs.Answers.{signal_of};
 ghost use Rattle.format.specs.Calls.{Expanded};
 
 use checked::check;
-use format::signals::SMALL;
+use format::Refusal;
 use scatter::expanded;
 
-// 0 with the words in the destination's first elements; 1 to 6, then 10.
-pub fn expand(file: &[u8], dst: &mut [u32]) -> u32
-    ensures { Expanded file.now dst.old result dst.new }
+// The words in the destination's first elements; refused with 1 to 6, then 10.
+pub fn expand(file: &[u8], dst: &mut [u32]) -> Result<(), Refusal>
+    ensures { Expanded file.now dst.old (signal_of result) dst.new }
 {
-    let found = check(file);
-    if found.number != 0 {
-        return found.number;
-    }
-    let v = found.view;
+    let v = check(file)?;
     if dst.len() < v.cells as usize {
-        return SMALL;
+        return Err(Refusal::Small);
     }
     expanded(file, v, dst);
-    0
+    Ok(())
 }

@@ -1,4 +1,4 @@
-// A file read: its number, the words of all cells, the three lookups and a box of words.
+// A file read: its check, the words of all cells, the three lookups and a box of words.
 #![tactic(auto)]
 
 pub mod boxes;

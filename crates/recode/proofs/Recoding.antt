@@ -5,6 +5,7 @@ use mathlib.Core.Bool.{true}
 use mathlib.Core.List.{List}
 use native.Mathlib.Omega.{arith}
 use lib.ListN.{length}
+use Rattle.std.specs.Prelude.{Option, Some}
 use Rattle.format.specs.declared.Dimensions.{Dimensions}
 use Rattle.format.specs.declared.Setting.{Setting}
 use Rattle.format.specs.declared.View.{View}
@@ -24,7 +25,6 @@ use Rattle.parts.specs.declared.Sizes.{Sizes}
 use Rattle.parts.specs.Holds.{ViewOf}
 use Rattle.parts.specs.Encoder.{begun}
 use Rattle.parts.proofs.Seen.{seen}
-use Rattle.kinds.specs.declared.Measured.{Measured}
 use Rattle.kinds.specs.Coding.{firsts, seconds, derived, Apart}
 use Rattle.layout.specs.Laid.{counts_in, Measures, out_of, Goes}
 use Rattle.layout.proofs.WholeFile.{laid_out, Laid, laid_out_lem, out-number, goes}
@@ -63,7 +63,7 @@ module _ (b : List ℕ) (v : View) (o : ViewOf b v) (x : Edit) (w : ℕ) where
 
 -- ---- measured
 
-module _ (b : List ℕ) (v : View) (o : ViewOf b v) (x : Edit) (w : ℕ) (r : Recodes b x w) (s : Setting) (a : setting_allowed s ≡ true) (m : Measured)
+module _ (b : List ℕ) (v : View) (o : ViewOf b v) (x : Edit) (w : ℕ) (r : Recodes b x w) (s : Setting) (a : setting_allowed s ≡ true) (m : Option Sizes)
     (k : Measures s v.cells (edited x (positions_of b)) m) where
   by_words : Measures s (length (ws b v o x w)) (stored (empty_of b) (ws b v o x w)) m
   by_words =
@@ -73,8 +73,8 @@ module _ (b : List ℕ) (v : View) (o : ViewOf b v) (x : Edit) (w : ℕ) (r : Re
   pub recode_number : (room n : ℕ) → n ≡ out_of m room → n ≡ out_number s (dimensions_of b) (empty_of b) (words_after b x w) room
   recode_number room n f = f ∙ out-number s a (dimensions_of b) (four b v o x w) (empty_of b) (ws b v o x w) (size b v o x w) (few b v o x w) m by_words room
 
-  pub recode_goes : (room : ℕ) → out_of m room ≡ 0 → Goes s (dimensions_of b) (empty_of b) (words_after b x w) m.sizes room
-  recode_goes room f = goes s a (dimensions_of b) (four b v o x w) (empty_of b) (ws b v o x w) (size b v o x w) (few b v o x w) m by_words room f
+  pub recode_goes : (room : ℕ) → out_of m room ≡ 0 → (z : Sizes) → m ≡ Some z → Goes s (dimensions_of b) (empty_of b) (words_after b x w) z room
+  recode_goes room f z e = goes s a (dimensions_of b) (four b v o x w) (empty_of b) (ws b v o x w) (size b v o x w) (few b v o x w) m by_words room f z e
 
 pub recode_refused : (b : List ℕ) (x : Edit) (w : ℕ) (s : Setting) (before : List ℕ) (n : ℕ)
     → n ≡ out_number s (dimensions_of b) (empty_of b) (words_after b x w) (length before) → (n ≡ 0 → ⊥) → Recoded b x w s before n before

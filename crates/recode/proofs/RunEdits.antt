@@ -1,7 +1,6 @@
 -- The runs of an accepted file's positions after an edit. Assumes nothing.
 use Prim.Native.Nat.{ℕ, zero, suc, ◌+◌, ◌-◌, ◌≤◌, ◌<◌}
 use mathlib.Core.Path.{◌≡◌, refl, sym, ap, subst, ◌∙◌}
-use mathlib.Core.Bool.{Bool, true, false}
 use mathlib.Core.List.{List, [], ◌∷◌, ◌++◌, append_assoc}
 use native.Mathlib.Numerals.{add-one}
 use native.Mathlib.Omega.{arith}
@@ -9,8 +8,10 @@ use lib.Arith.{lt_of_le-ne}
 use lib.ListN.{length, get_or, take, drop, take-append-drop, drop_of_length-le}
 use lib.Seq.{drop-cons, drop-drop}
 use borrow.Author.Tests.{eq-eqb, ne_eqb}
+use Rattle.std.specs.Prelude.{Option, Some}
+use Rattle.format.specs.declared.Position.{Position}
 use Rattle.format.specs.declared.View.{View}
-use Rattle.format.specs.Tools.{pick, Below}
+use Rattle.format.specs.Tools.{Below}
 use Rattle.format.specs.Runs.{runs}
 use Rattle.format.specs.Accepted.{positions_of}
 use Rattle.laws.proofs.Stored.{rising-length}
@@ -20,7 +21,7 @@ use Rattle.parts.proofs.Seen.{seen}
 use Rattle.kinds.specs.Steps.{stores_runs, runs_of}
 use Rattle.kinds.proofs.Counts.{run-count}
 use Rattle.edits.specs.declared.Edit.{Edit}
-use Rattle.edits.specs.Edit.{edited, left_out, EditOf}
+use Rattle.edits.specs.Edit.{position_in, edited, left_out, EditOf}
 use Rattle.recode.specs.RunCount.{begins, run_count, end_after, first_begins, joint}
 use Rattle.recode.proofs.RunCounts.{count_runs, count_replaced, end_take}
 use Rattle.rewrite.proofs.Three.{ranks-there, edit-below}
@@ -64,15 +65,14 @@ end_none k ls e = rw e
 
 -- ---- a cell and the rank behind it
 
-pub joint-there : (q p x y : ℕ) (t : Bool) (ys : List ℕ) → t ≡ true → x ≡ begins q p → y ≡ first_begins (p + 1) ys → x ≤ 1 → y ≤ 1
-    → (x + y ≡ joint q (pick t (p ∷ []) []) ys) × (x + y ≤ 2)
+pub joint-there : (q p x y : ℕ) (ys : List ℕ) → x ≡ begins q p → y ≡ first_begins (p + 1) ys → x ≤ 1 → y ≤ 1
+    → (x + y ≡ joint q (p ∷ []) ys) × (x + y ≤ 2)
 unfolding joint run_count end_after
-joint-there q p x y t ys e a b c d = (rw (e, a, b, add-one) (omega arith), omega arith)
+joint-there q p x y ys a b c d = (rw (a, b, add-one) (omega arith), omega arith)
 
-pub joint-none : (q p y : ℕ) (t : Bool) (ys : List ℕ) → t ≡ false → y ≡ first_begins q ys → y ≤ 1
-    → (y ≡ joint q (pick t (p ∷ []) []) ys) × (y ≤ 2)
+pub joint-none : (q y : ℕ) (ys : List ℕ) → y ≡ first_begins q ys → y ≤ 1 → (y ≡ joint q [] ys) × (y ≤ 2)
 unfolding joint run_count end_after
-joint-none q p y t ys e a b = (rw (e, a) (omega arith), omega arith)
+joint-none q y ys a b = (rw a (omega arith), omega arith)
 
 -- ---- the whole edit
 
@@ -84,14 +84,14 @@ below-back : (B : ℕ) (xs ys : List ℕ) → Below B (xs ++ ys) → Below B ys
 below-back B [] ys h = h
 below-back B (x ∷ xs) ys h = below-back B xs ys h.1
 
-pub put_small : (b : List ℕ) (v : View) → ViewOf b v → (x : Edit) → EditOf b x → x.put ≡ true → x.position < 16777216
+pub put_small : (b : List ℕ) (v : View) → ViewOf b v → (x : Edit) → EditOf b x → (p : Position) → x.added ≡ Some p → p.0 < 16777216
 unfolding edited
-put_small b v o x d e =
+put_small b v o x d p e =
     let ls = positions_of b in
-    let r : Below 16777216 (take x.before ls ++ (x.position ∷ []) ++ drop x.after ls)
-    = subst (λ (t : Bool). Below 16777216 (take x.before ls ++ pick t (x.position ∷ []) [] ++ drop x.after ls)) e
-    (below-rising 0 16777216 (take x.before ls ++ pick x.put (x.position ∷ []) [] ++ drop x.after ls) (edit-below b v o x d)) in
-    (below-back 16777216 (take x.before ls) (x.position ∷ []) (below-front 16777216 (take x.before ls ++ (x.position ∷ [])) (drop x.after ls) r)).0
+    let r : Below 16777216 (take x.before ls ++ (p.0 ∷ []) ++ drop x.after ls)
+    = subst (λ (t : Option Position). Below 16777216 (take x.before ls ++ position_in t ++ drop x.after ls)) e
+    (below-rising 0 16777216 (take x.before ls ++ position_in x.added ++ drop x.after ls) (edit-below b v o x d)) in
+    (below-back 16777216 (take x.before ls) (p.0 ∷ []) (below-front 16777216 (take x.before ls ++ (p.0 ∷ [])) (drop x.after ls) r)).0
 
 pub none_left : (x : Edit) (ls : List ℕ) → x.before ≡ x.after → [] ≡ left_out x ls
 none_left x ls e = let z : x.after - x.before ≡ 0 = omega arith in rw z
@@ -111,11 +111,11 @@ whole x ls h =
 
 pub runs-edited : (x : Edit) (ls : List ℕ) → x.before ≤ x.after → (total lost won : ℕ) → total ≡ length (runs ls)
     → lost ≡ joint (end_after 0 (take x.before ls)) (left_out x ls) (drop x.after ls)
-    → won ≡ joint (end_after 0 (take x.before ls)) (pick x.put (x.position ∷ []) []) (drop x.after ls)
+    → won ≡ joint (end_after 0 (take x.before ls)) (position_in x.added) (drop x.after ls)
     → total + won ≡ length (runs (edited x ls)) + lost
 unfolding edited
 runs-edited x ls h total lost won t l w =
-    let n = pick x.put (x.position ∷ []) [] in
+    let n = position_in x.added in
     let c = count_replaced (take x.before ls) (left_out x ls) n (drop x.after ls) in
     let d = ap (run_count 0) (whole x ls h) in
     let e = count_runs ls in
@@ -157,7 +157,7 @@ pub record RunsFound (R total lost won : ℕ) : Type 0 where
 pub runs-found : (b : List ℕ) (v : View) → ViewOf b v → (x : Edit) → EditOf b x → stores_runs v.kind → (total lost won q : ℕ)
     → total ≡ runs_of v → q ≡ end_after 0 (take x.before (positions_of b))
     → lost ≡ joint q (left_out x (positions_of b)) (drop x.after (positions_of b))
-    → won ≡ joint q (pick x.put (x.position ∷ []) []) (drop x.after (positions_of b))
+    → won ≡ joint q (position_in x.added) (drop x.after (positions_of b))
     → RunsFound (length (runs (edited x (positions_of b)))) total lost won
 runs-found b v o x d k total lost won q t e l w =
     let n = t ∙ run-count b v (positions_of b) (seen b v o).holds k in
@@ -168,7 +168,7 @@ runs-found b v o x d k total lost won q t e l w =
     let j = length_runs (edited x (positions_of b)) in
     record {
       equation = runs-edited x (positions_of b) d.ordered total lost won n (l ∙ ap (λ (y : ℕ). joint y (left_out x (positions_of b)) (drop x.after (positions_of b))) e)
-          (w ∙ ap (λ (y : ℕ). joint y (pick x.put (x.position ∷ []) []) (drop x.after (positions_of b))) e);
+          (w ∙ ap (λ (y : ℕ). joint y (position_in x.added) (drop x.after (positions_of b))) e);
       most = omega arith;
       total-most = omega arith;
     }

@@ -1,22 +1,22 @@
 // What a file measures after an edit, without a pass where the sizes follow from less: from the number of ranks in a kind with so many bytes for each;
 // where source and target store runs, from the runs, which are counted from the edit's neighbours.
-ghost use Rattle.std.specs.Prelude.{◌≡◌, true, [], ◌∷◌, ◌+◌, ◌-◌, ◌≤◌, ◌<◌, length, take, drop};
-ghost use Rattle.format.specs.Tools.{pick};
+ghost use Rattle.std.specs.Prelude.{◌≡◌, true, ◌+◌, ◌-◌, ◌≤◌, ◌<◌, length, take, drop};
+ghost use Rattle.std.specs.Option.{ForSome};
 ghost use Rattle.format.specs.Runs.{runs};
 ghost use Rattle.format.specs.Accepted.{positions_of};
 ghost use Rattle.parts.specs.Holds.{ViewOf};
 ghost use Rattle.format.specs.Kinds.{setting_allowed};
 ghost use Rattle.kinds.specs.Steps.{stores_runs};
 ghost use Rattle.layout.specs.Laid.{Measures};
-ghost use Rattle.edits.specs.Edit.{edited, left_out, EditOf};
+ghost use Rattle.edits.specs.Edit.{position_in, edited, left_out, EditOf};
 ghost use Rattle.recode.specs.RunCount.{begins, first_begins, end_after, joint};
 
 use edits::Edit;
-use format::{Rank, Setting, View};
-use kinds::Measured;
+use format::{Position, Rank, Setting, View};
 use kinds::coding::sized_by_ranks;
 use kinds::steps::{run_count, stores_runs};
 use layout::by_counts;
+use parts::Sizes;
 use rewrite::edited::measure;
 use search::stored_position;
 
@@ -52,15 +52,15 @@ fn end_before(file: &[u8], v: View, r: u32) -> u32
     stored_position(file, v, Rank(r - 1)).0 + 1
 }
 
-// The runs that begin with the cell p, where it is there, and with the rank `after` behind it.
-fn runs_joined(file: &[u8], v: View, end: u32, there: bool, p: u32, after: u32) -> u32
-    requires { ViewOf file.now v × (after ≤ v.words) × (there ≡ true → p < 16777216) }
-    ensures { (result ≡ joint end (pick there (p ∷ []) []) (drop after (positions_of file.now))) × (result ≤ 2) }
+// The runs that begin with the cell `new`, if any, and with the rank `after` behind it.
+fn runs_joined(file: &[u8], v: View, end: u32, new: Option<Position>, after: u32) -> u32
+    requires { ViewOf file.now v × (after ≤ v.words) × ForSome new (λ p. p.0 < 16777216) }
+    ensures { (result ≡ joint end (position_in new) (drop after (positions_of file.now))) × (result ≤ 2) }
 {
-    if there {
-        return run_begins(end, p) + rank_begins(file, v, p + 1, after);
-    }
-    rank_begins(file, v, end, after)
+    let Some(p) = new else {
+        return rank_begins(file, v, end, after);
+    };
+    run_begins(end, p.0) + rank_begins(file, v, p.0 + 1, after)
 }
 
 // The runs that begin with the ranks that the edit leaves out and with the rank behind them.
@@ -69,10 +69,10 @@ fn runs_lost(file: &[u8], v: View, end: u32, x: Edit) -> u32
     ensures { (result ≡ joint end (left_out x (positions_of file.now)) (drop x.after (positions_of file.now))) × (result ≤ 2) }
 {
     if x.before == x.after {
-        return runs_joined(file, v, end, false, 0, x.after);
+        return runs_joined(file, v, end, None, x.after);
     }
     let m = stored_position(file, v, Rank(x.before));
-    runs_joined(file, v, end, true, m.0, x.after)
+    runs_joined(file, v, end, Some(m), x.after)
 }
 
 // The runs after the edit.
@@ -82,36 +82,29 @@ pub fn runs_after(file: &[u8], v: View, x: Edit) -> u32
 {
     let end = end_before(file, v, x.before);
     let lost = runs_lost(file, v, end, x);
-    let won = runs_joined(file, v, end, x.put, x.position, x.after);
+    let won = runs_joined(file, v, end, x.added, x.after);
     run_count(v) + won - lost
-}
-
-// 1 where it holds, else 0.
-fn one_if(t: bool) -> u32
-    ensures { (result ≡ pick t 1 0) × (result ≤ 1) }
-{
-    if t { 1 } else { 0 }
 }
 
 // The ranks after the edit.
 fn ranks_after(v: View, x: Edit) -> u32
     requires { (x.before ≤ x.after) × (x.after ≤ v.words) × (v.words ≤ 16777216) }
-    ensures { (result ≡ x.before + (v.words - x.after) + pick x.put 1 0) × (result ≤ 16777217) }
+    ensures { (result ≡ x.before + (v.words - x.after) + length (position_in x.added)) × (result ≤ 16777217) }
 {
-    x.before + (v.words - x.after) + one_if(x.put)
+    x.before + (v.words - x.after) + u32::from(x.added.is_some())
 }
 
 // What the edited positions measure: along them where it does not follow from less.
-pub fn sized(file: &[u8], v: View, x: Edit, s: Setting) -> Measured
+pub fn sized(file: &[u8], v: View, x: Edit, s: Setting) -> Option<Sizes>
     requires { ViewOf file.now v × EditOf file.now x × (setting_allowed s ≡ true) }
     ensures { Measures s v.cells (edited x (positions_of file.now)) result }
 {
     if sized_by_ranks(s.kind) {
-        return by_counts(s, ranks_after(v, x), 0);
+        return Some(by_counts(s, ranks_after(v, x), 0));
     }
     if stores_runs(s.kind) {
         if stores_runs(v.kind) {
-            return by_counts(s, ranks_after(v, x), runs_after(file, v, x));
+            return Some(by_counts(s, ranks_after(v, x), runs_after(file, v, x)));
         }
     }
     measure(file, v, x, s)

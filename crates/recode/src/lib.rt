@@ -4,7 +4,7 @@
 pub mod counted;
 
 ghost use Rattle.std.specs.Prelude.{◌≡◌, true, length};
-ghost use Rattle.format.specs.Answers.{leaves};
+ghost use Rattle.format.specs.Answers.{signal_of, leaves};
 ghost use Rattle.format.specs.Kinds.{setting_allowed};
 ghost use Rattle.format.specs.File.{layout};
 ghost use Rattle.format.specs.Accepted.{dimensions_of, empty_of};
@@ -15,11 +15,11 @@ ghost use Rattle.recode.specs.Recoded.{words_after, Recodes, Recoded};
 use counted::sized;
 use edits::Edit;
 use edits::words::put_words;
-use format::{HEADER, Setting, View};
+use format::{HEADER, Refusal, Setting, View};
 use header::view::read_dimensions;
 use kinds::coding::put_derived;
+use layout::going;
 use layout::header_out::put_header;
-use layout::out_number;
 use parts::Sizes;
 use rewrite::edited::put_parts;
 
@@ -37,16 +37,19 @@ fn put_recoded(dst: &mut [u8], file: &[u8], v: View, x: Edit, word: u32, s: Sett
     put_derived(dst, s, z, HEADER);
 }
 
-// 9, 10, or 0 with the file in the destination's first bytes.
-pub fn recoded(file: &[u8], v: View, x: Edit, word: u32, s: Setting, dst: &mut [u8]) -> u32
+// The file in the destination's first bytes, or 9, 10.
+pub fn recoded(
+    file: &[u8],
+    v: View,
+    x: Edit,
+    word: u32,
+    s: Setting,
+    dst: &mut [u8],
+) -> Result<(), Refusal>
     requires { ViewOf file.now v × Recodes file.now x word × (setting_allowed s ≡ true) }
-    ensures { Recoded file.now x word s dst.old result dst.new }
+    ensures { Recoded file.now x word s dst.old (signal_of result) dst.new }
 {
-    let m = sized(file, v, x, s);
-    let number = out_number(m, dst.len());
-    if number != 0 {
-        return number;
-    }
-    put_recoded(dst, file, v, x, word, s, m.sizes);
-    0
+    let z = going(sized(file, v, x, s), dst.len())?;
+    put_recoded(dst, file, v, x, word, s, z);
+    Ok(())
 }

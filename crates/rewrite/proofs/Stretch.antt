@@ -1,5 +1,5 @@
 -- A stretch of ranks of a file into an encoder, batch by batch, by the file's kind and a setting. Assumes nothing.
-use Prim.Native.Nat.{ℕ, zero, suc, ◌-◌, ◌≤◌, ◌<◌}
+use Prim.Native.Nat.{ℕ, suc, ◌+◌, ◌-◌, ◌≤◌, ◌<◌}
 use mathlib.Core.Path.{◌≡◌, refl, sym, ap, ◌∙◌}
 use mathlib.Core.Bool.{true}
 use mathlib.Core.List.{List, [], ◌++◌}
@@ -99,16 +99,14 @@ module _ (s : Setting) (b : List ℕ) (v : View) (c : Cursor) (e : Encoder) (k n
     unfolding walked stepped_by taken_all
     turn_put = carried.turn_put (next_of b v) (coder s) c e k n h m r
 
--- one rank, then the rest
-pub skip_turn : (b : List ℕ) (v : View) (c : Cursor) (n : ℕ) → 0 < n → stepped_by b v (next_of b v c) (n - 1) ≡ stepped_by b v c n
+-- one rank of those that are left after i, then the rest
+pub skip_turn : (b : List ℕ) (v : View) (c : Cursor) (n i : ℕ) → i < n → stepped_by b v (next_of b v c) (n - (i + 1)) ≡ stepped_by b v c (n - i)
 unfolding stepped_by stepped_as
-skip_turn b v c zero h = absurd (omega arith)
-skip_turn b v c (suc n) h = let e : suc n - 1 ≡ n = omega arith in rw e
+skip_turn b v c n i h = let e : n - i ≡ suc (n - (i + 1)) = omega arith in rw e
 
-pub skip_end : (b : List ℕ) (v : View) (c : Cursor) (n : ℕ) → n ≤ 0 → stepped_by b v c n ≡ c
+pub skip_end : (b : List ℕ) (v : View) (c : Cursor) (n i : ℕ) → n ≤ i → stepped_by b v c (n - i) ≡ c
 unfolding stepped_by stepped_as
-skip_end b v c zero h = refl
-skip_end b v c (suc n) h = absurd (omega arith)
+skip_end b v c n i h = let e : n - i ≡ 0 = omega arith in rw e
 
 -- no rank is left
 module _ (s : Setting) (b : List ℕ) (v : View) (c : Cursor) (e : Encoder) (n : ℕ) (h : n ≤ 0) where

@@ -13,12 +13,13 @@ use super::walk::{measure_added, measure_ranks, put_added, put_ranks, skip};
 use edits::Edit;
 use format::{Setting, View};
 use kinds::coding::finish;
-use kinds::{Measured, steps};
+use kinds::steps;
 use layout::measured;
+use parts::Sizes;
 use parts::encode::begin;
 
 // What the edited positions measure.
-pub fn measure(file: &[u8], v: View, x: Edit, s: Setting) -> Measured
+pub fn measure(file: &[u8], v: View, x: Edit, s: Setting) -> Option<Sizes>
     requires { ViewOf file.now v × EditOf file.now x × (setting_allowed s ≡ true) }
     ensures { Measures s v.cells (edited x (positions_of file.now)) result }
 {

@@ -18,13 +18,12 @@ use parts::walk::{Walk, batch_of};
 use parts::{Cursor, Encoder};
 
 // The cursor n ranks on.
-pub fn skip(file: &[u8], v: View, mut c: Cursor, mut n: u32) -> Cursor
+pub fn skip(file: &[u8], v: View, mut c: Cursor, n: u32) -> Cursor
     requires { (kind_of v).allowed ≡ true }
     ensures { result ≡ stepped_by file.now v c n }
 {
-    while 0 < n {
+    for _ in 0..n {
         c = next(file, v, c);
-        n -= 1;
     }
     c
 }
@@ -109,11 +108,11 @@ pub fn measure_added(s: Setting, e: Encoder, x: Edit) -> Encoder
     requires { (setting_allowed s ≡ true) × Along e (added x) }
     ensures { result ≡ taken_all s e (added x) }
 {
-    if x.put {
-        let one = [x.position];
-        return take_all(s, e, &one);
-    }
-    e
+    let Some(p) = x.added else {
+        return e;
+    };
+    let one = [p.0];
+    take_all(s, e, &one)
 }
 
 // The position that the edit puts, if any, put out.
@@ -121,9 +120,9 @@ pub fn put_added(dst: &mut [u8], s: Setting, e: Encoder, x: Edit) -> Encoder
     requires { (setting_allowed s ≡ true) × Along e (added x) × RoomAll (coder s) e (added x) (length dst.old) }
     ensures { (result ≡ taken_all s e (added x)) × (dst.new ≡ put_all_by (coder s) dst.old e (added x)) }
 {
-    if x.put {
-        let own = [x.position];
-        return put_all(dst, s, e, &own);
-    }
-    e
+    let Some(p) = x.added else {
+        return e;
+    };
+    let own = [p.0];
+    put_all(dst, s, e, &own)
 }

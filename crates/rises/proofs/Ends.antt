@@ -8,26 +8,18 @@ use Rattle.rises.specs.Far.{far_after, far, ends_after, ends_of}
 
 -- ---- how many
 
-far-short : (most : ℕ) (ls : List ℕ) → length ls ≤ 1 → far most ls ≡ 0
+pub far-short : (most : ℕ) (ls : List ℕ) → length ls ≤ 1 → far most ls ≡ 0
 unfolding far far_after
 far-short most [] h = refl
 far-short most (p ∷ []) h = refl
 far-short most (p ∷ q ∷ ls) h = absurd (omega arith)
 
-pub far_turn : (most : ℕ) (ps : List ℕ) (i count r : ℕ) → 1 ≤ i → i < length ps → r ≡ fallen (leb (get_or ps i 0 - get_or ps (i - 1) 0) most)
-    → count + r + far most (drop (i + 1 - 1) ps) ≡ count + far most (drop (i - 1) ps)
+pub far_turn : (most : ℕ) (ps : List ℕ) (i count r : ℕ) → i + 1 < length ps → r ≡ fallen (leb (get_or ps (i + 1) 0 - get_or ps i 0) most)
+    → count + r + far most (drop (i + 1) ps) ≡ count + far most (drop i ps)
 unfolding far far_after
-far_turn most ps zero count r k h e = absurd (omega arith)
-far_turn most ps (suc j) count r k h e =
-    let s : suc j + 1 - 1 ≡ suc j = omega arith in
-    let m : suc j - 1 ≡ j = omega arith in
-    rw (s, e, m, drop-cons ps j 0 (omega arith), drop-cons ps (suc j) 0 h) (omega arith)
-
-pub far-end : (most : ℕ) (ps : List ℕ) (i count : ℕ) → 1 ≤ i → length ps ≤ i → count ≡ count + far most (drop (i - 1) ps)
-far-end most ps i count k h =
-    let n : length (drop (i - 1) ps) ≤ 1 = omega (arith, length-drop (i - 1) ps) in
-    let z = far-short most (drop (i - 1) ps) n in
-    omega arith
+far_turn most ps i count r h e =
+    let s : i + 1 ≡ suc i = omega arith in
+    rw (e, s, drop-cons ps i 0 (omega arith), drop-cons ps (suc i) 0 (omega arith)) (omega arith)
 
 -- ---- which
 

@@ -3,7 +3,6 @@ ghost use Rattle.std.specs.Prelude.{◌≡◌, ◌+◌, ◌*◌, ◌≤◌, leng
 ghost use Rattle.rises.specs.Falls.{fallen, follows, pair_falls};
 ghost use Rattle.rises.specs.Copied.{copied};
 
-use std::num::{wrapping_add_u32, wrapping_sub_u32};
 use stores::put_pair;
 use wire::{Pair, get_pair};
 
@@ -11,13 +10,9 @@ use wire::{Pair, get_pair};
 pub fn fall(x: Pair, y: Pair) -> u32
     ensures { (result ≡ fallen (follows x y)) × (result ≤ 1) }
 {
-    let cells = wrapping_sub_u32(y.first, x.first);
-    let empty = wrapping_sub_u32(y.second, x.second);
-    if (y.first <= x.first) | (y.second <= x.second) | (cells <= empty) {
-        1
-    } else {
-        0
-    }
+    let cells = y.first.wrapping_sub(x.first);
+    let empty = y.second.wrapping_sub(x.second);
+    u32::from((y.first <= x.first) | (y.second <= x.second) | (cells <= empty))
 }
 
 // How many of the n pairs behind the one at an offset do not follow on the one before.
@@ -25,13 +20,9 @@ pub fn pair_falls(file: &[u8], at: usize, n: u32) -> u32
     requires { at + 8 + 8 * n ≤ length file.now }
     ensures { (result ≡ pair_falls n at file.now) × (result ≤ n) }
 {
-    let mut place = at;
-    let mut left = n;
     let mut count = 0;
-    while 0 < left {
-        count += fall(get_pair(file, place), get_pair(file, place + 8));
-        place += 8;
-        left -= 1;
+    for i in 0..n as usize {
+        count += fall(get_pair(file, at + 8 * i), get_pair(file, at + 8 * i + 8));
     }
     count
 }
@@ -49,15 +40,13 @@ pub fn copy_pairs(
     requires { (from + 8 * n ≤ length file.now) × (at + 8 * n ≤ length dst.old) }
     ensures { dst.new ≡ copied file.now from first second at n dst.old }
 {
-    let mut i: usize = 0;
-    while i < n {
+    for i in 0..n {
         let run = get_pair(file, from + 8 * i);
         put_pair(
             dst,
             at + 8 * i,
-            wrapping_add_u32(run.first, first),
-            wrapping_add_u32(run.second, second),
+            run.first.wrapping_add(first),
+            run.second.wrapping_add(second),
         );
-        i += 1;
     }
 }

@@ -32,7 +32,7 @@ pub fn begin(file: &[u8], v: View) -> Cursor
 // The rank at a position that is not below those sought before, and the cursor at the first rank from there on.
 pub fn rank_from(file: &[u8], v: View, c: Cursor, p: Position) -> Sought
     requires { ViewOf file.now v × (p.0 < v.cells) × Ready file.now v c p.0 }
-    ensures { RankSearched file.now v p.0 (rank_says result.answer) × Reached file.now v result.cursor p.0 }
+    ensures { RankSearched file.now v p.0 (rank_says (Ok result.answer)) × Reached file.now v result.cursor p.0 }
 {
     let next = seek(file, v, c, p);
     if next.rank < v.words {
@@ -58,7 +58,7 @@ pub fn empty_ahead(v: View, c: Cursor, p: u32, n: usize) -> usize
         return n;
     }
     let ahead = (c.at - p) as usize;
-    if ahead < n { ahead } else { n }
+    ahead.min(n)
 }
 
 // How many of n cells from the cursor's on are known to be stored: where runs are stored those of its run, else its own.

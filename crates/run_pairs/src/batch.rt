@@ -41,16 +41,13 @@ pub fn take_all(e: Encoder, ps: &[u32]) -> Encoder
 }
 
 // The pairs of the runs that end at the indices `ends` of ps, whose first position has the rank `rank`, one after the other from `at` on.
-fn put_pairs<'a>(dst: &mut [u8], at: usize, rank: u32, ps: &'a [u32], ends: &'a [u32])
+fn put_pairs(dst: &mut [u8], at: usize, rank: u32, ps: &[u32], ends: &[u32])
     requires { (1 ≤ length ps.now) × Rising rank 16777216 ps.now × Below (length ps.now) ends.now × (at + 8 * length ends.now ≤ length dst.old) }
     ensures { dst.new ≡ put dst.old at (end_pairs rank ps.now ends.now) }
 {
-    let mut t: usize = 0;
-    while t < ends.len() {
-        let end = ends[t];
+    for (t, &end) in ends.iter().enumerate() {
         let last = ps[end as usize];
         put_pair(dst, at + 8 * t, last, last - (rank + end));
-        t += 1;
     }
 }
 
@@ -72,10 +69,8 @@ fn put_each(dst: &mut [u8], e: Encoder, ps: &[u32]) -> Encoder
     ensures { (result ≡ taken_all_by runs_coder e ps.now) × (dst.new ≡ put_all_by runs_coder dst.old e ps.now) }
 {
     let mut at = e;
-    let mut i: usize = 0;
-    while i < ps.len() {
-        at = put_one(dst, at, ps[i]);
-        i += 1;
+    for &p in ps {
+        at = put_one(dst, at, p);
     }
     at
 }

@@ -6,7 +6,6 @@ ghost use Rattle.run_walk.specs.Steps.{entered, next, There};
 use format::View;
 use parts::Cursor;
 use parts::walk::fill_run;
-use std::num::wrapping_add_u32;
 use wire::{get_pair, load_pair};
 
 // The first stored cell of the next run. The position of a stored cell is its rank and the empty cells before it.
@@ -14,9 +13,9 @@ pub fn enter(file: &[u8], v: View, mut c: Cursor) -> Cursor
     ensures { result ≡ entered file.now v c }
 {
     let run = load_pair(file, v.start as usize + 8 * c.next as usize);
-    c.rank = wrapping_add_u32(c.rank, 1);
-    c.at = wrapping_add_u32(c.rank, run.second);
-    c.next = wrapping_add_u32(c.next, 1);
+    c.rank = c.rank.wrapping_add(1);
+    c.at = c.rank.wrapping_add(run.second);
+    c.next = c.next.wrapping_add(1);
     c.last = run.first;
     c
 }
@@ -42,13 +41,13 @@ pub fn along(file: &[u8], v: View, mut c: Cursor, out: &mut [u32]) -> Cursor
         i += m;
         let more = (m - 1) as u32;
         let at = c.at + more;
-        c.rank = wrapping_add_u32(wrapping_add_u32(c.rank, more), 1);
+        c.rank = c.rank.wrapping_add(more).wrapping_add(1);
         if at < c.last {
             c.at = at + 1;
         } else {
             let run = get_pair(file, v.start as usize + 8 * c.next as usize);
-            c.at = wrapping_add_u32(c.rank, run.second);
-            c.next = wrapping_add_u32(c.next, 1);
+            c.at = c.rank.wrapping_add(run.second);
+            c.next = c.next.wrapping_add(1);
             c.last = run.first;
         }
     }

@@ -6,7 +6,6 @@ ghost use Rattle.parts.specs.Found.{FoundIn, PositionIn, RunIn};
 use format::{Position, Rank, View};
 use parts::{Found, RunPart};
 use run_search::search::{ranks_before, run, run_at, run_with};
-use std::num::wrapping_add_u32;
 
 // Where position p stands among the stored ones. In run j the cell is stored from the position on that its first rank has.
 pub fn find(file: &[u8], v: View, p: Position) -> Found
@@ -60,7 +59,7 @@ fn cells_up_to(at: u64, last: u32) -> u32
     if (last as u64) < at {
         return 1;
     }
-    wrapping_add_u32(last - at as u32, 1)
+    (last - at as u32).wrapping_add(1)
 }
 
 // Where rank r stands, and the ranks from it on to the end of its run; any numbers over unfit bytes.

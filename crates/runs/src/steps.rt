@@ -7,14 +7,13 @@ use format::View;
 use parts::Cursor;
 use parts::walk::{along_run, fill_run};
 use run_walk::steps::{all_there, along, enter};
-use std::num::wrapping_add_u32;
 
 // One step.
 pub fn next(file: &[u8], v: View, mut c: Cursor) -> Cursor
     ensures { result ≡ next file.now v c }
 {
     if c.at < c.last {
-        c.rank = wrapping_add_u32(c.rank, 1);
+        c.rank = c.rank.wrapping_add(1);
         c.at += 1;
         return c;
     }

@@ -17,7 +17,6 @@ use rises::pairs::copy_pairs;
 use run_search::search::run_with;
 use runs::coding::put_run;
 use runs::steps::{next, past};
-use std::num::wrapping_sub_u32;
 use wire::{Pair, get_pair};
 
 // The next n ranks, all in the cursor's run.
@@ -77,7 +76,7 @@ fn put_whole(dst: &mut [u8], file: &[u8], v: View, c: Cursor, e: Encoder, j: u32
     let start = v.start as usize;
     let open = c.next - 2;
     let n = (j - 1 - open) as usize;
-    let shift = wrapping_sub_u32(c.rank, e.rank);
+    let shift = c.rank.wrapping_sub(e.rank);
     copy_pairs(dst, e.first, file, start + 8 * open as usize, n, 0, shift);
     let last = get_pair(file, start + 8 * (j - 1) as usize);
     let ranks = last.first + 1 - last.second - c.rank;

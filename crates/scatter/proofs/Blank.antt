@@ -1,11 +1,11 @@
 -- A destination that is filled up to a cell, as if the cells after it were empty: filling on, and scattering, keep it. Assumes nothing.
 use Prim.Native.Nat.{ℕ, zero, suc, ◌+◌, ◌-◌, ◌≤◌, ◌<◌}
 use mathlib.Core.Path.{◌≡◌, refl, sym, ap, ◌∙◌}
-use mathlib.Core.List.{List, [], ◌∷◌, ◌++◌, append_assoc, append-nil}
-use native.Mathlib.Nat.{min-le_left}
+use mathlib.Core.List.{List, [], ◌∷◌, ◌++◌, append_assoc}
 use native.Mathlib.Numerals.{add-one}
 use native.Mathlib.Omega.{arith}
-use lib.ListN.{length, get_or, take, drop, set, replicate, length-append, length-replicate, length-set, replicate-append-replicate, length-take, length-drop, drop_of_length-le}
+use lib.ListN.{length, get_or, take, drop, set, replicate, length-append, length-replicate, length-set, replicate-append-replicate, length-drop}
+use borrow.Rule.Slice.PartMut.{put_mid}
 use lib.Seq.{length-take-le, take-append_seam, drop-append-add, drop-drop, set-append_left, drop-set-lt, take-set-lt}
 use Rattle.format.specs.Tools.{Below, first, others}
 use Rattle.laws.proofs.Stored.{Rising}
@@ -18,13 +18,12 @@ blank E n k d = take k d ++ (replicate (n - k) E ++ drop n d)
 -- ---- filling on
 
 -- a range, lent and filled
-pub range-filled : (d ys : List ℕ) (a e x : ℕ) → a ≤ e → e ≤ length d → ys ≡ replicate (e - a) x ++ drop (e - a) (take (e - a) (drop a d))
-    → take a d ++ (ys ++ drop (e - a) (drop a d)) ≡ take a d ++ (replicate (e - a) x ++ drop e d)
+pub range-filled : (d ys : List ℕ) (a e x : ℕ) → a ≤ e → e ≤ length d → ys ≡ replicate (length (take (e - a) (drop a d))) x
+    → put_mid a (e - a) d ys ≡ take a d ++ (replicate (e - a) x ++ drop e d)
 range-filled d ys a e x low high h =
-    let l : length (take (e - a) (drop a d)) ≤ e - a = rw length-take (min-le_left (e - a) (length (drop a d))) in
-    let y : ys ≡ replicate (e - a) x = h ∙ rw (drop_of_length-le (take (e - a) (drop a d)) {i = e - a} l) (append-nil (replicate (e - a) x)) in
+    let l : length (take (e - a) (drop a d)) ≡ e - a = length-take-le (e - a) (drop a d) (omega (arith, length-drop a d)) in
     let s : a + (e - a) ≡ e = omega arith in
-    rw (y, drop-drop (e - a) a d, s)
+    rw (h, l, drop-drop (e - a) a d, s)
 
 module _ (E n k m : ℕ) (d e : List ℕ) (low : k ≤ m) (high : m ≤ n) (fits : n ≤ length d)
     (filled : e ≡ take k d ++ (replicate (m - k) E ++ drop m d)) where

@@ -1,12 +1,10 @@
 -- Stored words scattered over empty cells are the picture's words. Assumes nothing.
-use Prim.Native.Nat.{ℕ, zero, suc, ◌+◌, ◌≤◌, ◌<◌}
+use Prim.Native.Nat.{ℕ, zero, suc, ◌+◌, ◌≤◌}
 use mathlib.Core.Path.{◌≡◌, refl, sym, ap, ◌∙◌}
 use mathlib.Core.List.{List, [], ◌∷◌, ◌++◌, append_assoc}
-use native.Mathlib.Numerals.{add-one}
 use native.Mathlib.Omega.{arith}
 use lib.Arith.{lt_of_le-ne}
-use lib.ListN.{length, drop, set, replicate, length-append, length-replicate, length-set}
-use lib.Seq.{drop-cons}
+use lib.ListN.{length, set, replicate, length-append, length-set}
 use lib.Dec.{eqb}
 use borrow.Author.Tests.{eqb-true, eqb-false}
 use Rattle.format.specs.Tools.{first, others}
@@ -63,14 +61,3 @@ pub length-scattered : (d ls vs : List ℕ) → length (scattered d ls vs) ≡ l
 unfolding scattered
 length-scattered d [] vs = refl
 length-scattered d (l ∷ ls) vs = length-scattered (set d l (first vs)) ls (others vs) ∙ length-set d l (first vs)
-
--- ---- a loop that fills
-
-replicate_snoc : (n x : ℕ) → replicate n x ++ (x ∷ []) ≡ replicate (suc n) x
-replicate_snoc zero x = refl
-replicate_snoc (suc n) x = ap (λ (l : List ℕ). x ∷ l) (replicate_snoc n x)
-
-pub fill_turn : (d : List ℕ) (i x : ℕ) → i < length d → set (replicate i x ++ drop i d) i x ≡ replicate (i + 1) x ++ drop (i + 1) d
-fill_turn d i x h =
-    rw (drop-cons d i 0 h, set_seam (replicate i x) i (lib.ListN.get_or d i 0) x (drop (suc i) d) (length-replicate i x), add-one)
-    (one_on (replicate i x) x (drop (suc i) d) ∙ ap (λ (l : List ℕ). l ++ drop (suc i) d) (replicate_snoc i x))

@@ -1,7 +1,7 @@
 // A file's words into a destination, batch by batch: the cells up to a batch's last position become empty, then each stored word comes to its position.
 #![tactic(auto)]
 
-ghost use Rattle.std.specs.Prelude.{◌≡◌, ◌++◌, ◌+◌, ◌-◌, ◌*◌, ◌≤◌, ◌<◌, length, take, drop, replicate};
+ghost use Rattle.std.specs.Prelude.{◌≡◌, ◌++◌, ◌+◌, ◌≤◌, length, drop};
 ghost use Rattle.format.specs.Tools.{Below};
 ghost use Rattle.format.specs.Accepted.{kept_of, words_of};
 ghost use Rattle.parts.specs.Holds.{ViewOf};
@@ -12,37 +12,14 @@ use kinds::steps::{positions, start};
 use parts::walk::batch_of;
 use wire::get_u32;
 
-// The first n elements become x.
-pub fn fill(dst: &mut [u32], n: usize, x: u32)
-    requires { n ≤ length dst.old }
-    ensures { dst.new ≡ replicate n x ++ drop n dst.old }
-{
-    let mut i: usize = 0;
-    while i < n {
-        dst[i] = x;
-        i += 1;
-    }
-}
-
-// The elements of a range become x.
-fn fill_range(dst: &mut [u32], from: usize, to: usize, x: u32)
-    requires { (from ≤ to) × (to ≤ length dst.old) }
-    ensures { dst.new ≡ take from dst.old ++ (replicate (to - from) x ++ drop to dst.old) }
-{
-    fill(&mut dst[from..to], to - from, x);
-}
-
 // The stored words from a rank on, each at its position: `at` has the positions.
 fn scatter_batch(file: &[u8], v: View, rank: u32, at: &[u32], dst: &mut [u32])
     requires { ViewOf file.now v × (rank + length at.now ≤ v.words) × Below (length dst.old) at.now }
     ensures { dst.new ≡ scattered dst.old at.now (drop rank (kept_of file.now)) }
 {
     let words = v.place as usize + 4 * rank as usize;
-    let mut i: usize = 0;
-    while i < at.len() {
-        let to = at[i] as usize;
-        dst[to] = get_u32(file, words + 4 * i);
-        i += 1;
+    for (i, p) in at.iter().enumerate() {
+        dst[*p as usize] = get_u32(file, words + 4 * i);
     }
 }
 
@@ -59,10 +36,10 @@ pub fn expanded(file: &[u8], v: View, dst: &mut [u32])
         let n = batch_of(v.words - rank);
         c = positions(file, v, c, &mut batch[..n]);
         let end = batch[n - 1] as usize + 1;
-        fill_range(dst, filled, end, v.empty);
+        dst[filled..end].fill(v.empty);
         scatter_batch(file, v, rank, &batch[..n], dst);
         filled = end;
         rank += n as u32;
     }
-    fill_range(dst, filled, v.cells as usize, v.empty);
+    dst[filled..v.cells as usize].fill(v.empty);
 }

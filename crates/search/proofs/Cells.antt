@@ -1,16 +1,14 @@
 -- The word of a cell by its rank. Assumes nothing.
 use Prim.Native.Nat.{ℕ, zero, suc, ◌+◌, ◌*◌, ◌<◌}
-use mathlib.Core.Path.{◌≡◌, sym, ap, ◌∙◌}
-use mathlib.Core.Logic.{⊎_elim}
+use mathlib.Core.Path.{◌≡◌, sym, ap, subst, ◌∙◌}
 use mathlib.Core.Bool.{false}
 use mathlib.Core.List.{List, [], ◌∷◌}
 use native.Mathlib.Omega.{arith}
 use lib.ListN.{length, get_or, take}
 use lib.Dec.{eqb, ltb}
 use borrow.Author.Tests.{eqb-true, ltb-true}
-use types.Run.{OneOf}
-use denote.Enum.Declared.{tag_of}
-use Rattle.format.specs.contracts.RankAnswer.{the_type}
+use Rattle.std.specs.Prelude.{Ok}
+use Rattle.format.specs.declared.Rank.{Rank}
 use Rattle.format.specs.declared.View.{View}
 use Rattle.format.specs.declared.RankAnswer.{RankAnswer}
 use Rattle.format.specs.declared.RankAnswer.TheVariants as ra
@@ -29,6 +27,7 @@ use Rattle.laws.proofs.Acceptance.{accepted_has_file}
 use Rattle.parts.specs.Holds.{ViewOf}
 use Rattle.parts.proofs.Seen.{seen}
 use Rattle.search.specs.Searched.{CellSearched, RankSearched}
+use Rattle.search.proofs.RankAnswers.{no_rank}
 
 -- the word at the rank of a stored cell is the cell's
 kept_at : (E p : ℕ) (ws : List ℕ) → p < length ws → eqb (get_or ws p 0) E ≡ false → get_or (kept E ws) (length (kept E (take p ws))) 0 ≡ get_or ws p 0
@@ -90,9 +89,9 @@ pub cell-searched : (b : List ℕ) (v : View) (p : ℕ) (a : Answer) → RankSea
 cell-searched b v p a s =
     record { right = λ o. ap (cell_by b v) (s.right o) ∙ cell_by_rank b v o p; free = cell_free b v v.words a s.free }
 
--- an answer that is neither a rank nor refused is "empty"
-pub cell-empty : (b : List ℕ) (v : View) (p : ℕ) (a : RankAnswer) → OneOf (1 ∷ (2 ∷ [])) (tag_of the_type a) → OneOf (0 ∷ (1 ∷ [])) (tag_of the_type a)
-    → RankSearched b v p (rank_says a) → CellSearched b v p (given v.empty)
-cell-empty b v p (ra.Rank r) h k s = absurd (⊎_elim (λ z. omega arith) (λ z. omega arith) h)
-cell-empty b v p (ra.Empty n) h k s = cell-searched b v p (empty n.0) s
-cell-empty b v p (ra.Refused n) h k s = absurd (⊎_elim (λ z. omega arith) (λ z. omega arith) k)
+-- an answer that is no rank is "empty"
+pub cell-empty : (b : List ℕ) (v : View) (p : ℕ) (a : RankAnswer) → ((r : Rank) → a ≡ ra.Rank r → ⊥) → RankSearched b v p (rank_says (Ok a))
+    → CellSearched b v p (given v.empty)
+cell-empty b v p a h s =
+    let n = no_rank a h in
+    cell-searched b v p (empty n.0.0) (subst (λ (x : RankAnswer). RankSearched b v p (rank_says (Ok x))) n.1 s)

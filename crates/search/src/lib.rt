@@ -8,15 +8,14 @@ ghost use Rattle.format.specs.Accepted.{positions_of};
 ghost use Rattle.parts.specs.Holds.{ViewOf};
 ghost use Rattle.search.specs.Searched.{rank_from, position_from, CellSearched, RankSearched, PositionSearched};
 
-use format::signals::BEYOND;
-use format::{CellAnswer, Position, PositionAnswer, Rank, RankAnswer, View};
+use format::{Position, Rank, RankAnswer, Refusal, View};
 use kinds::search::{find, position_of};
 use parts::Found;
 use wire::load_u32;
 
 // A place as an answer: a rank, or "empty" with the number of stored cells before.
 pub fn rank_answer(found: Found) -> RankAnswer
-    ensures { rank_says result ≡ rank_from found }
+    ensures { rank_says (Ok result) ≡ rank_from found }
 {
     if found.here {
         return RankAnswer::Rank(Rank(found.below));
@@ -25,33 +24,33 @@ pub fn rank_answer(found: Found) -> RankAnswer
 }
 
 // The rank at a position, or "empty" with the number of stored cells before it.
-pub fn rank_in(file: &[u8], v: View, p: Position) -> RankAnswer
+pub fn rank_in(file: &[u8], v: View, p: Position) -> Result<RankAnswer, Refusal>
     ensures { RankSearched file.now v p.0 (rank_says result) }
 {
     if v.cells <= p.0 {
-        return RankAnswer::Refused(BEYOND);
+        return Err(Refusal::Beyond);
     }
-    rank_answer(find(file, v, p))
+    Ok(rank_answer(find(file, v, p)))
 }
 
-// A number that was found for a position, as an answer: 8 where the picture has no such cell, which only unfit bytes give.
-fn position_answer(p: u64, cells: u32) -> PositionAnswer
+// A number that was found for a position: 8 where the picture has no such cell, which only unfit bytes give.
+fn position_below(p: u64, cells: u32) -> Result<Position, Refusal>
     ensures { position_says result ≡ position_from p cells }
 {
     if cells as u64 <= p {
-        return PositionAnswer::Refused(BEYOND);
+        return Err(Refusal::Beyond);
     }
-    PositionAnswer::Position(Position(p as u32))
+    Ok(Position(p as u32))
 }
 
 // The position of a rank.
-pub fn position_in(file: &[u8], v: View, r: Rank) -> PositionAnswer
+pub fn position_in(file: &[u8], v: View, r: Rank) -> Result<Position, Refusal>
     ensures { PositionSearched file.now v r.0 (position_says result) }
 {
     if v.words <= r.0 {
-        return PositionAnswer::Refused(BEYOND);
+        return Err(Refusal::Beyond);
     }
-    position_answer(position_of(file, v, r), v.cells)
+    position_below(position_of(file, v, r), v.cells)
 }
 
 // The position of a rank of an accepted file.
@@ -63,16 +62,12 @@ pub fn stored_position(file: &[u8], v: View, r: Rank) -> Position
 }
 
 // The word at a position.
-pub fn cell_in(file: &[u8], v: View, p: Position) -> CellAnswer
+pub fn cell_in(file: &[u8], v: View, p: Position) -> Result<u32, Refusal>
     ensures { CellSearched file.now v p.0 (cell_says result) }
 {
-    let answer = rank_in(file, v, p);
-    let RankAnswer::Rank(rank) = answer else {
-        let RankAnswer::Refused(number) = answer else {
-            return CellAnswer::Word(v.empty);
-        };
-        return CellAnswer::Refused(number);
+    let RankAnswer::Rank(rank) = rank_in(file, v, p)? else {
+        return Ok(v.empty);
     };
     let at = v.place as usize + 4 * rank.0 as usize;
-    CellAnswer::Word(load_u32(file, at))
+    Ok(load_u32(file, at))
 }

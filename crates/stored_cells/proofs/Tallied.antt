@@ -1,7 +1,7 @@
 -- The stored cells and their runs, counted along the words. Assumes nothing.
 use Prim.Native.Nat.{ℕ, suc, ◌+◌, ◌-◌, ◌≤◌, ◌<◌}
 use mathlib.Core.Path.{◌≡◌, refl, sym}
-use mathlib.Core.Bool.{Bool, true, false, not, ◌&&◌, true≢false}
+use mathlib.Core.Bool.{Bool, true, false, not, ◌&&◌}
 use mathlib.Core.List.{List, [], ◌∷◌}
 use native.Mathlib.Nat.{zero-add}
 use native.Mathlib.Omega.{arith}
@@ -9,11 +9,13 @@ use lib.ListN.{length, drop, get_or, drop_of_length-le}
 use lib.Seq.{drop-cons}
 use lib.Dec.{eqb}
 use borrow.Author.Tests.{eq-eqb, ne_eqb}
+use mir.Val.{bool_byte}
 use Rattle.format.specs.Tools.{pick}
 use Rattle.format.specs.Stored.{stored_from, stored, kept}
 use Rattle.format.specs.Runs.{runs, runs_from}
 use Rattle.laws.proofs.Tools.{cases}
 use Rattle.laws.proofs.Stored.{stored-kept}
+use Rattle.stored_cells.proofs.Stored.{flag_most}
 
 -- 1 for the word of a stored cell; 1 for that of one behind an empty cell, whose word is y
 abbrev pub one : ℕ → ℕ → ℕ
@@ -28,15 +30,20 @@ begun E y [] = 0
 begun E y (x ∷ ws) = begin E y x + begun E x ws
 
 -- as the code tests it
-pub begin_yes : (a b : Bool) → a && not b ≡ true → ◌≡◌ {A = ℕ} 1 (pick a (pick b 0 1) 0)
-begin_yes true true h = absurd (true≢false (sym h))
-begin_yes true false h = refl
-begin_yes false b h = absurd (true≢false (sym h))
+pub one-flag : (E x : ℕ) → bool_byte (not (eqb x E)) ≡ one E x
+one-flag E x = flag (eqb x E)
+  where
+    flag : (t : Bool) → bool_byte (not t) ≡ pick t 0 1
+    flag true = refl
+    flag false = refl
 
-pub begin_no : (a b : Bool) → a && not b ≡ false → ◌≡◌ {A = ℕ} 0 (pick a (pick b 0 1) 0)
-begin_no true true h = refl
-begin_no true false h = absurd (true≢false h)
-begin_no false b h = refl
+pub begin_flag : (E y x : ℕ) → bool_byte (eqb y E && not (eqb x E)) ≡ begin E y x
+begin_flag E y x = flag (eqb y E) (eqb x E)
+  where
+    flag : (a b : Bool) → bool_byte (a && not b) ≡ pick a (pick b 0 1) 0
+    flag true true = refl
+    flag true false = refl
+    flag false b = refl
 
 -- ---- the runs of stored positions, by the words
 
@@ -91,7 +98,6 @@ begun_turn E y ws i h =
 
 -- the cells counted so far, and those from an index on
 pub record Counted (E : ℕ) (ws : List ℕ) (i stored-so runs_so : ℕ) : Type 0 where
-  pub from : 1 ≤ i
   pub some : stored-so ≤ i
   pub fewer : runs_so ≤ i
   pub stored-all : stored-so + length (kept E (drop i ws)) ≡ length (kept E ws)
@@ -102,29 +108,30 @@ unfolding stored stored_from runs
 counted_none E [] h = (refl, refl)
 counted_none E (x ∷ ws) h = absurd (omega arith)
 
-pub counted-first : (E : ℕ) (ws : List ℕ) (n : ℕ) → 0 < length ws → n ≡ one E (get_or ws 0 0) → n ≤ 1 → Counted E ws 1 n n
+pub counted-first : (E : ℕ) (ws : List ℕ) (n : ℕ) → 0 < length ws → n ≡ one E (get_or ws 0 0) → Counted E ws 1 n n
 unfolding kept begun
-counted-first E [] n h e m = absurd (omega arith)
-counted-first E (x ∷ ws) n h e m =
+counted-first E [] n h e = absurd (omega arith)
+counted-first E (x ∷ ws) n h e =
+    let m : n ≤ 1 = rw (e, ← one-flag E x) (flag_most _) in
     record {
-      from = omega arith;
       some = m;
       fewer = m;
       stored-all = cases (eqb x E) (λ t. rw (e, t) (omega arith)) (λ t. rw (e, t) (omega arith));
       runs-all = rw (e, eq-eqb E E refl);
     }
 
-pub counted_turn : (E : ℕ) (ws : List ℕ) (i n m a b : ℕ) → i < length ws → a ≡ one E (get_or ws i 0) → a ≤ 1 → b ≡ begin E (get_or ws (i - 1) 0) (get_or ws i 0) → b ≤ 1
+pub counted_turn : (E : ℕ) (ws : List ℕ) (i n m a b : ℕ) → i < length ws → a ≡ one E (get_or ws i 0) → b ≡ begin E (get_or ws (i - 1) 0) (get_or ws i 0)
     → Counted E ws i n m → Counted E ws (i + 1) (n + a) (m + b)
-counted_turn E ws i n m a b h p p1 q q1 c =
+counted_turn E ws i n m a b h p q c =
+    let p1 : a ≤ 1 = rw (p, ← one-flag E (get_or ws i 0)) (flag_most _) in
+    let q1 : b ≤ 1 = rw (q, ← begin_flag E (get_or ws (i - 1) 0) (get_or ws i 0)) (flag_most _) in
     let k = kept_turn E ws i h in
     let g = begun_turn E (get_or ws (i - 1) 0) ws i h in
-    let f = c.from in
     let s = c.some in
     let w = c.fewer in
     let x = c.stored-all in
     let y = c.runs-all in
-    record { from = omega arith; some = omega arith; fewer = omega arith; stored-all = omega arith; runs-all = omega arith }
+    record { some = omega arith; fewer = omega arith; stored-all = omega arith; runs-all = omega arith }
 
 pub counted-end : (E : ℕ) (ws : List ℕ) (i n m : ℕ) → length ws ≤ i → Counted E ws i n m → (n ≡ length (stored E ws)) × (m ≡ length (runs (stored E ws)))
 unfolding kept begun

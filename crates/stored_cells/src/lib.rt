@@ -17,15 +17,11 @@ const GROUP: usize = 16;
 // Each of the cells of a group is empty.
 fn all_empty(words: &[u32], from: usize, empty: u32) -> bool
     requires { from + 16 ≤ length words.now }
-    ensures { result ≡ every (λ x. eqb x empty) (drop from (take (from + 16) words.now)) }
+    ensures { result ≡ every (λ x. eqb x empty) (take 16 (drop from words.now)) }
 {
     let mut same = true;
-    let mut i: usize = 0;
-    while i < GROUP {
-        if words[from + i] != empty {
-            same = false;
-        }
-        i += 1;
+    for &word in &words[from..from + GROUP] {
+        same = same & (word == empty);
     }
     same
 }
@@ -46,13 +42,9 @@ fn list_cells(
         ≡ take n out.old ++ stored_from empty (at + from) (drop from words.now)) }
 {
     let mut listed = n;
-    let mut i = from;
-    while i < to {
+    for i in from..to {
         out[listed] = at + i as u32;
-        if words[i] != empty {
-            listed += 1;
-        }
-        i += 1;
+        listed += usize::from(words[i] != empty);
     }
     listed
 }
@@ -63,17 +55,15 @@ pub fn stored_cells(words: &[u32], at: u32, empty: u32, out: &mut [u32]) -> usiz
     requires { (at + length words.now ≤ 2 ^ 32 - 1) × (length words.now ≤ length out.old) }
     ensures { (result ≡ length (stored_from empty at words.now)) × (take result out.new ≡ stored_from empty at words.now) }
 {
-    let count = words.len();
+    let groups = words.len() / GROUP;
     let mut listed: usize = 0;
-    let mut i: usize = 0;
-    while GROUP <= count - i {
-        let next = i + GROUP;
+    for g in 0..groups {
+        let i = GROUP * g;
         if !all_empty(words, i, empty) {
-            listed = list_cells(words, i, next, at, empty, out, listed);
+            listed = list_cells(words, i, i + GROUP, at, empty, out, listed);
         }
-        i = next;
     }
-    list_cells(words, i, count, at, empty, out, listed)
+    list_cells(words, GROUP * groups, words.len(), at, empty, out, listed)
 }
 
 // The words of the stored cells, 4 bytes each, at `place`.
@@ -81,10 +71,8 @@ pub fn put_kept(dst: &mut [u8], place: usize, words: &[u32], at: u32, empty: u32
     requires { (ps.now ≡ stored_from empty at words.now) × (at + length words.now ≤ 2 ^ 32 - 1) × (place + 4 * length ps.now ≤ length dst.old) }
     ensures { dst.new ≡ put dst.old place (bytes_of 4 (kept empty words.now)) }
 {
-    let mut rank: usize = 0;
-    while rank < ps.len() {
-        let cell = (ps[rank] - at) as usize;
+    for (rank, &p) in ps.iter().enumerate() {
+        let cell = (p - at) as usize;
         put_u32(dst, place + 4 * rank, words[cell]);
-        rank += 1;
     }
 }

@@ -7,6 +7,8 @@ ghost use Rattle.std.specs.Prelude.{◌≡◌, ◌+◌, ◌≤◌, length};
 ghost use Rattle.format.specs.Bytes.{bytes};
 ghost use Rattle.stores.specs.Put.{put, pair};
 
+// By hand for each size, as wire reads them.
+
 // The lowest byte of a number.
 pub fn put_u8(dst: &mut [u8], at: usize, x: u32)
     requires { at + 1 ≤ length dst.old }

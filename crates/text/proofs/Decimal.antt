@@ -81,6 +81,19 @@ decimal_more n h k = digits_more 9 n k ∙ ap (λ (l : List ℕ). l ++ ((48 + n 
 pub length-decimal_more : (n : ℕ) → n < 10 ^ 10 → 10 ≤ n → length (decimal n) ≡ length (decimal (n / 10)) + 1
 length-decimal_more n h k = rw (decimal_more n h k, length-append (decimal (n / 10)) ((48 + n % 10) ∷ []))
 
+-- one digit, or more, by how many there are
+pub decimal-some : (n : ℕ) → 1 ≤ length (decimal n)
+unfolding decimal
+decimal-some n = cases (ltb n 10) (λ t. rw (digits-one 9 n (ltb-true n 10 t)) (omega arith)) (λ t. rw (length_more 9 n (ltb-false n 10 t)) (omega arith))
+
+pub decimal-short : (n : ℕ) → n < 10 ^ 10 → length (decimal n) ≤ 1 → n < 10
+decimal-short n h k =
+    cases (ltb n 10) (λ t. ltb-true n 10 t) (λ t. absurd (omega (arith, k, length-decimal_more n h (ltb-false n 10 t), decimal-some (n / 10))))
+
+pub decimal-long : (n : ℕ) → 2 ≤ length (decimal n) → 10 ≤ n
+decimal-long n h =
+    cases (ltb n 10) (λ t. absurd (omega (arith, h, ap length (decimal-one n (ltb-true n 10 t))))) (λ t. ltb-false n 10 t)
+
 -- ---- the digits read back
 
 -- the number that digits stand for, after digits that stand for a

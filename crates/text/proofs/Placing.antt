@@ -1,15 +1,14 @@
 -- Text put piece by piece. Assumes nothing.
-use Prim.Native.Nat.{ℕ, suc, ◌+◌, ◌-◌, ◌/◌, ◌%◌, ◌^◌, ◌≤◌, ◌<◌}
+use Prim.Native.Nat.{ℕ, ◌+◌, ◌-◌, ◌/◌, ◌%◌, ◌^◌, ◌≤◌, ◌<◌}
 use mathlib.Core.Path.{◌≡◌, refl, sym, ap, ◌∙◌, subst}
 use mathlib.Core.List.{List, [], ◌∷◌, ◌++◌, append_assoc}
-use native.Mathlib.Numerals.{add-one}
 use native.Mathlib.Nat.{zero-add}
 use native.Mathlib.Omega.{arith}
-use lib.ListN.{length, get_or, set, take, drop, length-append, drop_of_length-le}
-use lib.Seq.{drop-cons, take_at}
+use lib.ListN.{length, set, take, drop, length-append}
+use lib.Seq.{take_at}
 use Rattle.format.specs.Lister.{decimal, line, refused_line}
 use Rattle.stores.specs.Put.{put}
-use Rattle.stores.proofs.Laws.{length-put, put-append, put_comm, put_front, put_nil}
+use Rattle.stores.proofs.Laws.{length-put, put-append, put_comm, put_front}
 use Rattle.text.specs.Text.{Room, TextPut}
 use Rattle.text.proofs.Decimal.{decimal-one, decimal_more, length-decimal_more}
 
@@ -41,18 +40,6 @@ text_front xs d e m h t = rw (t.bytes, put_front d xs h, t.place, zero-add) (tak
 pub byte_put : (d : List ℕ) (at x : ℕ) → set d at x ≡ put d at (x ∷ [])
 unfolding put
 byte_put d at x = refl
-
--- ---- bytes one after the other: a turn, and the end
-
-pub bytes_turn : (d : List ℕ) (at : ℕ) (xs : List ℕ) (i : ℕ) → i < length xs
-    → put (set d (at + i) (get_or xs i 0)) (at + (i + 1)) (drop (i + 1) xs) ≡ put d (at + i) (drop i xs)
-unfolding put
-bytes_turn d at xs i h =
-    let e : at + (i + 1) ≡ suc (at + i) = omega arith in
-    rw (drop-cons xs i 0 h, e, add-one i)
-
-pub bytes-end : (d : List ℕ) (at : ℕ) (xs : List ℕ) (i : ℕ) → length xs ≤ i → put d (at + i) (drop i xs) ≡ d
-bytes-end d at xs i h = rw (drop_of_length-le xs {i = i} h) (put_nil d (at + i))
 
 -- ---- a number from its last digit on
 

@@ -10,12 +10,9 @@ pub fn put_bytes(dst: &mut [u8], at: usize, text: &[u8]) -> usize
     requires { Room text.now dst.old at }
     ensures { TextPut text.now dst.old at result dst.new }
 {
-    let mut i: usize = 0;
-    while i < text.len() {
-        dst[at + i] = text[i];
-        i += 1;
-    }
-    at + i
+    let end = at + text.len();
+    dst[at..end].copy_from_slice(text);
+    end
 }
 
 // How many digits a number has.
@@ -31,20 +28,18 @@ fn digit_count(n: u32) -> usize
     count
 }
 
-// A number in decimal, from its last digit to its first; 48 is the byte of 0.
+// A number in decimal, from its last digit to its first.
 fn put_decimal(dst: &mut [u8], at: usize, n: u32) -> usize
     requires { Room (decimal n) dst.old at }
     ensures { TextPut (decimal n) dst.old at result dst.new }
 {
     let end = at + digit_count(n);
-    let mut place = end;
     let mut rest = n;
-    while 10 <= rest {
-        place -= 1;
-        dst[place] = (48 + rest % 10) as u8;
+    for i in (at + 1..end).rev() {
+        dst[i] = b'0' + (rest % 10) as u8;
         rest /= 10;
     }
-    dst[at] = (48 + rest) as u8;
+    dst[at] = b'0' + rest as u8;
     end
 }
 

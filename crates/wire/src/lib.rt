@@ -1,25 +1,18 @@
 // Numbers in bytes, lowest byte first. `get` asks that the bytes are there; `load` gives 0 where they are not all there.
 #![tactic(auto)]
 
-pub mod numbers;
-
 ghost use Rattle.std.specs.Prelude.{◌≡◌, ◌+◌, ◌*◌, ◌≤◌, ◌<◌, ◌^◌, length};
 ghost use Rattle.format.specs.Bytes.{field};
 ghost use Rattle.wire.specs.Wire.{whole, entry_size, field_pair, pair_at};
 
-// A byte as a wider number.
-pub fn wide(x: u8) -> u32
-    ensures { (result ≡ x) × (result < 256) }
-{
-    x as u32
-}
+// By hand for each size, as the library's `from_le_bytes` is: a sum says what is read more plainly than a loop over a const size.
 
 // The number of one byte at an index.
 pub fn get_u8(s: &[u8], at: usize) -> u32
     requires { at + 1 ≤ length s.now }
     ensures { (result ≡ field 1 at s.now) × (result < 256) }
 {
-    wide(s[at])
+    u32::from(s[at])
 }
 
 // The number of two bytes at an index.
@@ -27,7 +20,7 @@ pub fn get_u16(s: &[u8], at: usize) -> u32
     requires { at + 2 ≤ length s.now }
     ensures { (result ≡ field 2 at s.now) × (result < 65536) }
 {
-    wide(s[at]) + 256 * wide(s[at + 1])
+    u32::from(s[at]) + 256 * u32::from(s[at + 1])
 }
 
 // The number of four bytes at an index.
@@ -35,7 +28,10 @@ pub fn get_u32(s: &[u8], at: usize) -> u32
     requires { at + 4 ≤ length s.now }
     ensures { (result ≡ field 4 at s.now) × (result < 2 ^ 32) }
 {
-    wide(s[at]) + 256 * wide(s[at + 1]) + 65536 * wide(s[at + 2]) + 16777216 * wide(s[at + 3])
+    u32::from(s[at])
+        + 256 * u32::from(s[at + 1])
+        + 65536 * u32::from(s[at + 2])
+        + 16777216 * u32::from(s[at + 3])
 }
 
 // The same, or 0 where the bytes are not all there.

@@ -13,12 +13,8 @@ pub fn words_right(file: &[u8], at: usize, n: u32, empty: u32) -> bool
     ensures { result ≡ every (λ x. not (eqb x empty)) (numbers_of 4 n (drop at file.now)) }
 {
     let mut right = true;
-    let mut place = at;
-    let mut left = n;
-    while 0 < left {
-        right = right & (get_u32(file, place) != empty);
-        place += 4;
-        left -= 1;
+    for i in 0..n as usize {
+        right &= get_u32(file, at + 4 * i) != empty;
     }
     right
 }

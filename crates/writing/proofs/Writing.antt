@@ -1,22 +1,22 @@
 -- What write and change answer and leave. Assumes nothing.
 use Prim.Native.Nat.{ℕ, zero, suc, ◌+◌, ◌≤◌, ◌<◌}
 use mathlib.Core.Path.{◌≡◌, refl, sym, ap, ap₂, subst, ◌∙◌}
-use mathlib.Core.Logic.{⊎_elim}
-use mathlib.Core.Bool.{Bool, true, false, not}
-use mathlib.Core.List.{List, [], ◌∷◌}
+use mathlib.Core.Bool.{Bool, true, false, not, ◌&&◌}
+use mathlib.Core.List.{List}
 use native.Mathlib.Omega.{arith}
 use lib.ListN.{length, get_or, set, take, drop, length-set}
 use lib.Seq.{take-length}
 use lib.Dec.{eqb}
-use types.Run.{OneOf}
-use denote.Enum.Declared.{tag_of}
-use borrow.Author.Tests.{lt-ltb, le-ltb, eq-eqb, ne_eqb, eqb-true, eqb-false}
-use Rattle.format.specs.contracts.RankAnswer.{the_type}
+use Rattle.std.specs.Prelude.{Ok, Option}
+use Rattle.std.specs.Bool.{then_some}
+use borrow.Author.Tests.{lt-ltb, le-ltb, eqb-true, eqb-false}
+use Rattle.format.specs.declared.Position.{Position}
+use Rattle.format.specs.declared.Rank.{Rank}
 use Rattle.format.specs.declared.RankAnswer.{RankAnswer}
 use Rattle.format.specs.declared.RankAnswer.TheVariants as ra
 use Rattle.format.specs.declared.Setting.{Setting}
 use Rattle.format.specs.declared.View.{View}
-use Rattle.format.specs.Tools.{pick, both}
+use Rattle.format.specs.Tools.{pick}
 use Rattle.format.specs.Signals.{BEYOND, SMALL, or_else}
 use Rattle.format.specs.Answers.{Answer, refused, empty, given, rank_says, leaves}
 use Rattle.format.specs.Picture.{cells}
@@ -27,13 +27,14 @@ use Rattle.format.specs.Accepted.{setting_of, dimensions_of, empty_of, positions
 use Rattle.format.specs.Calls.{out_number, setting_number, write_signal, change_signal, write_number, change_number, written_file, changed_file, Wrote, Changed}
 use Rattle.format.specs.Lookups.{rank_in}
 use Rattle.format.specs.Opened.{view_of, Free, number}
-use Rattle.laws.proofs.Tools.{cases, both_true}
+use Rattle.laws.proofs.Tools.{cases, both_true, and_both}
 use Rattle.laws.proofs.Settings.{setting}
 use Rattle.parts.specs.declared.Found.{Found}
 use Rattle.parts.specs.Holds.{ViewOf, kind_of}
 use Rattle.parts.specs.Found.{count_below, FoundIn}
 use Rattle.parts.proofs.Seen.{seen}
 use Rattle.search.specs.Searched.{rank_from, RankSearched}
+use Rattle.search.proofs.RankAnswers.{no_rank}
 use Rattle.search.proofs.Places.{rank-place}
 use Rattle.stores.specs.Put.{put}
 use Rattle.stores.proofs.Laws.{put_front}
@@ -41,8 +42,8 @@ use Rattle.edits.specs.declared.Edit.{Edit}
 use Rattle.edits.specs.Edit.{edited, overlaid, Writes}
 use Rattle.edits.proofs.Edits.{keeping, keeping_positions, keeping_words, keeps, rank_below, adds, removes, replaces, same_word}
 use Rattle.recode.specs.Recoded.{words_after, Recodes, Recoded}
-use Rattle.writing.specs.Same.{Copied, same_setting}
-use Rattle.checked.proofs.Number.{setting_later}
+use Rattle.writing.specs.Same.{Copied}
+use Rattle.checked.proofs.Number.{setting_in, setting_later}
 use Rattle.recode.proofs.Recoding.{after_is, recodes}
 
 -- ---- the edit of a write
@@ -58,7 +59,10 @@ value (refused n) = 0
 value (empty n) = n
 value (given x) = x
 
-module _ (b : List ℕ) (v : View) (o : ViewOf b v) (p w : ℕ) where
+module _ (b : List ℕ) (v : View) (o : ViewOf b v) (q : Position) (w : ℕ) where
+  abbrev p : ℕ
+  p = q.0
+
   abbrev E : ℕ
   E = empty_of b
 
@@ -74,43 +78,42 @@ module _ (b : List ℕ) (v : View) (o : ViewOf b v) (p w : ℕ) where
     says a s = s.right o ∙ rw (lt-ltb p (length ws) inside)
 
     -- the answer made of a place
-    pub place-answer : (f : Found) → FoundIn (kind_of v) b v p f → (a : RankAnswer) → rank_says a ≡ rank_from f → RankSearched b v p (rank_says a)
+    pub place-answer : (f : Found) → FoundIn (kind_of v) b v p f → (a : RankAnswer) → rank_says (Ok a) ≡ rank_from f → RankSearched b v p (rank_says (Ok a))
     place-answer f h a e = subst (RankSearched b v p) (sym e) (rank-place b v p f i h)
 
     pub below-place : (f : Found) → FoundIn (kind_of v) b v p f → f.below ≡ count_below p (positions_of b)
     below-place f h = (h.right (positions_of b) (seen b v o).holds).below
 
-    -- the else arm knows the tag alone
-    pub empty-there : (a : RankAnswer) → OneOf (1 ∷ (2 ∷ [])) (tag_of the_type a) → RankSearched b v p (rank_says a) → get_or ws p 0 ≡ E
-    empty-there (ra.Rank r) h s = absurd (⊎_elim (λ z. omega arith) (λ z. omega arith) h)
-    empty-there (ra.Empty n) h s =
-        cases (eqb (get_or ws p 0) E) (λ t. eqb-true (get_or ws p 0) E t) (λ t. absurd (let q : empty n.0 ≡ given (rank_at E ws p) = says (empty n.0) s ∙ rw t in let e : 1 ≡ 2 = ap sort q in omega arith))
-    empty-there (ra.Refused n) h s =
-        cases (eqb (get_or ws p 0) E) (λ t. eqb-true (get_or ws p 0) E t) (λ t. absurd (let q : refused n ≡ given (rank_at E ws p) = says (refused n) s ∙ rw t in let e : 0 ≡ 2 = ap sort q in omega arith))
+    pub empty-there : (a : RankAnswer) → ((r : Rank) → a ≡ ra.Rank r → ⊥) → RankSearched b v p (rank_says (Ok a)) → get_or ws p 0 ≡ E
+    empty-there a h s =
+        let n = no_rank a h in
+        let k = subst (λ (x : RankAnswer). RankSearched b v p (rank_says (Ok x))) n.1 s in
+        cases (eqb (get_or ws p 0) E) (λ t. eqb-true (get_or ws p 0) E t)
+        (λ t. absurd (let z : empty n.0.0 ≡ given (rank_at E ws p) = says (empty n.0.0) k ∙ rw t in let e : 1 ≡ 2 = ap sort z in omega arith))
 
     pub stored_there : (r : ℕ) → RankSearched b v p (given r) → (get_or ws p 0 ≡ E → ⊥) × (r ≡ rank_at E ws p)
     stored_there r s =
-        cases (eqb (get_or ws p 0) E) (λ t. absurd (let q : given r ≡ empty (rank_at E ws p) = says (given r) s ∙ rw t in let e : 2 ≡ 1 = ap sort q in omega arith))
-        (λ t. let q : given r ≡ given (rank_at E ws p) = says (given r) s ∙ rw t in (eqb-false (get_or ws p 0) E t, ap value q))
+        cases (eqb (get_or ws p 0) E) (λ t. absurd (let z : given r ≡ empty (rank_at E ws p) = says (given r) s ∙ rw t in let e : 2 ≡ 1 = ap sort z in omega arith))
+        (λ t. let z : given r ≡ given (rank_at E ws p) = says (given r) s ∙ rw t in (eqb-false (get_or ws p 0) E t, ap value z))
 
     -- an empty cell: a new rank, or nothing new
-    pub edit-empty : get_or ws p 0 ≡ E → (k : ℕ) → k ≡ count_below p (positions_of b) → (t : Bool) → t ≡ not (eqb w v.empty)
-        → Writes b p w (record { before = k; put = t; position = p; after = k })
+    pub edit-empty : get_or ws p 0 ≡ E → (k : ℕ) → k ≡ count_below p (positions_of b) → (t : Option Position) → t ≡ then_some (not (eqb w v.empty)) q
+        → Writes b p w (record { before = k; added = t; after = k })
     edit-empty a k c t f =
-        let n : k ≡ rank_at E ws p = c ∙ sym (rank_below b v o p w inside) in
-        subst (λ (m : ℕ). Writes b p w (record { before = m; put = t; position = p; after = m })) (sym n)
+        let n : k ≡ rank_at E ws p = c ∙ sym (rank_below b v o q w inside) in
+        subst (λ (m : ℕ). Writes b p w (record { before = m; added = t; after = m })) (sym n)
         (cases (eqb w E)
-        (λ e. rw (f, (seen b v o).empty, e) (same_word b v o p w inside (a ∙ sym (eqb-true w E e))))
-        (λ e. rw (f, (seen b v o).empty, e) (adds b v o p w inside a (eqb-false w E e))))
+        (λ e. rw (f, (seen b v o).empty, e) (same_word b v o q w inside (a ∙ sym (eqb-true w E e))))
+        (λ e. rw (f, (seen b v o).empty, e) (adds b v o q w inside a (eqb-false w E e))))
 
     -- a stored cell: none in its place, or another word
-    pub edit-stored : (r : ℕ) → (get_or ws p 0 ≡ E → ⊥) × (r ≡ rank_at E ws p) → (t : Bool) → t ≡ not (eqb w v.empty)
-        → Writes b p w (record { before = r; put = t; position = p; after = r + 1 })
+    pub edit-stored : (r : ℕ) → (get_or ws p 0 ≡ E → ⊥) × (r ≡ rank_at E ws p) → (t : Option Position) → t ≡ then_some (not (eqb w v.empty)) q
+        → Writes b p w (record { before = r; added = t; after = r + 1 })
     edit-stored r a t f =
-        subst (λ (m : ℕ). Writes b p w (record { before = m; put = t; position = p; after = m + 1 })) (sym a.1)
+        subst (λ (m : ℕ). Writes b p w (record { before = m; added = t; after = m + 1 })) (sym a.1)
         (cases (eqb w E)
-        (λ e. rw (f, (seen b v o).empty, e) (removes b v o p w inside a.0 (eqb-true w E e)))
-        (λ e. rw (f, (seen b v o).empty, e) (replaces b v o p w inside a.0 (eqb-false w E e))))
+        (λ e. rw (f, (seen b v o).empty, e) (removes b v o q w inside a.0 (eqb-true w E e)))
+        (λ e. rw (f, (seen b v o).empty, e) (replaces b v o q w inside a.0 (eqb-false w E e))))
 
 -- a rank that was found is below the words
 free-below : (bound r : ℕ) → Free bound (given r) → r < bound
@@ -158,15 +161,21 @@ module _ (b : List ℕ) (p w : ℕ) (before : List ℕ) where
 
 -- ---- change
 
-same-setting : (b : List ℕ) (s : Setting) (v : View) → v ≡ view_of b → same_setting s v ≡ true → s ≡ setting_of b
-unfolding same_setting view_of
-same-setting b s v e t =
-    let t1 = both_true (eqb s.kind v.kind) (both (eqb s.width v.width) (eqb s.step v.step)) t in
-    let t2 = both_true (eqb s.width v.width) (eqb s.step v.step) t1.1 in
-    let k : s.kind ≡ (setting_of b).kind = eqb-true s.kind v.kind t1.0 ∙ ap (λ (x : View). x.kind) e in
-    let w : s.width ≡ (setting_of b).width = eqb-true s.width v.width t2.0 ∙ ap (λ (x : View). x.width) e in
-    let l : s.step ≡ (setting_of b).step = eqb-true s.step v.step t2.1 ∙ ap (λ (x : View). x.step) e in
-    ap₂ (λ (x y : ℕ). setting x y s.step) k w ∙ ap (setting (setting_of b).kind (setting_of b).width) l
+-- settings that `==` finds equal
+pub same-setting : (s t : Setting) → (eqb s.kind t.kind && (eqb s.width t.width && eqb s.step t.step)) ≡ true → s ≡ t
+same-setting s t h =
+    let a = both_true _ _ (sym (and_both (eqb s.kind t.kind) (eqb s.width t.width && eqb s.step t.step)) ∙ h) in
+    let b = both_true _ _ (sym (and_both (eqb s.width t.width) (eqb s.step t.step)) ∙ a.1) in
+    ap₂ (λ (x y : ℕ). setting x y s.step) (eqb-true s.kind t.kind a.0) (eqb-true s.width t.width b.0)
+    ∙ ap (setting t.kind t.width) (eqb-true s.step t.step b.1)
+
+setting-of-view : (b : List ℕ) → setting_in (view_of b) ≡ setting_of b
+unfolding view_of
+setting-of-view b = refl
+
+-- the view's setting is the file's
+pub view-setting : (b : List ℕ) (v : View) → v ≡ view_of b → setting_in v ≡ setting_of b
+view-setting b v e = ap setting_in e ∙ setting-of-view b
 
 module _ (b : List ℕ) (s : Setting) (before : List ℕ) where
   pub change-refused : (n : ℕ) → n ≡ check_number b → (n ≡ 0 → ⊥) → Changed b s before n before
@@ -188,13 +197,13 @@ module _ (b : List ℕ) (s : Setting) (before : List ℕ) where
 
     -- all ranks kept
     abbrev pub all : Edit
-    all = keeping v.words 0
+    all = keeping v.words
 
     same-positions : edited all (positions_of b) ≡ stored (empty_of b) (words_of b)
-    same-positions = keeping_positions v.words 0 (positions_of b) ∙ (seen b v o).stored
+    same-positions = keeping_positions v.words (positions_of b) ∙ (seen b v o).stored
 
     same-words : overlaid all 0 (kept_of b) ≡ kept (empty_of b) (words_of b)
-    same-words = keeping_words v.words 0 0 (kept_of b) ∙ (seen b v o).kept
+    same-words = keeping_words v.words 0 (kept_of b) ∙ (seen b v o).kept
 
     unchanged : words_after b all 0 ≡ words_of b
     unchanged = after_is b v o all 0 (words_of b) refl same-positions same-words
@@ -202,7 +211,7 @@ module _ (b : List ℕ) (s : Setting) (before : List ℕ) where
     pub change_recodes : Recodes b all 0
     change_recodes =
         let n = (seen b v o).words in
-        recodes b v o all 0 (words_of b) refl same-positions same-words (keeps b v o v.words 0 (omega arith))
+        recodes b v o all 0 (words_of b) refl same-positions same-words (keeps b v o v.words (omega arith))
 
     pub change-done : (n : ℕ) (after : List ℕ) → setting_number s 0 ≡ 0 → Recoded b all 0 s before n after → Changed b s before n after
     unfolding changed_file
@@ -213,12 +222,10 @@ module _ (b : List ℕ) (s : Setting) (before : List ℕ) where
         }
 
     -- the file's own setting
-    pub change-own : same_setting s v ≡ true → setting_number s 0 ≡ 0 → (n : ℕ) (after : List ℕ) → Copied b before n after
-        → Changed b s before n after
+    pub change-own : s ≡ setting_of b → setting_number s 0 ≡ 0 → (n : ℕ) (after : List ℕ) → Copied b before n after → Changed b s before n after
     unfolding changed_file out_number
-    change-own t z n after r =
+    change-own own z n after r =
         let f = (seen b v o).file in
-        let own : s ≡ setting_of b = same-setting b s v o.view t in
         let l : layout s (dimensions_of b) (empty_of b) (words_of b) ≡ b = ap (λ (x : Setting). layout x (dimensions_of b) (empty_of b) (words_of b)) own ∙ f.file in
         let u : (codec s).unfit (stored (empty_of b) (words_of b)) ≡ false = ap (λ (x : Setting). (codec x).unfit (stored (empty_of b) (words_of b))) own ∙ f.fits in
         record {
@@ -227,20 +234,6 @@ module _ (b : List ℕ) (s : Setting) (before : List ℕ) where
               ∙ sym (change-signal ∙ ap (λ (j : ℕ). or_else j out) z ∙ rw (u, l));
           left = r.left ∙ ap (λ (us : List ℕ). leaves n us before) (sym l);
         }
-
--- the tests of the setting, as the code makes them
-module _ (s : Setting) (v : View) where
-  pub other_kind : (s.kind ≡ v.kind → ⊥) → false ≡ same_setting s v
-  unfolding same_setting
-  other_kind h = rw (ne_eqb s.kind v.kind h)
-
-  pub other_width : s.kind ≡ v.kind → (s.width ≡ v.width → ⊥) → false ≡ same_setting s v
-  unfolding same_setting
-  other_width k h = rw (eq-eqb s.kind v.kind k, ne_eqb s.width v.width h)
-
-  pub step_tells : s.kind ≡ v.kind → s.width ≡ v.width → eqb s.step v.step ≡ same_setting s v
-  unfolding same_setting
-  step_tells k w = rw (eq-eqb s.kind v.kind k, eq-eqb s.width v.width w)
 
 -- a copy
 pub copy_small : (b before : List ℕ) → length before < length b → Copied b before SMALL before

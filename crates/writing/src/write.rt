@@ -1,14 +1,13 @@
 // One cell of a file written.
 ghost use Rattle.std.specs.Prelude.{◌<◌};
+ghost use Rattle.format.specs.Answers.{signal_of};
 ghost use Rattle.format.specs.Calls.{Wrote};
 ghost use Rattle.parts.specs.Holds.{ViewOf};
 ghost use Rattle.edits.specs.Edit.{Writes};
 
 use checked::check;
 use edits::Edit;
-use format::signals::BEYOND;
-use format::{Position, RankAnswer, View};
-use header::view::read_setting;
+use format::{Position, RankAnswer, Refusal, View};
 use kinds::search::find;
 use recode::recoded;
 use search::rank_answer;
@@ -18,37 +17,31 @@ fn edit_of(file: &[u8], v: View, p: Position, word: u32) -> Edit
     requires { ViewOf file.now v × (p.0 < v.cells) }
     ensures { Writes file.now p.0 word result }
 {
-    let put = word != v.empty;
+    let added = (word != v.empty).then_some(p);
     let found = find(file, v, p);
     let answer = rank_answer(found);
     let RankAnswer::Rank(rank) = answer else {
         return Edit {
             before: found.below,
-            put,
-            position: p.0,
+            added,
             after: found.below,
         };
     };
     Edit {
         before: rank.0,
-        put,
-        position: p.0,
+        added,
         after: rank.0 + 1,
     }
 }
 
-// 0 with the file of the words after the write in the destination's first bytes; 1 to 6, then 8, 9, 10. Writing E empties a cell.
-pub fn write(file: &[u8], p: Position, word: u32, dst: &mut [u8]) -> u32
-    ensures { Wrote file.now p.0 word dst.old result dst.new }
+// The file of the words after the write in the destination's first bytes; refused with 1 to 6, then 8, 9, 10. Writing E empties a cell.
+pub fn write(file: &[u8], p: Position, word: u32, dst: &mut [u8]) -> Result<(), Refusal>
+    ensures { Wrote file.now p.0 word dst.old (signal_of result) dst.new }
 {
-    let verdict = check(file);
-    if verdict.number != 0 {
-        return verdict.number;
-    }
-    let v = verdict.view;
+    let v = check(file)?;
     if v.cells <= p.0 {
-        return BEYOND;
+        return Err(Refusal::Beyond);
     }
     let x = edit_of(file, v, p, word);
-    recoded(file, v, x, word, read_setting(file), dst)
+    recoded(file, v, x, word, v.setting(), dst)
 }

@@ -105,11 +105,6 @@ put_from-s-requires t c =
     let n : s.args.i + 1 < most_dimensions = before_last _ k c.if-i-eq-DIMS.false in
     (fewer _ t k s.decreases, (n, box_down s.args.file.now s.args.v (extent t s) _ _ _ s.args.p (high t s) (low t s) s.args.s s.args.dst.now (goes t s) l.s l.dst l.a l.invariant (reach t p.In-loop-a)))
 
-pub overflow_add-a : goal.overflow_add-a
-overflow_add-a t c =
-    let p = goal.at.overflow_add-a t c in
-    record { fits = (fitting _ _ 0 (small t p.Start c.loop-a.a (reach t p.In-loop-a))).3 }
-
 pub loop-a-preserved : goal.loop-a-preserved
 loop-a-preserved t c =
     let p = goal.at.loop-a-preserved t c in
@@ -117,6 +112,12 @@ loop-a-preserved t c =
     let l = c.loop-a in
     box_turn s.args.file.now s.args.v (extent t s) _ _ _ s.args.p (high t s) (low t s) s.args.s s.args.dst.now (goes t s) l.s l.dst l.a l.invariant (reach t p.In-loop-a) _ _
     c.put_from-s.ensures
+
+pub overflow_add-a-end : goal.overflow_add-a-end
+overflow_add-a-end t c =
+    let s = (goal.at.overflow_add-a-end t c).Start in
+    let h = small t s (high t s) (le_refl _) in
+    record { fits = omega arith }
 
 pub returns : goal.returns
 returns t c =

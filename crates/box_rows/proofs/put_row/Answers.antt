@@ -1,28 +1,15 @@
 -- Each turn puts the words of stored cells, or E up to the next one, and the cells that are left give the row. Assumes nothing.
 use Prim.Native.Nat.{◌+◌, ◌-◌, ◌*◌, ◌^◌, ◌≤◌, ◌<◌}
 use mathlib.Core.Path.{◌≡◌, refl}
-use mathlib.Core.List.{[], ◌∷◌}
-use types.Run.{OneOf}
-use denote.Enum.Declared.{tag_of}
-use Rattle.format.specs.contracts.RankAnswer.{the_type}
-use Rattle.format.specs.declared.Rank.{Rank}
-use Rattle.format.specs.declared.RankAnswer.{RankAnswer}
-use Rattle.format.specs.declared.RankAnswer.TheVariants as ra
 use mir.Val.{Fits}
 use mir.Syntax.{w32}
 use native.Mathlib.Omega.{arith}
 use lib.ListN.{length, replicate}
 use Rattle.parts.proofs.Seen.{seen}
-use Rattle.box_rows.proofs.Rows.{stands-past, stands_here, words-empty, words-there, words-stored, row_start, row_inside, row_turn, row-end}
+use Rattle.box_rows.proofs.Rows.{part_filled, stands-past, stands_here, words-empty, words-there, words-stored, row_start, row_inside, row_turn, row-end}
 use borrow.Author.Rules.{rules}
 use Rattle.box_rows.proofs.put_row.Goals.{After-empty_ahead-m, After-stored_ahead-m, In-loop-k, Start}
 use Rattle.box_rows.proofs.put_row.Goals as goal
-
--- an answer that is no rank is one of the others
-no_rank : (a : RankAnswer) → ((r : Rank) → a ≡ ra.Rank r → ⊥) → OneOf (1 ∷ (2 ∷ [])) (tag_of the_type a)
-no_rank (ra.Rank r) h = absurd (h r refl)
-no_rank (ra.Empty n) h = search rules
-no_rank (ra.Refused n) h = search rules
 
 -- where the words stand
 place : (c : Start) → Fits w32 c.args.v.place
@@ -67,13 +54,13 @@ overflow_sub-end c = let k = c.loop-k-test.true in omega arith
 pub empty_ahead-m-requires : goal.empty_ahead-m-requires
 empty_ahead-m-requires c =
     let r = c.rank_from-sought in
-    stands-past c.args.file.now c.args.v c.requires.view c.loop-k.p (cell (goal.at.empty_ahead-m-requires c).In-loop-k) r.result.cursor r.ensures.1 r.result.answer r.ensures.0 (no_rank r.result.answer c.in_default.not-Rank)
+    stands-past c.args.file.now c.args.v c.requires.view c.loop-k.p (cell (goal.at.empty_ahead-m-requires c).In-loop-k) r.result.cursor r.ensures.1 r.result.answer r.ensures.0 c.in_default.not-Rank
 
-pub fill_from-requires : goal.fill_from-requires
-fill_from-requires c =
+pub slice_bounds-fill-end : goal.slice_bounds-fill-end
+slice_bounds-fill-end c =
     let h = c.requires.fits in
     let e = c.loop-k.invariant.size in
-    let m = more (goal.at.fill_from-requires c).After-empty_ahead-m in
+    let m = more (goal.at.slice_bounds-fill-end c).After-empty_ahead-m in
     omega arith
 
 pub overflow_add-k : goal.overflow_add-k
@@ -113,7 +100,7 @@ loop-k-preserved-in_default c =
     let y = r.ensures.1.ready in
     row_turn c.args.file.now c.args.v c.args.from c.args.n c.args.s.words c.args.dst.now l.dst l.c l.p l.k l.invariant
     r.result.cursor a.result (replicate a.result c.args.v.empty) _ h
-    (words-empty c.args.file.now c.args.v c.requires.view r.result.cursor l.p a.result y i a.ensures.2) c.fill_from.ensures y
+    (words-empty c.args.file.now c.args.v c.requires.view r.result.cursor l.p a.result y i a.ensures.2) (part_filled l.dst _ l.k a.result c.args.v.empty (let z = l.invariant.size in let f = c.requires.fits in omega arith) (c.fill.ensures.after (λ v w. w))) y
 
 -- the cursor stands at the rank
 here : (c : After-stored_ahead-m) → (c.rank_from-sought.result.cursor.rank < c.args.v.words) × (c.rank_from-sought.result.cursor.at ≡ c.loop-k.p) × (c.rank_from-sought.result.cursor.rank ≡ c.in-Rank.rank.0)

@@ -32,14 +32,14 @@ overflow_add-c c =
 pub overflow_cast-c : goal.overflow_cast-c
 overflow_cast-c c =
     let a = c.args in
-    record { fits = walk-position a.file.now a.v c.requires.0.0 c.requires.0.1 a.c c.requires.1.rank (here (goal.at.overflow_cast-c c).Start) a.n (below (goal.at.overflow_cast-c c).Start) c.walk-place.result _ c.walk-place.ensures (omega arith) }
+    record { fits = walk-position a.file.now a.v c.requires.0.0 c.requires.0.1 a.c c.requires.1.rank (here (goal.at.overflow_cast-c c).Start) a.n (below (goal.at.overflow_cast-c c).Start) c.walk-place.result c.walk-place.ensures }
 
 pub overflow_cast-c-2 : goal.overflow_cast-c-2
 overflow_cast-c-2 c =
     let a = c.args in
-    record { fits = walk-taken a.file.now a.v c.requires.0.0 c.requires.0.1 a.c c.requires.1.rank (here (goal.at.overflow_cast-c-2 c).Start) a.n (below (goal.at.overflow_cast-c-2 c).Start) c.walk-place.result _ c.walk-place.ensures (omega arith) }
+    record { fits = walk-taken a.file.now a.v c.requires.0.0 c.requires.0.1 a.c c.requires.1.rank (here (goal.at.overflow_cast-c-2 c).Start) a.n (below (goal.at.overflow_cast-c-2 c).Start) c.walk-place.result c.walk-place.ensures }
 
 pub returns : goal.returns
 returns c =
     let a = c.args in
-    walk_steps a.file.now a.v c.requires.0.0 c.requires.0.1 a.c c.requires.1.rank (here (goal.at.returns c).Start) a.n (below (goal.at.returns c).Start) c.walk-place.result _ c.walk-place.ensures (omega arith)
+    walk_steps a.file.now a.v c.requires.0.0 c.requires.0.1 a.c c.requires.1.rank (here (goal.at.returns c).Start) a.n (below (goal.at.returns c).Start) c.walk-place.result c.walk-place.ensures

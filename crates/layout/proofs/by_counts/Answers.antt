@@ -1,4 +1,4 @@
-use mathlib.Core.Path.{refl, ap, ◌∙◌}
+use mathlib.Core.Path.{ap, ◌∙◌}
 use Rattle.parts.specs.declared.Encoder.{Encoder}
 use Rattle.kinds.specs.Coding.{coder}
 use Rattle.kinds.proofs.Counts.{counted-small}
@@ -12,4 +12,4 @@ sizes-requires c =
     rw c.counted.ensures (p.0, t.0, t.1, t.2)
 
 pub returns : goal.returns
-returns c = (refl, c.sizes.ensures ∙ ap (λ (e : Encoder). (coder c.args.s).sizes e) c.counted.ensures)
+returns c = c.sizes.ensures ∙ ap (λ (e : Encoder). (coder c.args.s).sizes e) c.counted.ensures

@@ -11,7 +11,7 @@ use Rattle.layout.proofs.measured.Goals as goal
 pub returns-then-not-e : goal.returns-then-not-e
 returns-then-not-e c =
     let a = c.args in
-    measured_unfit a.s a.e _ c.no_sizes.ensures (not-true _ c.if-not-e.true)
+    measured_unfit a.s a.e (not-true _ c.if-not-e.true)
 
 pub ended-requires : goal.ended-requires
 ended-requires c =

@@ -1,7 +1,7 @@
 -- `offer_file` meets its contract. Assumes nothing.
 use native.Mathlib.Omega.{arith}
 use Rattle.format.specs.Lister.{file_lines}
-use Rattle.listing.proofs.Listed.{offered_put, offered_small}
+use Rattle.listing.proofs.Listed.{offered_put}
 use Rattle.listing.proofs.offer_file.Goals as goal
 
 -- `offer_file` meets its contract. Assumes nothing.

@@ -1,13 +1,15 @@
 use Rattle.std.proofs.Common.{◌≡◌, ◌+◌, ◌-◌, ◌*◌, ◌≤◌, length, le_refl, arith}
+use Rattle.parts.specs.declared.Encoder.{Encoder}
 use Rattle.parts.specs.Encoder.{left_after}
+use Rattle.parts.specs.Ready.{Sound}
 use Rattle.rises.specs.Copied.{copied}
 use Rattle.page_walk.specs.Steps.{next}
 use Rattle.page_entries.specs.Coding.{pages_coder}
 use Rattle.pages_copy.specs.Page.{cursor_on, encoder_on, Fits, Further}
 use Rattle.pages_copy.proofs.Behind.{Behind, behind, entry_there}
 use Rattle.pages_copy.proofs.Apart.{Apart, N}
-use Rattle.pages_copy.proofs.Page.{none-further, page_apart, page-further, page-fits}
-use Rattle.pages_copy.proofs.put_page.Goals.{After-get_pair-y, After-wrapping_sub_u32-second, Else-m-eq0, Start}
+use Rattle.pages_copy.proofs.Page.{none-further, page_apart, sub32, sub32_back, page-further, page-fits}
+use Rattle.pages_copy.proofs.put_page.Goals.{After-get_pair-y, Else-left-ranks, Else-m-eq0}
 use Rattle.pages_copy.proofs.put_page.Goals as goal
 
 -- m runs are behind the cursor's in its page
@@ -38,33 +40,30 @@ apart-here c w =
     c.get_pair-x.ensures.0 c.get_pair-y.ensures.0
 
 -- what the encoder is in its page
-sound-here : (c : Start) → let a = c.args in (a.e.cells ≤ a.e.last + 1) × (a.e.empty + a.e.rank ≤ a.e.last + 1) × (a.e.last + 1 ≤ 16777216)
-sound-here c =
-    let s = c.requires.5.sound in
-    let o = c.requires.3 in
+sound-here : (e : Encoder) → 1 ≤ e.rank → Sound e → (e.cells ≤ e.last + 1) × (e.empty + e.rank ≤ e.last + 1) × (e.last + 1 ≤ 16777216)
+sound-here e o s =
     let p = s.passed-most in
     let q = s.cells-most in
     let r = s.empty-most in
     (omega arith, omega arith, omega arith)
 
-fits-here : (c : After-wrapping_sub_u32-second) (w : Behind c.args.file.now c.args.v c.args.c c.runs_behind-m.result) (r : c.runs_behind-m.result ≤ left_after c.args.step c.args.e.left)
+fits-here : (c : Else-left-ranks) (w : Behind c.args.file.now c.args.v c.args.c c.runs_behind-m.result) (r : c.runs_behind-m.result ≤ left_after c.args.step c.args.e.left)
     → let a = c.args in
     let x = c.get_pair-x.result in
     let y = c.get_pair-y.result in
     let m = c.runs_behind-m.result in
     Fits a.c a.e (y.first - x.first) (y.first - x.first - (y.second - x.second)) m × (a.e.second + 8 * m ≤ length a.dst.now)
-    × (length (copied a.file.now (a.v.second + 8 * (a.c.next - 1)) c.wrapping_sub_u32-first.result c.wrapping_sub_u32-second.result a.e.second m a.dst.now) ≡ length a.dst.now)
+    × (length (copied a.file.now (a.v.second + 8 * (a.c.next - 1)) (sub32 (c.args.e.last + 1 - c.args.e.cells) x.first) (sub32 (c.args.e.last + 1 - c.args.e.rank - c.args.e.empty) x.second) a.e.second m a.dst.now) ≡ length a.dst.now)
 fits-here c w r =
     let a = c.args in
     let x = c.get_pair-x in
     let y = c.get_pair-y in
     let h = c.if-m-eq0.false in
-    let f = c.wrapping_sub_u32-first in
-    let g = c.wrapping_sub_u32-second in
+    let s = sound-here c.args.e c.requires.3 c.requires.5.sound in
     page-fits a.file.now a.v a.c _ w x.result y.result x.ensures.0 y.ensures.0 a.step a.e c.requires.3 c.requires.4 r
-    (omega arith) a.dst.now a.left c.requires.5 c.requires.6 c.if-left-ranks.false f.result g.result f.ensures.value (omega arith) g.ensures.value (omega arith)
+    (omega arith) a.dst.now a.left c.requires.5 c.requires.6 c.if-left-ranks.false _ _ (sub32_back _ _ (omega (arith, s.2)) x.ensures.1) (omega arith) (sub32_back _ _ (omega (arith, s.2)) x.ensures.2) (omega arith)
 
-further-here : (c : After-wrapping_sub_u32-second) (w : Behind c.args.file.now c.args.v c.args.c c.runs_behind-m.result) (r : c.runs_behind-m.result ≤ left_after c.args.step c.args.e.left)
+further-here : (c : Else-left-ranks) (w : Behind c.args.file.now c.args.v c.args.c c.runs_behind-m.result) (r : c.runs_behind-m.result ≤ left_after c.args.step c.args.e.left)
     → let a = c.args in
     let x = c.get_pair-x.result in
     let y = c.get_pair-y.result in
@@ -74,16 +73,15 @@ further-here : (c : After-wrapping_sub_u32-second) (w : Behind c.args.file.now c
       c = cursor_on a.c (y.first - x.first) (y.first - x.first - (y.second - x.second)) m;
       e = encoder_on a.e (y.first - x.first) (y.first - x.first - (y.second - x.second)) m (left_after a.step a.e.left - (m - 1));
     })
-    (copied a.file.now (a.v.second + 8 * (a.c.next - 1)) c.wrapping_sub_u32-first.result c.wrapping_sub_u32-second.result a.e.second m a.dst.now)
+    (copied a.file.now (a.v.second + 8 * (a.c.next - 1)) (sub32 (c.args.e.last + 1 - c.args.e.cells) x.first) (sub32 (c.args.e.last + 1 - c.args.e.rank - c.args.e.empty) x.second) a.e.second m a.dst.now)
 further-here c w r =
     let a = c.args in
     let x = c.get_pair-x in
     let y = c.get_pair-y in
     let h = c.if-m-eq0.false in
-    let f = c.wrapping_sub_u32-first in
-    let g = c.wrapping_sub_u32-second in
+    let s = sound-here c.args.e c.requires.3 c.requires.5.sound in
     page-further a.file.now a.v a.c _ w x.result y.result x.ensures.0 y.ensures.0 a.step a.e c.requires.3 c.requires.4 r
-    (omega arith) a.dst.now a.left c.requires.5 c.requires.6 c.if-left-ranks.false f.result g.result f.ensures.value (omega arith) g.ensures.value (omega arith)
+    (omega arith) a.dst.now a.left c.requires.5 c.requires.6 c.if-left-ranks.false _ _ (sub32_back _ _ (omega (arith, s.2)) x.ensures.1) (omega arith) (sub32_back _ _ (omega (arith, s.2)) x.ensures.2) (omega arith)
 
 pub returns-then-m-eq0 : goal.returns-then-m-eq0
 returns-then-m-eq0 c = let a = c.args in none-further _ _ a.c a.e a.left a.dst.now
@@ -110,16 +108,16 @@ pub returns-then-left-ranks : goal.returns-then-left-ranks
 returns-then-left-ranks c = let a = c.args in none-further _ _ a.c a.e a.left a.dst.now
 
 pub overflow_add-end : goal.overflow_add-end
-overflow_add-end c = let s = (sound-here (goal.at.overflow_add-end c).Start).2 in omega arith
+overflow_add-end c = let s = (sound-here c.args.e c.requires.3 c.requires.5.sound).2 in omega arith
 
-pub overflow_sub-end : goal.overflow_sub-end
-overflow_sub-end c = (sound-here (goal.at.overflow_sub-end c).Start).0
+pub overflow_sub-first : goal.overflow_sub-first
+overflow_sub-first c = (sound-here c.args.e c.requires.3 c.requires.5.sound).0
 
-pub overflow_sub-end-2 : goal.overflow_sub-end-2
-overflow_sub-end-2 c = let s = (sound-here (goal.at.overflow_sub-end-2 c).Start).1 in omega arith
+pub overflow_sub-second-2 : goal.overflow_sub-second-2
+overflow_sub-second-2 c = let s = (sound-here c.args.e c.requires.3 c.requires.5.sound).1 in omega arith
 
-pub overflow_sub-end-3 : goal.overflow_sub-end-3
-overflow_sub-end-3 c = let s = (sound-here (goal.at.overflow_sub-end-3 c).Start).1 in omega arith
+pub overflow_sub-second : goal.overflow_sub-second
+overflow_sub-second c = let s = (sound-here c.args.e c.requires.3 c.requires.5.sound).1 in omega arith
 
 pub overflow_cast-m-2 : goal.overflow_cast-m-2
 overflow_cast-m-2 c = let r = runs_here (goal.at.overflow_cast-m-2 c).Else-m-eq0 in let u = r.used in let s = r.small in omega arith
@@ -127,7 +125,7 @@ overflow_cast-m-2 c = let r = runs_here (goal.at.overflow_cast-m-2 c).Else-m-eq0
 pub copy_pairs-requires : goal.copy_pairs-requires
 copy_pairs-requires c =
     let t = entry_there _ _ _ _ (runs_here (goal.at.copy_pairs-requires c).Else-m-eq0) _ (le_refl _) in
-    (omega arith, (fits-here (goal.at.copy_pairs-requires c).After-wrapping_sub_u32-second (runs_here (goal.at.copy_pairs-requires c).Else-m-eq0) (room-here (goal.at.copy_pairs-requires c).Else-m-eq0)).1)
+    (omega arith, (fits-here (goal.at.copy_pairs-requires c).Else-left-ranks (runs_here (goal.at.copy_pairs-requires c).Else-m-eq0) (room-here (goal.at.copy_pairs-requires c).Else-m-eq0)).1)
 
 pub overflow_sub-m : goal.overflow_sub-m
 overflow_sub-m c = let h = c.if-m-eq0.false in omega arith
@@ -136,7 +134,7 @@ pub overflow_sub-room : goal.overflow_sub-room
 overflow_sub-room c = let t = c.runs_behind-m.ensures.0 in omega arith
 
 pub run_on-requires : goal.run_on-requires
-run_on-requires c = (fits-here (goal.at.run_on-requires c).After-wrapping_sub_u32-second (runs_here (goal.at.run_on-requires c).Else-m-eq0) (room-here (goal.at.run_on-requires c).Else-m-eq0)).0
+run_on-requires c = (fits-here (goal.at.run_on-requires c).Else-left-ranks (runs_here (goal.at.run_on-requires c).Else-m-eq0) (room-here (goal.at.run_on-requires c).Else-m-eq0)).0
 
 pub returns : goal.returns
-returns c = rw (c.run_on.ensures, c.left_after-room.ensures, c.copy_pairs.ensures) (further-here (goal.at.returns c).After-wrapping_sub_u32-second (runs_here (goal.at.returns c).Else-m-eq0) (room-here (goal.at.returns c).Else-m-eq0))
+returns c = rw (c.run_on.ensures, c.left_after-room.ensures, c.copy_pairs.ensures) (further-here (goal.at.returns c).Else-left-ranks (runs_here (goal.at.returns c).Else-m-eq0) (room-here (goal.at.returns c).Else-m-eq0))

@@ -21,5 +21,5 @@ returns c =
     let p = c.requires in
     let n = c.count_cells-n.ensures in
     let r = c.by_counts in
-    counts_measure a.s p.0 (length a.words.now) (stored a.empty a.words.now) p.1 (rising a.empty a.words.now) _ _ r.result r.ensures.0
-    r.ensures.1 (record { allowed = p.0; kind = p.2; ranks = n.0; runs = λ h. n.1 })
+    counts_measure a.s p.0 (length a.words.now) (stored a.empty a.words.now) p.1 (rising a.empty a.words.now) _ _ r.result r.ensures
+    (record { allowed = p.0; kind = p.2; ranks = n.0; runs = λ h. n.1 })

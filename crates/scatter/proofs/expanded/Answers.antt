@@ -2,17 +2,18 @@ use Prim.Native.Nat.{ℕ, ◌+◌, ◌-◌, ◌≤◌, ◌<◌}
 use mathlib.Core.Path.{◌≡◌, refl, sym, ap, ◌∙◌}
 use mathlib.Core.List.{List, ◌++◌}
 use native.Mathlib.Omega.{arith}
-use lib.ListN.{length, get_or, take, drop}
+use lib.ListN.{length, get_or, take, drop, replicate}
+use borrow.Rule.Slice.PartMut.{put_mid}
 use lib.Seq.{length-take-le}
 use Rattle.format.specs.Accepted.{positions_of, kept_of}
 use Rattle.laws.proofs.Bounds.{below_widen}
 use Rattle.parts.proofs.Seen.{seen}
 use Rattle.kinds.proofs.Walks.{walk_start, Taken, taken}
 use Rattle.scatter.proofs.Scattered.{length-scattered}
-use Rattle.scatter.proofs.Blank.{blank, length-filled, blank_filled, Cut}
+use Rattle.scatter.proofs.Blank.{blank, range-filled, length-filled, blank_filled, Cut}
 use Rattle.scatter.proofs.Turn.{scatter_end, past, expand_turned, batch_cut, all-scattered}
 use borrow.Author.Rules.{rules}
-use Rattle.scatter.proofs.expanded.Goals.{After-batch_of-n, After-fill_range, After-positions-c}
+use Rattle.scatter.proofs.expanded.Goals.{After-batch_of-n, After-fill, After-positions-c}
 use Rattle.scatter.proofs.expanded.Goals as goal
 
 -- the batch lies in the ranks
@@ -88,34 +89,62 @@ bounds-batch-n c = let h = some (goal.at.bounds-batch-n c).After-batch_of-n in l
 pub overflow_add-end : goal.overflow_add-end
 overflow_add-end c = let h = (up_to (goal.at.overflow_add-end c).After-positions-c).high in search rules
 
-pub fill_range-requires : goal.fill_range-requires
-fill_range-requires c =
-    let u = up_to (goal.at.fill_range-requires c).After-positions-c in
+pub slice_bounds-fill-count : goal.slice_bounds-fill-count
+slice_bounds-fill-count c =
+    let u = up_to (goal.at.slice_bounds-fill-count c).After-positions-c in
     let l = u.low in
     let h = u.high in
     let e = c.loop-rank.invariant.1 in
     let k = c.requires.1 in
-    (omega arith, omega arith)
+    omega arith
+
+pub slice_bounds-fill-start : goal.slice_bounds-fill-start
+slice_bounds-fill-start c =
+    let u = up_to (goal.at.slice_bounds-fill-start c).After-positions-c in
+    let l = u.low in
+    let h = u.high in
+    let e = c.loop-rank.invariant.1 in
+    let k = c.requires.1 in
+    omega arith
+
+pub slice_bounds-fill-end : goal.slice_bounds-fill-end
+slice_bounds-fill-end c =
+    let u = up_to (goal.at.slice_bounds-fill-end c).After-positions-c in
+    let l = u.low in
+    let h = u.high in
+    let e = c.loop-rank.invariant.1 in
+    let k = c.requires.1 in
+    omega arith
 
 -- the cells up to the last position are filled
-same_size : (c : After-fill_range) (low : c.loop-rank.filled ≤ last_in c.positions-c.new.out c.loop-rank.batch c.batch_of-n.result) (high : last_in c.positions-c.new.out c.loop-rank.batch c.batch_of-n.result < c.args.v.cells)
-    → length c.fill_range.new.dst ≡ length c.args.dst.now
-same_size c low high =
-    let v = c.args.v in
-    let l = c.loop-rank in
-    let k = c.requires.1 in
-    let e = l.invariant.1 in
-    length-filled v.empty v.cells l.filled (last_in c.positions-c.new.out c.loop-rank.batch c.batch_of-n.result + 1) l.dst _ (omega arith) (omega arith) (omega arith) c.fill_range.ensures ∙ e
+module _ (c : After-fill) (low : c.loop-rank.filled ≤ last_in c.positions-c.new.out c.loop-rank.batch c.batch_of-n.result) (high : last_in c.positions-c.new.out c.loop-rank.batch c.batch_of-n.result < c.args.v.cells) where
+  abbrev to : ℕ
+  to = last_in c.positions-c.new.out c.loop-rank.batch c.batch_of-n.result + 1
 
-blanked : (c : After-fill_range) (low : c.loop-rank.filled ≤ last_in c.positions-c.new.out c.loop-rank.batch c.batch_of-n.result) (high : last_in c.positions-c.new.out c.loop-rank.batch c.batch_of-n.result < c.args.v.cells)
-    → blank c.args.v.empty c.args.v.cells (last_in c.positions-c.new.out c.loop-rank.batch c.batch_of-n.result + 1) c.fill_range.new.dst
-    ≡ blank c.args.v.empty c.args.v.cells c.loop-rank.filled c.loop-rank.dst
-blanked c low high =
-    let v = c.args.v in
-    let l = c.loop-rank in
-    let k = c.requires.1 in
-    let e = l.invariant.1 in
-    blank_filled v.empty v.cells l.filled (last_in c.positions-c.new.out c.loop-rank.batch c.batch_of-n.result + 1) l.dst _ (omega arith) (omega arith) (omega arith) c.fill_range.ensures
+  abbrev filled_to : List ℕ
+  filled_to = put_mid c.loop-rank.filled (to - c.loop-rank.filled) c.loop-rank.dst c.fill.new.self
+
+  filled_as : filled_to ≡ take c.loop-rank.filled c.loop-rank.dst ++ (replicate (to - c.loop-rank.filled) c.args.v.empty ++ drop to c.loop-rank.dst)
+  filled_as =
+      let k = c.requires.1 in
+      let e = c.loop-rank.invariant.1 in
+      range-filled c.loop-rank.dst _ c.loop-rank.filled to c.args.v.empty (omega arith) (omega arith) (c.fill.ensures.after (λ y h. h))
+
+  same_size : length filled_to ≡ length c.args.dst.now
+  same_size =
+      let v = c.args.v in
+      let l = c.loop-rank in
+      let k = c.requires.1 in
+      let e = l.invariant.1 in
+      length-filled v.empty v.cells l.filled to l.dst _ (omega arith) (omega arith) (omega arith) filled_as ∙ e
+
+  blanked : blank c.args.v.empty c.args.v.cells to filled_to ≡ blank c.args.v.empty c.args.v.cells c.loop-rank.filled c.loop-rank.dst
+  blanked =
+      let v = c.args.v in
+      let l = c.loop-rank in
+      let k = c.requires.1 in
+      let e = l.invariant.1 in
+      blank_filled v.empty v.cells l.filled to l.dst _ (omega arith) (omega arith) (omega arith) filled_as
 
 pub slice_bounds-batch-end-in-loop-rank : goal.slice_bounds-batch-end-in-loop-rank
 slice_bounds-batch-end-in-loop-rank c = rw ((next (goal.at.slice_bounds-batch-end-in-loop-rank c).After-positions-c).size, c.loop-rank.invariant.2) c.batch_of-n.ensures.1
@@ -129,10 +158,10 @@ scatter_batch-requires c =
     let u = up_to (goal.at.scatter_batch-requires c).After-positions-c in
     let h = u.high in
     let k = c.requires.1 in
-    let e = same_size (goal.at.scatter_batch-requires c).After-fill_range u.low u.high in (
+    let e = same_size (goal.at.scatter_batch-requires c).After-fill u.low u.high in (
       c.requires.0,
       rw t.count (fits (goal.at.scatter_batch-requires c).After-batch_of-n),
-      rw t.front (below_widen (last (goal.at.scatter_batch-requires c).After-positions-c + 1) (length c.fill_range.new.dst) (take c.batch_of-n.result (drop c.loop-rank.rank (positions_of c.args.file.now)))
+      rw t.front (below_widen (last (goal.at.scatter_batch-requires c).After-positions-c + 1) (length (filled_to (goal.at.scatter_batch-requires c).After-fill u.low u.high)) (take c.batch_of-n.result (drop c.loop-rank.rank (positions_of c.args.file.now)))
           (omega arith) u.below),
     )
 
@@ -156,21 +185,18 @@ loop-rank-preserved c =
     let u = up_to (goal.at.loop-rank-preserved c).After-positions-c in
     let h = u.high in
     let k = c.requires.1 in
-    let z = same_size (goal.at.loop-rank-preserved c).After-fill_range u.low u.high in
+    let z = same_size (goal.at.loop-rank-preserved c).After-fill u.low u.high in
     let low : last (goal.at.loop-rank-preserved c).After-positions-c + 1 ≤ c.args.v.cells = omega arith in
     let e = rw t.front at c.scatter_batch.ensures in (
       fits (goal.at.loop-rank-preserved c).After-batch_of-n,
-      ap length e ∙ length-scattered c.fill_range.new.dst (take n (drop l.rank (positions_of c.args.file.now))) (drop l.rank (kept_of c.args.file.now)) ∙ z,
+      ap length e ∙ length-scattered (filled_to (goal.at.loop-rank-preserved c).After-fill u.low u.high) (take n (drop l.rank (positions_of c.args.file.now))) (drop l.rank (kept_of c.args.file.now)) ∙ z,
       t.size ∙ l.invariant.2,
       t.rest,
       low,
       u.rest,
-      expand_turned c.args.file.now c.args.v c.requires.0 l.dst c.fill_range.new.dst _ l.filled (last (goal.at.loop-rank-preserved c).After-positions-c + 1) l.rank n (fits (goal.at.loop-rank-preserved c).After-batch_of-n)
-          (omega arith) low u.below (blanked (goal.at.loop-rank-preserved c).After-fill_range u.low u.high) e ∙ l.invariant.6,
+      expand_turned c.args.file.now c.args.v c.requires.0 l.dst (filled_to (goal.at.loop-rank-preserved c).After-fill u.low u.high) _ l.filled (last (goal.at.loop-rank-preserved c).After-positions-c + 1) l.rank n (fits (goal.at.loop-rank-preserved c).After-batch_of-n)
+          (omega arith) low u.below (blanked (goal.at.loop-rank-preserved c).After-fill u.low u.high) e ∙ l.invariant.6,
     )
-
-pub fill_range-requires-2 : goal.fill_range-requires-2
-fill_range-requires-2 c = let l = c.loop-rank in let e = l.invariant.1 in let k = c.requires.1 in (l.invariant.4, omega arith)
 
 pub returns : goal.returns
 unfolding blank
@@ -178,6 +204,6 @@ returns c =
     let b = c.args.file.now in
     let v = c.args.v in
     let l = c.loop-rank in
-    c.fill_range-2.ensures
+    range-filled l.dst _ l.filled v.cells v.empty l.invariant.4 (let e = l.invariant.1 in let k = c.requires.1 in omega arith) (c.fill-2.ensures.after (λ y h. h))
     ∙ sym (scatter_end (blank v.empty v.cells l.filled l.dst) (positions_of b) _ l.rank (past b v c.requires.0 l.rank c.loop-rank-test.false))
     ∙ l.invariant.6 ∙ all-scattered b v c.requires.0 c.args.dst.now

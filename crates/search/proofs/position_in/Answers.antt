@@ -5,4 +5,4 @@ pub returns-then-v-r : goal.returns-then-v-r
 returns-then-v-r c = position_past _ _ _ c.if-v-r.true
 
 pub returns : goal.returns
-returns c = rw c.position_answer.ensures (position-found _ _ _ _ c.if-v-r.false c.position_of.ensures)
+returns c = rw c.position_below.ensures (position-found _ _ _ _ c.if-v-r.false c.position_of.ensures)

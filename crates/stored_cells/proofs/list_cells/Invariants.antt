@@ -1,14 +1,9 @@
 -- `list_cells` meets its contract: what is listed, then the stored cells that are left, stays the same. Assumes nothing.
-use Prim.Native.Nat.{◌-◌, ◌≤◌}
+use Prim.Native.Nat.{◌≤◌}
 use mathlib.Core.Path.{◌≡◌}
-use lib.ListN.{length}
 use Rattle.stored_cells.proofs.Stored.{listed_from}
 use Rattle.stored_cells.proofs.list_cells.Given as goal
 
--- `list_cells` meets its contract: what is listed, then the stored cells that are left, stays the same. Assumes nothing.
 abbrev pub invariant-loop-i : goal.invariant-loop-i
 invariant-loop-i l =
-    (l.from ≤ l.i) × (l.i ≤ l.to) × (l.listed ≤ l.i) × (length l.out ≡ length l.initial.out) × (listed_from l.empty l.at l.words l.out l.listed l.i ≡ listed_from l.empty l.at l.words l.initial.out l.n l.from)
-
-abbrev pub decreases-loop-i : goal.decreases-loop-i
-decreases-loop-i l = l.to - l.i
+    (l.listed ≤ l.i) × (listed_from l.empty l.at l.words l.out l.listed l.i ≡ listed_from l.empty l.at l.words l.initial.out l.n l.from)

@@ -1,10 +1,9 @@
 -- `put_kept` meets its contract: the words that are left, put on, give the whole. Assumes nothing.
 use Prim.Native.Nat.{◌+◌, ◌*◌}
-use mathlib.Core.Path.{refl, sym, ◌∙◌}
+use mathlib.Core.Path.{sym, ◌∙◌}
 use native.Mathlib.Nat.{add-zero}
 use native.Mathlib.Omega.{arith}
 use Rattle.stored_cells.proofs.Kept.{Listed, cell-listed, kept_turn, kept-end}
-use borrow.Author.Rules.{rules}
 use Rattle.stored_cells.proofs.put_kept.Goals.{In-loop-rank}
 use Rattle.stored_cells.proofs.put_kept.Goals as goal
 
@@ -13,10 +12,10 @@ seen : (c : In-loop-rank)
     → Listed c.args.empty c.args.at
     c.args.words.now c.args.ps.now
     c.requires.0 c.loop-rank.rank
-seen c = cell-listed _ _ _ _ c.requires.0 c.loop-rank.rank c.loop-rank-test.true
+seen c = cell-listed _ _ _ _ c.requires.0 c.loop-rank.rank (omega arith)
 
 pub loop-rank-init : goal.loop-rank-init
-loop-rank-init c = (omega arith, refl, rw add-zero)
+loop-rank-init c = rw add-zero
 
 pub overflow_sub-cell : goal.overflow_sub-cell
 overflow_sub-cell c = let h = seen (goal.at.overflow_sub-cell c).In-loop-rank in omega arith
@@ -34,14 +33,11 @@ pub loop-rank-preserved : goal.loop-rank-preserved
 loop-rank-preserved c =
     let a = c.args in
     let l = c.loop-rank in
-    let turn = kept_turn a.empty a.at a.words.now a.ps.now c.requires.0 l.dst a.place l.rank c.loop-rank-test.true in (
-      search rules,
-      search rules,
-      rw c.put_u32.ensures (turn ∙ l.invariant.2),
-    )
+    let turn = kept_turn a.empty a.at a.words.now a.ps.now c.requires.0 l.dst a.place l.rank (omega arith) in
+    rw c.put_u32.ensures (turn ∙ l.invariant)
 
 pub returns : goal.returns
 returns c =
     let a = c.args in
     let l = c.loop-rank in
-    sym (kept-end a.empty a.at a.words.now a.ps.now c.requires.0 l.dst (a.place + 4 * l.rank) l.rank c.loop-rank-test.false) ∙ l.invariant.2
+    sym (kept-end a.empty a.at a.words.now a.ps.now c.requires.0 l.dst (a.place + 4 * l.rank) l.rank (omega arith)) ∙ l.invariant

@@ -1,4 +1,5 @@
 use Rattle.std.proofs.Common.{arith, rules}
+use Rattle.laws.proofs.Tools.{and_both}
 use Rattle.parts.specs.Ready.{passed}
 use Rattle.base_groups.proofs.Adds.{taken_group}
 use Rattle.base_groups.proofs.Grouped.{next-first, Sized, sized}
@@ -50,12 +51,12 @@ overflow_add-result-2 c =
     let s = z.second in
     search rules
 
-pub overflow_sub-last-2 : goal.overflow_sub-last-2
-overflow_sub-last-2 c = let z = (small (goal.at.overflow_sub-last-2 c).After-with_base-e).base in search rules
+pub overflow_sub-result-2 : goal.overflow_sub-result-2
+overflow_sub-result-2 c = let z = (small (goal.at.overflow_sub-result-2 c).After-with_base-e).base in search rules
 
 pub returns : goal.returns
 returns c =
     let a = c.args in
     let o = c.requires.0 in
-    rw (c.still_fits.ensures, c.with_base-e.ensures)
+    rw (c.limit.ensures, and_both c.with_base-e.result.fits _, c.with_base-e.ensures)
     (taken_group a.width a.step a.e a.ps.now (passed a.e) 16777216 c.requires.3 o.some o.served o.along.rising)

@@ -9,4 +9,4 @@ returns-then-c-v c = rw (lt-ltb _ _ c.if-c-v.true)
 
 pub returns : goal.returns
 unfolding base_of add32
-returns c = rw (le-ltb _ _ c.if-c-v.false, c.load_u32.ensures.0, c.wrapping_add_u32.ensures.value)
+returns c = rw (le-ltb _ _ c.if-c-v.false, c.load_u32.ensures.0)

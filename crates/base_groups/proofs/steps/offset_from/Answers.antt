@@ -5,4 +5,4 @@ use Rattle.base_groups.proofs.steps.offset_from.Goals as goal
 
 pub returns : goal.returns
 unfolding offset_from moved_to add32
-returns c = rw (c.wrapping_add_u32-2.ensures.value, c.entry_of.ensures, c.wrapping_add_u32.ensures.value)
+returns c = rw c.entry_of.ensures

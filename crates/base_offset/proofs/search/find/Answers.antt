@@ -1,6 +1,6 @@
 use Prim.Native.Nat.{◌-◌, ◌*◌, ◌<◌}
 use mathlib.Core.Path.{sym, ◌∙◌}
-use native.Mathlib.Nat.{min-le_left, min-le_right, pos_of_ne-zero}
+use native.Mathlib.Nat.{min-le_right, pos_of_ne-zero}
 use native.Mathlib.Omega.{arith}
 use Rattle.base_offset.proofs.Searched.{AtBase, AtGroup, product-fits, find_before, find_outside, find_no_group, rank-within, find_here, find_absent}
 use Rattle.base_offset.proofs.search.find.Goals.{After-last_offset, After-load_u32-base, Else-v-start, then-wanted-base-via-then-wanted-base, then-wanted-base-via-else-wanted-base+then-v-start}
@@ -15,12 +15,12 @@ started c = omega arith
 
 at-group : (c : After-last_offset)
     → let a = c.args in
-    AtGroup a.file.now a.v a.p.0 c.last_at_most-j.result c.load_u32-base.result c.lesser-n.result c.last_offset.result
+    AtGroup a.file.now a.v a.p.0 c.last_at_most-j.result c.load_u32-base.result c.min-n.result c.last_offset.result
 at-group c =
     record {
       at_base = record { last = c.last_at_most-j.ensures; is = c.load_u32-base.ensures.0 };
       start = omega arith;
-      lesser = c.lesser-n.ensures;
+      lesser = c.min-n.ensures;
       least = c.if-wanted-base.false;
       full = pos_of_ne-zero c.if-n-eq0.false;
       found = c.last_offset.ensures;
@@ -36,20 +36,13 @@ returns-then-wanted-base c =
       | then-wanted-base-via-else-wanted-base+then-v-start w ↦ find_outside (at_base (goal.at.returns-then-wanted-base c).After-load_u32-base) w.if-v-start.true
     ]
 
-pub overflow_cast-n : goal.overflow_cast-n
-overflow_cast-n c =
-    let v = c.args.v in
-    let e = c.lesser-n.ensures in
-    let m = min-le_left v.step (v.words - c.last_at_most-j.result * v.step) in
-    omega arith
-
 pub returns-then-n-eq0 : goal.returns-then-n-eq0
-returns-then-n-eq0 c = find_no_group (at_base (goal.at.returns-then-n-eq0 c).After-load_u32-base) (started (goal.at.returns-then-n-eq0 c).Else-v-start) c.lesser-n.ensures c.if-n-eq0.true
+returns-then-n-eq0 c = find_no_group (at_base (goal.at.returns-then-n-eq0 c).After-load_u32-base) (started (goal.at.returns-then-n-eq0 c).Else-v-start) c.min-n.ensures c.if-n-eq0.true
 
 pub last_offset-requires : goal.last_offset-requires
 last_offset-requires c =
     let v = c.args.v in
-    let e = c.lesser-n.ensures in
+    let e = c.min-n.ensures in
     let m = min-le_right v.step (v.words - c.last_at_most-j.result * v.step) in
     let s = started (goal.at.last_offset-requires c).Else-v-start in
     omega arith

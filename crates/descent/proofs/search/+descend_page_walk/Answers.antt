@@ -21,34 +21,33 @@ descend-page_walk-requires t c =
     let e = c.size_at-size.ensures.0 in
     let l = c.if-size-first.false in
     let h : a.entry * a.step < get_or a.sizes.now (a.level - 1) 0 = omega (arith, e) in
-    (omega (arith, f.some), rw (c.lesser-left.ensures, e) (page-fits _ _ _ _ _ _ _ _ f h))
+    (omega (arith, f.some), rw (c.min-left.ensures, e) (page-fits _ _ _ _ _ _ _ _ f h))
 
 pub descend-returns : goal.descend-returns
 descend-returns t c =
     c.page_walk.ensures
-    ∙ rw (c.lesser-left.ensures, c.size_at-size.ensures.0)
+    ∙ rw (c.min-left.ensures, c.size_at-size.ensures.0)
     (sym (descent-page _ _ _ c.args.asked _ _ _ _ _ _ _ c.requires.some))
 
 -- ---- along a page
 
 pub page_walk-returns-then-left-k : goal.page_walk-returns-then-left-k
-page_walk-returns-then-left-k t c = sym (walk_none _ _ _ c.args.asked _ _ _ _ _ _ _ (rw c.entries_passed-k.ensures.0 at c.if-left-k.true))
+page_walk-returns-then-left-k t c = sym (walk_none _ _ _ c.args.asked _ _ _ _ _ _ _ (rw (c.entries_passed-k.ensures.0, c.for_rank-stored.ensures) at c.if-left-k.true))
 
 pub page_walk-returns-then-level-eq0 : goal.page_walk-returns-then-level-eq0
 page_walk-returns-then-level-eq0 t c =
     let n = c.entries_passed-k in
     let x = c.entry_before-c in
     let y = c.pair_at-y in
-    c.answer.ensures
-    ∙ rw (c.apart-rest.ensures, c.count.ensures)
-    (found_leaf _ _ _ c.args.asked _ _ _ _ _ _ _ n.result (span_of x.result) (span_of y.result) n.ensures.0 c.if-left-k.false
+    rw (c.answer.ensures, c.count.ensures, c.from.ensures, c.for_rank-stored.ensures)
+    (found_leaf _ _ _ c.args.asked _ _ _ _ _ _ _ n.result (span_of x.result) (span_of y.result) (rw c.for_rank-stored.ensures at n.ensures.0) c.if-left-k.false
     (page-entries _ _ _ _ _ _ _ _ _ c.requires) x.ensures.0 y.ensures.0 c.if-level-eq0.true)
 
 pub page_walk-descend-requires : goal.page_walk-descend-requires
 page_walk-descend-requires t c =
     let e = c.size_at.ensures in
     let l = c.if-level-eq0.false in
-    (omega arith, rw e.0 (page_down_lem _ _ _ _ _ _ _ _ _ c.requires _ _ c.if-left-k.false (omega (arith, l)) (rw e.0 at e.1) c.entry_before-c.ensures.2))
+    (omega arith, rw (e.0, c.from.ensures) (page_down_lem _ _ _ _ _ _ _ _ _ c.requires _ _ c.if-left-k.false (omega (arith, l)) (rw e.0 at e.1) c.entry_before-c.ensures.2))
 
 pub page_walk-returns : goal.page_walk-returns
 page_walk-returns t c =
@@ -56,6 +55,6 @@ page_walk-returns t c =
     let x = c.entry_before-c in
     let l = c.if-level-eq0.false in
     c.descend.ensures
-    ∙ rw (c.size_at.ensures.0, c.apart-rest.ensures, c.count.ensures)
-    (found_below _ _ _ c.args.asked _ _ _ _ _ _ _ n.result (span_of x.result) _ n.ensures.0 c.if-left-k.false
+    ∙ rw (c.size_at.ensures.0, c.count.ensures, c.from.ensures, c.for_rank-stored.ensures)
+    (found_below _ _ _ c.args.asked _ _ _ _ _ _ _ n.result (span_of x.result) _ (rw c.for_rank-stored.ensures at n.ensures.0) c.if-left-k.false
     (page-entries _ _ _ _ _ _ _ _ _ c.requires) x.ensures.0 refl (omega (arith, l)))

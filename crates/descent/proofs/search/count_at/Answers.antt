@@ -1,5 +1,5 @@
 -- `count_at` meets its contract. Assumes nothing.
-use Rattle.std.proofs.Common.{◌∙◌, arith}
+use Rattle.std.proofs.Common.{arith}
 use Rattle.wire.specs.Wire.{field_pair}
 use Rattle.levels.proofs.Reading.{entry_at}
 use Rattle.descent.proofs.search.count_at.Goals as goal
@@ -10,13 +10,12 @@ unfolding field_pair
 returns-then-stored c =
     let g = c.get_u32-cells in
     let a = c.args in
-    let i = c.index.ensures.0 in
     rw (entry_at a.start a.file.now a.number (omega arith), c.if-stored.true)
-    (c.apart.ensures ∙ rw (g.ensures.0, c.get_u32.ensures.0, i))
+    (rw (g.ensures.0, c.get_u32.ensures.0))
 
 pub returns-else-stored : goal.returns-else-stored
 unfolding field_pair
 returns-else-stored c =
     let a = c.args in
     rw (entry_at a.start a.file.now a.number (omega arith), c.if-stored.false)
-    (c.get_u32-cells.ensures.0 ∙ rw c.index.ensures.0)
+    c.get_u32-cells.ensures.0

@@ -1,5 +1,4 @@
 -- `entries_passed` meets its contract. Assumes nothing.
-use Rattle.std.proofs.Common.{◌-◌}
 use Rattle.descent.specs.Descent.{counted}
 use Rattle.descent.proofs.Counting.{Counting}
 use Rattle.descent.proofs.search.entries_passed.Given as goal
@@ -7,6 +6,3 @@ use Rattle.descent.proofs.search.entries_passed.Given as goal
 -- `entries_passed` meets its contract. Assumes nothing.
 abbrev pub invariant-loop-i : goal.invariant-loop-i
 invariant-loop-i l = Counting (counted l.stored) l.p l.file l.start l.number l.n l.i l.k
-
-abbrev pub decreases-loop-i : goal.decreases-loop-i
-decreases-loop-i l = l.n - l.i

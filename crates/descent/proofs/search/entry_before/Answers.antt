@@ -9,11 +9,11 @@ pub returns : goal.returns
 returns c =
     let a = c.args in
     let x = c.pair_at-x in
-    let e = rw c.one_less.ensures at x.ensures.0 in
+    let e = rw c.saturating_sub.ensures at x.ensures.0 in
     (rw (c.kept.ensures, c.kept-2.ensures) (left-kept (entries a.start a.file.now) a.number a.k (span_of x.result) e), omega arith, omega arith)
 
 pub overflow_add-number : goal.overflow_add-number
-overflow_add-number c = let e = c.one_less.ensures in omega arith
+overflow_add-number c = let e = c.saturating_sub.ensures in omega arith
 
 pub pair_at-x-requires : goal.pair_at-x-requires
-pair_at-x-requires c = let e = c.one_less.ensures in omega arith
+pair_at-x-requires c = let e = c.saturating_sub.ensures in omega arith

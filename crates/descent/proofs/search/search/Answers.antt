@@ -17,23 +17,21 @@ pub level_sizes-levels-requires : goal.level_sizes-levels-requires
 level_sizes-levels-requires c =
     (c.if-step-lt2.false, c.if-step-gt64.false, c.if-runs-gt16777216.false, refl)
 
-pub returns-then-file-index : goal.returns-then-file-index
-returns-then-file-index c =
-    let l = rw c.index.ensures.0 at c.if-file-index.true in
+pub returns-then-file-start : goal.returns-then-file-start
+returns-then-file-start c =
+    let l = c.if-file-start.true in
     sym (short-file _ _ _ _ _ _ c.if-step-lt2.false c.if-step-gt64.false c.if-runs-gt16777216.false _ _ _
     c.level_sizes-levels.ensures l)
 
 pub descend-requires : goal.descend-requires
 descend-requires c =
     let a = c.args in
-    let k = rw c.index.ensures.0 at c.if-file-index.false in
-    rw c.index-2.ensures.0
-    (top_fits a.file.now a.start a.step a.runs a.asked a.number c.if-step-lt2.false c.if-step-gt64.false c.if-runs-gt16777216.false _ _ _
-    c.level_sizes-levels.ensures k c.well_formed.0.0)
+    let k = c.if-file-start.false in
+    top_fits a.file.now a.start a.step a.runs a.asked a.number c.if-step-lt2.false c.if-step-gt64.false c.if-runs-gt16777216.false _ _ _
+    c.level_sizes-levels.ensures k c.well_formed.0.0
 
 pub returns : goal.returns
 returns c =
-    let k = rw c.index.ensures.0 at c.if-file-index.false in
+    let k = c.if-file-start.false in
     c.descend.ensures
-    ∙ rw c.index-2.ensures.0
-    (from_top _ _ _ _ _ _ c.if-step-lt2.false c.if-step-gt64.false c.if-runs-gt16777216.false _ _ _ c.level_sizes-levels.ensures k)
+    ∙ from_top _ _ _ _ _ _ c.if-step-lt2.false c.if-step-gt64.false c.if-runs-gt16777216.false _ _ _ c.level_sizes-levels.ensures k

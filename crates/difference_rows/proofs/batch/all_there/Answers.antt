@@ -1,4 +1,4 @@
-use Rattle.std.proofs.Common.{◌+◌, ◌*◌, ◌≤◌, length, sym, true≢false, mul-le-mul_right, pos_of_ne-zero, arith, leb-true}
+use Rattle.std.proofs.Common.{◌+◌, ◌*◌, ◌≤◌, length, mul-le-mul_right, pos_of_ne-zero, arith, leb-true}
 use Rattle.difference_rows.proofs.batch.all_there.Goals.{Else-end-gt4294967295}
 use Rattle.difference_rows.proofs.batch.all_there.Goals as goal
 
@@ -12,18 +12,6 @@ returns c e =
     let l : a.second + a.width * (a.rank + a.n) + a.width ≤ length a.file.now = leb-true _ _ e in
     let h = c.if-end-gt4294967295.false in
     record { narrow = pos_of_ne-zero c.if-width-eq0.false; wide = c.if-width-gt2.false; inside = l; rank = omega arith }
-
-pub returns-then-width-eq0 : goal.returns-then-width-eq0
-returns-then-width-eq0 c e = absurd (true≢false (sym e))
-
-pub returns-then-width-gt2 : goal.returns-then-width-gt2
-returns-then-width-gt2 c e = absurd (true≢false (sym e))
-
-pub returns-then-n-gt65536 : goal.returns-then-n-gt65536
-returns-then-n-gt65536 c e = absurd (true≢false (sym e))
-
-pub returns-then-end-gt4294967295 : goal.returns-then-end-gt4294967295
-returns-then-end-gt4294967295 c e = absurd (true≢false (sym e))
 
 pub overflow_mul-result : goal.overflow_mul-result
 overflow_mul-result c = let m = most c in omega arith

@@ -1,54 +1,21 @@
 -- Rank by rank. Assumes nothing.
-use Rattle.std.proofs.Common.{◌≡◌, suc, ◌+◌, ◌-◌, arith}
-use Rattle.differences.specs.Walk.{Room}
+use Rattle.std.proofs.Common.{◌≡◌, suc, ◌+◌, ◌-◌, length, arith}
 use Rattle.difference_rows.specs.Steps.{next_at}
-use Rattle.difference_rows.proofs.Filled.{going_begin, going_room, going_turn, fill_end}
-use Rattle.difference_rows.proofs.batch.each_u8.Goals.{After-struct_known-1}
+use Rattle.difference_rows.proofs.Filled.{going_turn, fill_end}
 use Rattle.difference_rows.proofs.batch.each_u8.Goals as goal
 
-pub loop-i-init : goal.loop-i-init
-loop-i-init c =
+pub loop-p-preserved : goal.loop-p-preserved
+loop-p-preserved c =
     let a = c.args in
-    (c.requires.1, going_begin 1 a.start a.second a.file.now a.c a.from (a.end - a.from) a.out.now c.requires.0)
-
-pub bounds-out-i : goal.bounds-out-i
-bounds-out-i c =
-    let n = c.loop-i.invariant.1.left.same in
-    let h = c.loop-i-test.true in
-    omega arith
-
--- the next difference is there
-room : (c : After-struct_known-1)
-    → let a = c.args in Room 1 a.second a.file.now (c.loop-i.c.rank + 1)
-room c =
-    let a = c.args in
-    let l = c.loop-i in
-    let n = l.invariant.1.left.same in
-    let h = c.loop-i-test.true in
-    going_room 1 a.start a.second a.file.now a.c a.from (a.end - a.from) a.out.now l.c l.i _ l.out (omega arith) l.invariant.1
-
-pub overflow_add-c : goal.overflow_add-c
-overflow_add-c c = let z = (room c).rank in omega arith
-
-pub difference-d-requires : goal.difference-d-requires
-difference-d-requires c = (omega arith, omega arith, (room c).inside)
-
-pub loop-i-preserved : goal.loop-i-preserved
-loop-i-preserved c =
-    let a = c.args in
-    let l = c.loop-i in
-    let n = l.invariant.1.left.same in
-    let h = c.loop-i-test.true in
-    let e : a.end - l.i ≡ suc (a.end - (l.i + 1)) = omega arith in (
-      omega arith,
-      going_turn 1 a.start a.second a.file.now a.c a.from (a.end - a.from) a.out.now l.c l.i _ l.out (omega arith) l.invariant.1 _ e
-          c.difference-d.ensures.0 c.step_by-c.ensures,
-    )
+    let l = c.loop-p in
+    let n = length a.out.now in
+    let h = c.loop-p-test.true in
+    let e : n - l.p-index ≡ suc (n - (l.p-index + 1)) = omega arith in
+    going_turn 1 a.start a.second a.file.now a.c 0 n a.out.now l.c l.p-index _ l.out (omega arith) l.invariant _ e c.difference-d.ensures.0 c.step_by-c.ensures
 
 pub returns : goal.returns
 returns c =
     let a = c.args in
-    let l = c.loop-i in
-    let n = l.invariant.1.left.same in
-    let h = c.loop-i-test.false in
-    fill_end (next_at 1 a.start a.second a.file.now) a.c a.from (a.end - a.from) a.out.now l.c l.i _ l.out l.invariant.1.left (omega arith)
+    let l = c.loop-p in
+    let h = c.loop-p-test.false in
+    fill_end (next_at 1 a.start a.second a.file.now) a.c 0 (length a.out.now) a.out.now l.c l.p-index _ l.out l.invariant.left (omega arith)

@@ -1,12 +1,8 @@
 -- Rank by rank. Assumes nothing.
-use Rattle.std.proofs.Common.{◌-◌, ◌≤◌}
+use Rattle.std.proofs.Common.{◌-◌, length}
 use Rattle.difference_rows.proofs.Filled.{Going}
 use Rattle.difference_rows.proofs.batch.each_u8.Given as goal
 
 -- Rank by rank. Assumes nothing.
-abbrev pub invariant-loop-i : goal.invariant-loop-i
-invariant-loop-i l =
-    (l.i ≤ l.end) × Going 1 l.start l.second l.file l.initial.c l.from (l.end - l.from) l.initial.out l.c l.i (l.end - l.i) l.out
-
-abbrev pub decreases-loop-i : goal.decreases-loop-i
-decreases-loop-i l = l.end - l.i
+abbrev pub invariant-loop-p : goal.invariant-loop-p
+invariant-loop-p l = Going 1 l.start l.second l.file l.initial.c 0 (length l.initial.out) l.initial.out l.c l.p-index (length l.initial.out - l.p-index) l.out

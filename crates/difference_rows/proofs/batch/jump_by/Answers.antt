@@ -6,8 +6,8 @@ use Rattle.difference_rows.proofs.batch.jump_by.Goals as goal
 
 pub returns-then-difference-eq0 : goal.returns-then-difference-eq0
 unfolding jump_by jump_from add32
-returns-then-difference-eq0 c = rw (eq-eqb _ 0 c.if-difference-eq0.true, c.wrapping_add_u32.ensures.value, c.load_u32.ensures.0, c.wrapping_add_u32-then-difference-eq0.ensures.value)
+returns-then-difference-eq0 c = rw (eq-eqb _ 0 c.if-difference-eq0.true, c.load_u32.ensures.0)
 
 pub returns : goal.returns
 unfolding jump_by moved_to add32
-returns c = rw (ne_eqb _ 0 c.if-difference-eq0.false, c.wrapping_add_u32.ensures.value, c.wrapping_add_u32-2.ensures.value)
+returns c = rw (ne_eqb _ 0 c.if-difference-eq0.false)

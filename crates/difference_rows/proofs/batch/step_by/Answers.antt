@@ -6,9 +6,8 @@ use Rattle.difference_rows.proofs.batch.step_by.Goals as goal
 
 pub returns-then-difference-ne0 : goal.returns-then-difference-ne0
 unfolding jump_by moved_to add32
-returns-then-difference-ne0 c = rw (ne_eqb _ 0 c.if-difference-ne0.true, c.wrapping_add_u32.ensures.value, c.wrapping_add_u32-then-difference-ne0.ensures.value)
+returns-then-difference-ne0 c = rw (ne_eqb _ 0 c.if-difference-ne0.true)
 
 pub returns : goal.returns
 unfolding jump_by jump_from add32
-returns c =
-    rw (eq-eqb _ 0 c.if-difference-ne0.false, c.wrapping_add_u32.ensures.value, c.load_u32-jump.ensures.0, c.wrapping_add_u32-2.ensures.value)
+returns c = rw (eq-eqb _ 0 c.if-difference-ne0.false, c.load_u32-jump.ensures.0)

@@ -9,7 +9,6 @@ use Rattle.difference_rows.proofs.put.put_jumps.Given as goal
 abbrev pub invariant-loop-place : goal.invariant-loop-place
 invariant-loop-place l =
     (1 ≤ l.i)
-    × (length l.dst ≡ length l.initial.dst)
     × (l.place + 4 * length (later_jumps l.width (drop (l.i - 1) l.ps)) ≡ l.at + 4 * l.count)
     × (put l.dst l.place (bytes_of 4 (later_jumps l.width (drop (l.i - 1) l.ps))) ≡ put l.initial.dst l.at (bytes_of 4 (later_jumps l.width l.ps)))
 

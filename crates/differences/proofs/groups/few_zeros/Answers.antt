@@ -9,20 +9,14 @@ use Rattle.differences.proofs.groups.few_zeros.Goals as goal
 two : (c : Else-width-eq1) → c.args.width ≡ 2
 two c = let z = c.requires.0 in other_width _ z.narrow z.wide c.if-width-eq1.false
 
-pub few_zeros_u8-requires : goal.few_zeros_u8-requires
-few_zeros_u8-requires c = rw c.if-width-eq1.true at c.requires
-
 pub returns-then-width-eq1 : goal.returns-then-width-eq1
 returns-then-width-eq1 c =
     let a = c.args in
-    let e = c.few_zeros_u8.ensures in
+    let e = c.count_zeros.ensures in
     rw c.if-width-eq1.true (e, rw e (zeros-most 1 a.second a.file.now a.r a.n))
-
-pub few_zeros_u16-requires : goal.few_zeros_u16-requires
-few_zeros_u16-requires c = rw (two c) at c.requires
 
 pub returns : goal.returns
 returns c =
     let a = c.args in
-    let e = c.few_zeros_u16.ensures in
+    let e = c.count_zeros-2.ensures in
     rw (two (goal.at.returns c).Else-width-eq1) (e, rw e (zeros-most 2 a.second a.file.now a.r a.n))

@@ -7,7 +7,4 @@ use Rattle.differences.proofs.groups.sum_behind.Given as goal
 -- The sum behind the last jump of some ranks. Assumes nothing.
 -- those behind rank k are added
 abbrev pub invariant-loop-k : goal.invariant-loop-k
-invariant-loop-k l = (l.k ≤ l.n) × (l.x + 65536 * l.k ≤ 65536 * l.n) × (behind l.width l.second l.file l.r l.k + l.x ≡ behind l.width l.second l.file l.r l.n)
-
-abbrev pub decreases-loop-k : goal.decreases-loop-k
-decreases-loop-k l = l.k
+invariant-loop-k l = (l.x + 65536 * l.k ≤ 65536 * l.n) × (behind l.width l.second l.file l.r l.k + l.x ≡ behind l.width l.second l.file l.r l.n)

@@ -3,10 +3,6 @@ use native.Mathlib.Omega.{arith}
 use Rattle.differences.proofs.Walked.{by_difference, by_jump}
 use Rattle.differences.proofs.walk.advance.Goals as goal
 
--- A step from rank to rank. Assumes nothing.
-pub difference-d-requires : goal.difference-d-requires
-difference-d-requires c = let z = c.requires.0 in (z.narrow, z.wide, z.inside)
-
 pub returns-then-d-ne0 : goal.returns-then-d-ne0
 returns-then-d-ne0 c =
     let a = c.args in

@@ -4,15 +4,6 @@ use native.Mathlib.Omega.{arith}
 use Rattle.differences.proofs.Walked.{by_behind, by_last_jump}
 use Rattle.differences.proofs.walk.walk_group.Goals as goal
 
--- A walk of n ranks at once, a group or fewer. Assumes nothing.
-pub take_group-requires : goal.take_group-requires
-take_group-requires c =
-    let z = c.requires in
-    let n = z.0.rank in
-    let p = z.1.position in
-    let q = z.1.taken in
-    (rw c.if-n-eq128.true at z.0, record { position = omega arith; taken = omega arith })
-
 pub returns-then-n-eq128 : goal.returns-then-n-eq128
 returns-then-n-eq128 c =
     let e = c.if-n-eq128.true in

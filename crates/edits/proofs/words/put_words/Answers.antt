@@ -19,7 +19,7 @@ put_word-at-requires c =
     let p = c.requires in
     let s = all-size a.file.now a.v p.0 a.x p.1 a.word in
     let n = ap length c.copy.ensures ∙ length-put _ _ _ in
-    omega arith
+    rw c.and.ensures (omega arith)
 
 pub overflow_add-from : goal.overflow_add-from
 overflow_add-from c = let k = c.struct_known-1.given in omega arith
@@ -39,7 +39,7 @@ copy-requires-2 c =
     let s = all-size a.file.now a.v p.0 a.x p.1 a.word in
     let n = ap length c.copy.ensures ∙ length-put _ _ _ in
     let m = ap length c.put_word-at.ensures.1 ∙ length-put _ _ _ in
-    let t = c.put_word-at.ensures.0 in
+    let t = rw c.and.ensures at c.put_word-at.ensures.0 in
     (omega arith, omega arith)
 
 pub returns : goal.returns
@@ -47,5 +47,5 @@ returns c =
     let a = c.args in
     let p = c.requires in
     c.copy-2.ensures
-    ∙ rw (c.put_word-at.ensures.1, c.put_word-at.ensures.0, c.copy.ensures)
+    ∙ rw (c.put_word-at.ensures.1, c.put_word-at.ensures.0, c.copy.ensures, c.and.ensures)
     (all-put a.file.now a.v p.0 a.x p.1 a.word a.dst.now a.place)

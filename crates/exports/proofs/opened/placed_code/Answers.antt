@@ -5,7 +5,7 @@ use Rattle.search.proofs.Places.{position_past, position-found}
 use Rattle.exports.proofs.opened.placed_code.Goals as goal
 
 pub returns-then-v-r : goal.returns-then-v-r
-returns-then-v-r c = record { answer = refused BEYOND; right = position_past _ _ _ c.if-v-r.true; code = c.code_and_value.ensures }
+returns-then-v-r c = record { answer = refused BEYOND; right = position_past _ _ _ c.if-v-r.true; code = c.position_code.ensures }
 
 pub returns : goal.returns
 returns c =

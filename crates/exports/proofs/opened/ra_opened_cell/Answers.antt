@@ -14,7 +14,7 @@ returns-then-not-whole_header c =
     record {
       answer = refused BEYOND;
       right = short-refused b (cell_answer b g.place) FreeWord (c.whole_header.ensures.short (c.if-not-whole_header.true)) beyond;
-      code = c.code_and_value.ensures;
+      code = c.cell_code.ensures;
     }
 
 whole : (c : Else-not-whole_header) → WholeHeader c.args.file.now
@@ -29,7 +29,7 @@ returns c =
           cell_unchecked_lem g.file.now _ c.read_view.ensures (whole (goal.at.returns c).Else-not-whole_header) g.place
           (cell_says c.cell_in.result)
           c.cell_in.ensures;
-      code = c.cell_code.ensures;
+      code = c.cell_code-2.ensures;
     }
 
 pub read_view-requires : goal.read_view-requires

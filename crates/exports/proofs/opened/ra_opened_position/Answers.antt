@@ -14,7 +14,7 @@ returns-then-not-whole_header c =
     record {
       answer = refused BEYOND;
       right = short-refused b (position_answer b g.number) (Free (view_of b).cells) (c.whole_header.ensures.short (c.if-not-whole_header.true)) beyond;
-      code = c.code_and_value.ensures;
+      code = c.position_code.ensures;
     }
 
 whole : (c : Else-not-whole_header) → WholeHeader c.args.file.now
@@ -42,7 +42,7 @@ returns c =
           position_unchecked_lem g.file.now _ c.read_view-v.ensures (whole (goal.at.returns c).Else-not-whole_header) g.number
           (position_says c.position_in.result)
           c.position_in.ensures;
-      code = c.position_code.ensures;
+      code = c.position_code-2.ensures;
     }
 
 pub read_view-v-requires : goal.read_view-v-requires

@@ -15,7 +15,7 @@ returns-then-not-whole_header c =
     record {
       answer = refused BEYOND;
       right = short-refused b (rank_answer b g.place) (Free (words_count b)) (c.whole_header.ensures.short (c.if-not-whole_header.true)) beyond;
-      code = c.code_and_value.ensures;
+      code = c.rank_code.ensures;
     }
 
 whole : (c : Else-not-whole_header) → WholeHeader c.args.file.now
@@ -30,7 +30,7 @@ returns c =
           rank_unchecked_lem g.file.now _ c.read_view-v.ensures (whole (goal.at.returns c).Else-not-whole_header) g.place
           (rank_says c.rank_in-answer.result)
           c.rank_in-answer.ensures;
-      code = c.rank_code.ensures;
+      code = c.rank_code-2.ensures;
     }
 
 pub read_view-v-requires : goal.read_view-v-requires

@@ -4,22 +4,21 @@ use Prim.Native.Nat.{suc, ◌+◌, ◌*◌, ◌≤◌, ◌<◌}
 use native.Mathlib.Omega.{arith}
 use lib.ListN.{length, drop, get_or}
 use borrow.Author.Rules.{rules}
-use Rattle.format.specs.Picture.{product, most_dimensions}
+use Rattle.format.specs.Picture.{product, cells, dimensions_allowed, most_dimensions}
 use Rattle.header.proofs.RowOrder.{row_turn, inside_turn, inside_stop, room_turn, room-below, row-end, inside-end}
-use Rattle.header.proofs.CoordinateAnswers.{count_of, count-product, product-some, position_extent, position-beyond, position-given}
-use Rattle.header.proofs.coordinates.position_at.Goals.{Else-cell_count-eq0, Else-e-a, Start}
+use mathlib.Core.Bool.{true}
+use Rattle.std.proofs.lemmas.Result.{err_from_is_err_and}
+use Rattle.laws.proofs.Tools.{ok_is, err_is}
+use Rattle.laws.proofs.Limits.{small-dims}
+use Rattle.header.proofs.CoordinateAnswers.{product-some, position_extent, position-beyond, position-given}
+use Rattle.header.proofs.coordinates.position_at.Goals.{At-loop-i, Else-e-a, Start}
 use Rattle.header.proofs.coordinates.position_at.Goals as goal
 
 four : (c : Start) → (length c.args.d.extents ≡ most_dimensions) × (length c.args.at ≡ most_dimensions)
 four c = (search rules, search rules)
 
-some : (c : Else-cell_count-eq0) → count_of c.args.d ≡ 0 → ⊥
-some c z = c.if-cell_count-eq0.false (c.cell_count.ensures.0 ∙ z)
-
-most : (c : Else-cell_count-eq0) → product c.args.d.extents ≤ 16777216
-most c =
-    let p = sym (count-product c.args.d (some c)) ∙ sym c.cell_count.ensures.0 in
-    omega (arith, c.cell_count.ensures.1)
+some : (c : At-loop-i) → dimensions_allowed c.args.d ≡ true
+some c = (ok_is _ _ _ _ _ c.cell_count.ensures.0 c.ok_or.ensures.value _ c.in_ok-ok_or.was).0
 
 -- the coordinate is inside
 below : (c : Else-e-a)
@@ -42,14 +41,18 @@ next : (c : Else-e-a)
     → c.loop-i.p * get_or c.args.d.extents c.loop-i.i 0
     + get_or c.args.at c.loop-i.i 0
     < 16777216
+unfolding cells
 next c =
-    let s : count_of c.args.d ≡ 0 → ⊥ = λ z. c.if-cell_count-eq0.false (c.cell_count.ensures.0 ∙ z) in
-    let p : product c.args.d.extents ≡ c.cell_count.result = sym (count-product c.args.d s) ∙ sym c.cell_count.ensures.0 in
+    let s = (ok_is _ _ _ _ _ c.cell_count.ensures.0 c.ok_or.ensures.value _ c.in_ok-ok_or.was).0 in
     let b = room-below _ (c.loop-i.i + 1) _ c.args.d.extents (product-some c.args.d s) (room c) in
-    omega (arith, c.cell_count.ensures.1)
+    let m : product c.args.d.extents ≤ 16777216 = (small-dims c.args.d s).most in
+    omega arith
 
-pub returns-then-cell_count-eq0 : goal.returns-then-cell_count-eq0
-returns-then-cell_count-eq0 c = position_extent c.args.d c.args.at (sym c.cell_count.ensures.0 ∙ c.if-cell_count-eq0.true)
+pub returns-in_err-ok_or : goal.returns-in_err-ok_or
+returns-in_err-ok_or c =
+    let e = err_is _ _ _ _ _ c.cell_count.ensures.0 c.ok_or.ensures.value _ c.in_err-ok_or.was in
+    let p = err_from_is_err_and c.from_residual.result c.from_residual.ensures.1 in
+    rw (p.1, p.2, e.1) (position_extent c.args.d c.args.at e.0)
 
 pub loop-i-init : goal.loop-i-init
 loop-i-init c = (omega arith, refl, refl, omega arith)
@@ -58,7 +61,7 @@ pub returns-then-e-a : goal.returns-then-e-a
 returns-then-e-a c =
     let l = c.loop-i in
     let f = four (goal.at.returns-then-e-a c).Start in
-    position-beyond c.args.d c.args.at (some (goal.at.returns-then-e-a c).Else-cell_count-eq0) f.1
+    position-beyond c.args.d c.args.at (some (goal.at.returns-then-e-a c).At-loop-i) f.1
     (sym l.invariant.2 ∙ inside_stop l.i l.p c.args.d.extents c.args.at (omega arith) (omega arith))
 
 pub overflow_mul-p : goal.overflow_mul-p
@@ -83,6 +86,6 @@ returns c =
     let l = c.loop-i in
     let f = four (goal.at.returns c).Start in
     let h : length c.args.d.extents ≤ l.i = omega arith in
-    position-given c.args.d c.args.at (some (goal.at.returns c).Else-cell_count-eq0) f.1 l.p
+    position-given c.args.d c.args.at (some (goal.at.returns c).At-loop-i) f.1 l.p
     (sym l.invariant.2 ∙ inside-end l.i l.p c.args.d.extents (drop l.i c.args.at) h)
     (sym l.invariant.1 ∙ row-end l.i l.p c.args.d.extents (drop l.i c.args.at) h)

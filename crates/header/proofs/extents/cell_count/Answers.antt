@@ -11,15 +11,23 @@ use borrow.Author.Tests.{le-leb, lt-leb}
 use Rattle.format.specs.Tools.{pick}
 use Rattle.format.specs.Picture.{cells, dimensions_allowed, most_dimensions}
 use Rattle.header.specs.CellCount.{count_from}
-use Rattle.header.proofs.CellCount.{count-cells, count_outside, past-allowed, past-refused}
+use Rattle.std.specs.Prelude.{Some, None}
+use Rattle.format.specs.declared.Dimensions.{Dimensions}
+use Rattle.laws.proofs.Tools.{none_of, some_of}
+use Rattle.header.proofs.CellCount.{cells-least, count-cells, count_outside, past-allowed, past-refused}
 use Rattle.header.proofs.CellCount.{count-step, count-refused, count_dimension, count_past, count-end}
-use Rattle.header.proofs.extents.cell_count.Goals.{In-loop-i, Start}
+use Rattle.header.proofs.extents.cell_count.Goals.{At-loop-i, In-loop-i, Start}
 use Rattle.header.proofs.extents.cell_count.Goals as goal
 use Rattle.header.proofs.extents.cell_count.Goals.{else-dimensions-i, then-dimensions-i+else-e-ne1}
 
 -- an array of four
 four : (c : Start) → length c.args.d.extents ≡ most_dimensions
 four c = search rules
+
+-- no cells where the count is 0
+none : (d : Dimensions) → 0 ≡ pick (dimensions_allowed d) (cells d) 0
+    → (None ≡ pick (dimensions_allowed d) (Some (cells d)) None) × Unit {0}
+none d e = (none_of _ _ (cells-least d) e, tt)
 
 -- where it stops, what it counts is the number of cells, or 0
 whole : (c : In-loop-i) (x : ℕ)
@@ -32,12 +40,12 @@ whole c x h =
     sym h ∙ c.loop-i.invariant.2 ∙ count-cells c.args.d (omega arith) (omega arith) f
 
 pub returns-in_default : goal.returns-in_default
-returns-in_default c = (count_outside c.args.d (rw (lt-leb 1 c.args.d.count (omega arith))), omega arith)
+returns-in_default c = none c.args.d (count_outside c.args.d (rw (lt-leb 1 c.args.d.count (omega arith))))
 
 pub returns-in_default-2 : goal.returns-in_default-2
 returns-in_default-2 c =
     let n = c.args.d.count in
-    (count_outside c.args.d (rw (le-leb 1 n (omega arith), lt-leb n 4 (omega arith))), omega arith)
+    none c.args.d (count_outside c.args.d (rw (le-leb 1 n (omega arith), lt-leb n 4 (omega arith))))
 
 pub loop-i-init : goal.loop-i-init
 loop-i-init c =
@@ -48,8 +56,8 @@ loop-i-init c =
 pub returns-then-e-ne1 : goal.returns-then-e-ne1
 returns-then-e-ne1 c =
     let f = four (goal.at.returns-then-e-ne1 c).Start in
-    let none : c.args.d.count - c.loop-i.i ≡ 0 = omega arith in
-    (whole (goal.at.returns-then-e-ne1 c).In-loop-i 0 (count-refused _ _ _ _ (omega arith) (past-refused _ _ none c.if-e-ne1.true)), omega arith)
+    let past : c.args.d.count - c.loop-i.i ≡ 0 = omega arith in
+    none c.args.d (whole (goal.at.returns-then-e-ne1 c).In-loop-i 0 (count-refused _ _ _ _ (omega arith) (past-refused _ _ past c.if-e-ne1.true)))
 
 pub overflow_mul-cells : goal.overflow_mul-cells
 overflow_mul-cells c =
@@ -63,7 +71,7 @@ overflow_mul-cells c =
 pub returns-then-cells-gt16777216 : goal.returns-then-cells-gt16777216
 returns-then-cells-gt16777216 c =
     let f = four (goal.at.returns-then-cells-gt16777216 c).Start in
-    (whole (goal.at.returns-then-cells-gt16777216 c).In-loop-i 0 (count_past _ _ _ _ (omega arith) (omega arith)), omega arith)
+    none c.args.d (whole (goal.at.returns-then-cells-gt16777216 c).In-loop-i 0 (count_past _ _ _ _ (omega arith) (omega arith)))
 
 pub loop-i-preserved : goal.loop-i-preserved
 loop-i-preserved c =
@@ -76,11 +84,19 @@ loop-i-preserved c =
     elim c.if-dimensions-i.branch [ then-dimensions-i+else-e-ne1 w ↦ count-step m l.cells l.i e (omega arith) (past-allowed (m - l.i) (get_or e l.i 0) (omega (arith, w.if-dimensions-i.true)) w.if-e-ne1.false) small | else-dimensions-i w ↦ count_dimension m l.cells l.i e (omega arith) (omega (arith, w.if-dimensions-i.false)) small ] in
     (omega arith, small, sym step ∙ l.invariant.2)
 
-pub returns : goal.returns
-returns c =
+-- at the end the product is the number of cells
+all : (c : At-loop-i) → most_dimensions ≤ c.loop-i.i → c.loop-i.cells ≡ pick (dimensions_allowed c.args.d) (cells c.args.d) 0
+all c h =
     let l = c.loop-i in
-    let f = four (goal.at.returns c).Start in (
-      sym (count-end c.args.d.count l.cells l.i c.args.d.extents (omega arith)) ∙ l.invariant.2
-          ∙ count-cells c.args.d (omega arith) (omega arith) f,
-      omega arith,
-    )
+    let f : length c.args.d.extents ≡ most_dimensions = search rules in
+    sym (count-end c.args.d.count l.cells l.i c.args.d.extents (omega arith)) ∙ l.invariant.2 ∙ count-cells c.args.d (omega arith) (omega arith) f
+
+pub returns-then-cells-eq0 : goal.returns-then-cells-eq0
+returns-then-cells-eq0 c =
+    let e = all (goal.at.returns-then-cells-eq0 c).At-loop-i (omega arith) in
+    none c.args.d (sym c.if-cells-eq0.true ∙ e)
+
+pub returns-else-cells-eq0 : goal.returns-else-cells-eq0
+returns-else-cells-eq0 c =
+    let e = all (goal.at.returns-else-cells-eq0 c).At-loop-i (omega arith) in
+    (some_of _ _ _ (omega (arith, c.if-cells-eq0.false)) e, omega arith)

@@ -1,13 +1,14 @@
 use Rattle.jump_entries.proofs.Adds.{taken_jump, taken_on}
 use mathlib.Core.Path.{sym, ◌∙◌}
 use Rattle.jump_entries.proofs.coding.taken.Goals as goal
-
-pub returns-then-difference_at-eq0 : goal.returns-then-difference_at-eq0
-returns-then-difference_at-eq0 c =
-    let a = c.args in
-    c.move_on.ensures ∙ taken_jump a.width a.e a.p (sym c.difference_at.ensures ∙ c.if-difference_at-eq0.true)
+use Rattle.jump_entries.proofs.coding.taken.Goals.{else-difference_at-eq0, then-difference_at-eq0}
 
 pub returns : goal.returns
 returns c =
     let a = c.args in
-    c.move_on-2.ensures ∙ taken_on a.width a.e a.p (λ q. c.if-difference_at-eq0.false (c.difference_at.ensures ∙ q))
+    let d = c.difference_at.ensures in
+    c.move_on.ensures
+    ∙ elim c.if-difference_at-eq0.branch [
+      | then-difference_at-eq0 w ↦ rw w.first-is (taken_jump a.width a.e a.p (sym d ∙ w.if-difference_at-eq0.true))
+      | else-difference_at-eq0 w ↦ rw w.first-is (taken_on a.width a.e a.p (λ q. w.if-difference_at-eq0.false (d ∙ q)))
+    ]

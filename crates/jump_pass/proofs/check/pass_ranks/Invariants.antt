@@ -1,14 +1,11 @@
 -- A pass over some ranks: two at once, or one. Assumes nothing.
 use Prim.Native.Nat.{◌-◌, ◌≤◌}
-use mathlib.Core.Path.{◌≡◌}
-use mathlib.Core.Bool.{true}
 use Rattle.jump_pass.specs.Pass.{Goes}
 use Rattle.jump_pass.proofs.check.pass_ranks.Given as goal
 
--- A pass over some ranks: two at once, or one. Assumes nothing.
--- rank k is reached, and all was right
+-- rank k is reached
 abbrev pub invariant-loop-k : goal.invariant-loop-k
-invariant-loop-k l = (l.i ≤ l.k) × (l.k ≤ l.end) × (l.t.right ≡ true) × Goes l.width l.second l.file l.i l.k l.initial.t l.t
+invariant-loop-k l = (l.i ≤ l.k) × (l.k ≤ l.end) × Goes l.width l.second l.file l.i l.k l.initial.t l.t
 
 abbrev pub decreases-loop-k : goal.decreases-loop-k
 decreases-loop-k l = l.end - l.k

@@ -63,11 +63,6 @@ returns-then-at-target c =
     (λ ls y. ends a.file.now a.v a.width a.p t.rank t.reached ls y h (last-rank c.step_to-at.ensures (omega arith) h))
     (λ e. absurd (true≢false (sym e)))
 
-pub overflow_cast-result-2 : goal.overflow_cast-result-2
-overflow_cast-result-2 c =
-    let m = c.step_to-at.ensures.passed.most in
-    omega arith
-
 pub returns : goal.returns
 returns c =
     let a = c.args in
@@ -76,6 +71,3 @@ returns c =
     found_from a.file.now a.v a.width a.from a.p c.requires.2 t.rank t.reached (there (goal.at.returns c).After-step_to-at) _
     (λ ls y. stops a.file.now a.v a.width a.p t.rank t.reached ls y m c.if-at-target.false)
     (λ e. m)
-
-pub overflow_sub-v : goal.overflow_sub-v
-overflow_sub-v c = let h = c.requires.2 in omega arith

@@ -1,53 +1,39 @@
 -- On from a place rank by rank. Assumes nothing.
-use Rattle.std.proofs.Common.{arith}
+use Rattle.std.proofs.Common.{◌≡◌, ◌+◌, ◌<◌, arith}
 use Rattle.differences.proofs.Walked.{room}
 use Rattle.jump_walk.proofs.Passed.{passed_start, passed-next}
-use Rattle.jump_walk.proofs.Found.{next-below}
+use Rattle.jump_walk.proofs.search.step_to.Goals.{In-loop-r}
 use Rattle.jump_walk.proofs.search.step_to.Goals as goal
 
-pub loop-k-init : goal.loop-k-init
-loop-k-init c =
+-- a rank is left
+more : (c : In-loop-r) → c.loop-r.r + 1 < c.args.v.words
+more c =
+    let m = c.min.ensures in
+    let h = c.loop-r-test.true in
+    let k = c.requires.2 in
+    omega arith
+
+pub loop-r-init : goal.loop-r-init
+loop-r-init c =
     let a = c.args in
-    (passed_start a.file.now a.v a.width a.from a.p c.requires.2 c.requires.4, omega arith, omega arith)
-
-pub returns-then-p-s : goal.returns-then-p-s
-returns-then-p-s c =
-    let i = c.loop-k.invariant in
-    let h = c.if-p-s.true in
-    record { passed = i.0; few = omega arith; ends = λ x y. absurd (omega arith) }
-
-pub returns-then-r-v : goal.returns-then-r-v
-returns-then-r-v c =
-    let i = c.loop-k.invariant in
-    let h = c.if-r-v.true in
-    record { passed = i.0; few = omega arith; ends = λ x y. absurd (omega arith) }
+    passed_start a.file.now a.v a.width a.from a.p c.requires.2 c.requires.4
 
 pub advance-s-requires : goal.advance-s-requires
 advance-s-requires c =
     let z = c.requires in
-    let i = c.loop-k.invariant.0 in
-    (room c.args.file.now z.0 z.1 z.3 (omega arith) (next-below i.most c.if-r-v.false), i.within)
+    (room c.args.file.now z.0 z.1 z.3 (omega arith) (more (goal.at.advance-s-requires c).In-loop-r), c.loop-r.invariant.within)
 
-pub loop-k-preserved : goal.loop-k-preserved
-loop-k-preserved c =
+pub loop-r-preserved : goal.loop-r-preserved
+loop-r-preserved c =
     let a = c.args in
-    let l = c.loop-k in
-    let i = l.invariant.0 in
-    let t = c.advance-s.ensures in (
-      passed-next a.file.now a.v a.width a.from a.p l.r l.s i c.if-p-s.false
-          (next-below i.most c.if-r-v.false) _ t.0 t.1,
-      omega arith,
-      omega arith,
-    )
+    let l = c.loop-r in
+    let t = c.advance-s.ensures in
+    passed-next a.file.now a.v a.width a.from a.p l.r l.s l.invariant c.if-p-s.false (more (goal.at.loop-r-preserved c).In-loop-r) _ t.0 t.1
 
 pub returns : goal.returns
 returns c =
-    let i = c.loop-k.invariant in
-    let h = c.loop-k-test.false in
-    record { passed = i.0; few = omega arith; ends = λ x y. omega arith }
-
-pub overflow_add-r : goal.overflow_add-r
-overflow_add-r c = let i = c.loop-k.invariant.0.most in omega arith
-
-pub overflow_add-r-in-loop-k : goal.overflow_add-r-in-loop-k
-overflow_add-r-in-loop-k c = let i = c.loop-k.invariant.0.most in omega arith
+    let m = c.min.ensures in
+    let l = c.loop-r in
+    let h = c.loop-r-test.false in
+    let e : l.r ≡ c.args.from.rank + c.min.result = omega arith in
+    record { passed = rw e at l.invariant; few = omega arith; ends = λ x y. omega arith }

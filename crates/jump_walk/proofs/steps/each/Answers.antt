@@ -1,17 +1,15 @@
-use Rattle.std.proofs.Common.{refl, ◌∙◌, arith, length-set}
-use Rattle.parts.proofs.Batches.{batch_start, batch_turn, batch_end}
+use Rattle.std.proofs.Common.{arith}
+use Rattle.parts.proofs.Batches.{batch_turn, batch_end}
 use Rattle.jump_walk.proofs.steps.each.Goals as goal
 
-pub loop-i-init : goal.loop-i-init
-loop-i-init c = (omega arith, refl, batch_start _ _ _ _)
-
-pub loop-i-preserved : goal.loop-i-preserved
-loop-i-preserved c =
-    let l = c.loop-i in
-    let h = c.loop-i-test.true in
-    (omega arith, length-set l.out l.i l.c.at ∙ l.invariant.1, batch_turn _ _ _ l.c _ l.out l.i h l.invariant.1 c.next-c.ensures l.invariant.2)
+pub loop-p-preserved : goal.loop-p-preserved
+loop-p-preserved c =
+    let l = c.loop-p in
+    let h = c.loop-p-test.true in
+    batch_turn _ _ _ l.c _ l.out l.p-index (omega arith) l.auto.out c.next-c.ensures l.invariant
 
 pub returns : goal.returns
 returns c =
-    let l = c.loop-i in
-    batch_end _ _ _ l.c l.out l.i c.loop-i-test.false l.invariant.1 l.invariant.2
+    let l = c.loop-p in
+    let h = c.loop-p-test.false in
+    batch_end _ _ _ l.c l.out l.p-index (omega arith) l.auto.out l.invariant

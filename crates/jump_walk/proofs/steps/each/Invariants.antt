@@ -1,10 +1,7 @@
-use Rattle.std.proofs.Common.{◌≡◌, ◌-◌, ◌≤◌, length}
+use Rattle.std.proofs.Common.{length}
 use Rattle.jump_walk.specs.Steps.{next}
 use Rattle.parts.proofs.Batches.{Partly}
 use Rattle.jump_walk.proofs.steps.each.Given as goal
 
-abbrev pub invariant-loop-i : goal.invariant-loop-i
-invariant-loop-i l = (l.i ≤ length l.initial.out) × (length l.out ≡ length l.initial.out) × Partly (next l.file l.v) l.initial.c (length l.initial.out) l.c l.out l.i
-
-abbrev pub decreases-loop-i : goal.decreases-loop-i
-decreases-loop-i l = length l.initial.out - l.i
+abbrev pub invariant-loop-p : goal.invariant-loop-p
+invariant-loop-p l = Partly (next l.file l.v) l.initial.c (length l.initial.out) l.c l.out l.p-index

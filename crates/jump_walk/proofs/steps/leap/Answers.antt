@@ -2,7 +2,7 @@
 use Rattle.std.proofs.Common.{◌≡◌, ◌+◌, ◌-◌, ◌^◌, ◌<◌, lt_trans, arith}
 use Rattle.differences.specs.Walk.{walked, Room}
 use Rattle.difference_rows.proofs.Follows.{reached}
-use Rattle.jump_walk.proofs.Way.{stay, leap_over}
+use Rattle.jump_walk.proofs.Way.{leap_over}
 use Rattle.jump_walk.proofs.steps.leap.Goals.{After-walk-place, Else-not-all_there, Else-v-rank}
 use Rattle.jump_walk.proofs.steps.leap.Goals as goal
 
@@ -16,7 +16,7 @@ room c = c.all_there.ensures (c.if-not-all_there.false)
 
 -- the walk goes to the end of the group
 gone : (c : After-walk-place) → c.walk-place.result.rank ≡ c.args.c.rank + 128
-gone c = c.walk-place.ensures.all (omega arith)
+gone c = c.walk-place.ensures.all
 
 there : (c : After-walk-place)
     → let a = c.args in
@@ -35,35 +35,11 @@ few c =
     let q : c.args.v.words < 2 ^ 32 = omega arith in
     omega arith
 
-pub walk-place-requires : goal.walk-place-requires
-walk-place-requires c =
-    let n = c.if-rank-c.false in
-    (room (goal.at.walk-place-requires c).Else-not-all_there, omega arith, record { position = omega arith; taken = n })
-
 pub returns : goal.returns
 returns c =
     let a = c.args in
     let q = small (goal.at.returns c).Else-v-rank in
     leap_over a.file.now a.v a.p a.c 128 (room (goal.at.returns c).Else-not-all_there) c.if-v-rank.false q.0 q.1 c.requires (there (goal.at.returns c).After-walk-place) (few (goal.at.returns c).After-walk-place) c.if-p-at.false
 
-pub returns-then-v-rank : goal.returns-then-v-rank
-returns-then-v-rank c = let a = c.args in stay a.file.now a.v a.p a.c
-
-pub returns-then-not-all_there : goal.returns-then-not-all_there
-returns-then-not-all_there c = let a = c.args in stay a.file.now a.v a.p a.c
-
-pub returns-then-rank-c : goal.returns-then-rank-c
-returns-then-rank-c c = let a = c.args in stay a.file.now a.v a.p a.c
-
-pub returns-then-p-at : goal.returns-then-p-at
-returns-then-p-at c = let a = c.args in
-    stay a.file.now a.v a.p a.c
-
-pub overflow_add-c : goal.overflow_add-c
-overflow_add-c c = let h = c.if-v-rank.false in omega arith
-
 pub overflow_cast-c-2 : goal.overflow_cast-c-2
 overflow_cast-c-2 c = record { fits = lt_trans c.if-p-at.false (small (goal.at.overflow_cast-c-2 c).Else-v-rank).1 }
-
-pub overflow_cast-c-3 : goal.overflow_cast-c-3
-overflow_cast-c-3 c = record { fits = few (goal.at.overflow_cast-c-3 c).After-walk-place }

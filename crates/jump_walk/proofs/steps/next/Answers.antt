@@ -4,4 +4,4 @@ use Rattle.jump_walk.proofs.steps.next.Goals as goal
 
 pub returns : goal.returns
 unfolding next add32
-returns c = rw (← c.wrapping_add_u32-rank.ensures.value, ← c.entry_of.ensures) c.jump_by.ensures
+returns c = rw (← c.entry_of.ensures) c.jump_by.ensures

@@ -13,7 +13,6 @@ use borrow.Author.Rules.{rules}
 use Rattle.jumps.proofs.check.parts_right.Goals.{After-starts_right}
 use Rattle.jumps.proofs.check.parts_right.Goals as goal
 
--- The parts are right where rank 0 starts with a jump and the pass goes through. Assumes nothing.
 split : (c : After-starts_right)
     → let a = c.args in
     (t : Bool) → c.starts_right.result ≡ t → parts_right (jumps_kind a.v.width a.v.step) a.file.now a.v ≡ both t (passes_from a.v a.file.now 0 0 0)

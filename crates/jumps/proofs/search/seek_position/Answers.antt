@@ -25,5 +25,4 @@ pub returns : goal.returns
 returns c =
     let f = c.first_place in
     let z = c.walk-place.ensures in
-    position-found c.args.file.now c.args.v c.args.width c.requires.3 f.result c.args.rank _ _ f.ensures.0 f.ensures.1 c.requires.2 z
-    (z.all (omega arith))
+    position-found c.args.file.now c.args.v c.args.width c.requires.3 f.result c.args.rank _ f.ensures.0 f.ensures.1 c.requires.2 z

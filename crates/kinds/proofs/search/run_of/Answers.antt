@@ -1,11 +1,18 @@
-use mathlib.Core.Logic.{⊎_elim}
+use Rattle.std.proofs.Common.{rules, ◌≡◌, ⊎_elim}
+use Rattle.kinds.specs.declared.kind.Kind.TheVariants as kind
+use Rattle.kinds.proofs.Told.{other_told, none_told}
 use Rattle.kinds.proofs.At.{view-run}
+use Rattle.kinds.proofs.search.run_of.Goals.{In_default, in_default-via-in-Ok+in_default, in_default-via-in_default}
 use Rattle.kinds.proofs.search.run_of.Goals as goal
 
-pub returns-then-v-eq1 : goal.returns-then-v-eq1
-returns-then-v-eq1 c = view-run _ 1 c.if-v-eq1.true _ _ _ c.run_of.ensures
+-- in the last arm the kind is not 1
+other : (c : In_default) → c.args.v.kind ≡ 1 → ⊥
+other c = elim c.in_default.branch [
+  | in_default-via-in-Ok+in_default w ↦ (other_told c.try_from.ensures w.in_default.is kind.Runs (search rules))
+  | in_default-via-in_default w ↦ (none_told c.try_from.ensures w.in_default.is kind.Runs)
+]
 
-pub returns : goal.returns
-returns c =
-    let e = ⊎_elim (λ e. absurd (c.if-v-eq1.false e)) (λ e. e) c.requires.0 in
-    view-run _ 5 e _ _ _ c.run_of-2.ensures
+pub returns-in_default : goal.returns-in_default
+returns-in_default c =
+    let e = ⊎_elim (λ e. absurd (other (goal.at.returns-in_default c).In_default e)) (λ e. e) c.requires.0 in
+    view-run _ 5 e _ _ _ c.run_of-in_default.ensures

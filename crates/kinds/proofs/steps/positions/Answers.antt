@@ -1,31 +1,25 @@
-use mathlib.Core.Path.{sym, ◌∙◌}
-use mathlib.Core.Logic.{⊎_elim}
-use Rattle.laws.proofs.Settings.{no_kind}
+use Rattle.kinds.proofs.Told.{told}
 use Rattle.kinds.proofs.At.{view_batch}
-use Rattle.kinds.proofs.None.{never}
-use Rattle.kinds.proofs.Jumping.{walked_kind, not-walked}
+use Rattle.kinds.proofs.None.{not-allowed}
 use Rattle.kinds.proofs.steps.positions.Goals as goal
 
-pub returns-then-by_walk : goal.returns-then-by_walk
-returns-then-by_walk c =
-    let g = c.positions.ensures in
-    ⊎_elim (λ e. view_batch _ 4 e _ _ _ _ _ g) (λ e. view_batch _ 6 e _ _ _ _ _ g) (walked_kind _ (sym c.by_walk.ensures ∙ c.if-by_walk.true))
+pub returns-in-Ok-Runs : goal.returns-in-Ok-Runs
+returns-in-Ok-Runs c = view_batch _ 1 (told c.in-Ok-Runs.ensures c.in-Ok-Runs.field-0-is) _ _ _ _ _ c.positions.ensures
 
-pub returns-in_default : goal.returns-in_default
-returns-in_default c =
-    let v = c.args.v in
-    let r = c.in_default.in_default-own.rest in
-    let n = not-walked v.kind (sym c.by_walk.ensures ∙ c.if-by_walk.false) in
-    absurd (never (rw (no_kind v.kind v.width v.step r.0.0.0.1 r.0.0.1 r.0.1 n.0 r.1 n.1) at c.requires))
+pub returns-in-Ok-Positions : goal.returns-in-Ok-Positions
+returns-in-Ok-Positions c = view_batch _ 2 (told c.in-Ok-Positions.ensures c.in-Ok-Positions.field-0-is) _ _ _ _ _ c.positions-in-Ok-Positions.ensures
 
-pub returns-in-1 : goal.returns-in-1
-returns-in-1 c = view_batch _ 1 c.in-1.is _ _ _ _ _ c.positions-in-1.ensures
+pub returns-in-Ok-BaseOffset : goal.returns-in-Ok-BaseOffset
+returns-in-Ok-BaseOffset c = view_batch _ 3 (told c.in-Ok-BaseOffset.ensures c.in-Ok-BaseOffset.field-0-is) _ _ _ _ _ c.positions-in-Ok-BaseOffset.ensures
 
-pub returns-in-2 : goal.returns-in-2
-returns-in-2 c = view_batch _ 2 c.in-2.is _ _ _ _ _ c.positions-in-2.ensures
+pub returns-in-Ok-Jumps : goal.returns-in-Ok-Jumps
+returns-in-Ok-Jumps c = view_batch _ 4 (told c.in-Ok-Jumps.ensures c.in-Ok-Jumps.field-0-is) _ _ _ _ _ c.positions-in-Ok-Jumps.ensures
 
-pub returns-in-3 : goal.returns-in-3
-returns-in-3 c = view_batch _ 3 c.in-3.is _ _ _ _ _ c.positions-in-3.ensures
+pub returns-in-Ok-PagedRuns : goal.returns-in-Ok-PagedRuns
+returns-in-Ok-PagedRuns c = view_batch _ 5 (told c.in-Ok-PagedRuns.ensures c.in-Ok-PagedRuns.field-0-is) _ _ _ _ _ c.positions-in-Ok-PagedRuns.ensures
 
-pub returns-in-5 : goal.returns-in-5
-returns-in-5 c = view_batch _ 5 c.in-5.is _ _ _ _ _ c.positions-in-5.ensures
+pub returns-in-Ok-PointedJumps : goal.returns-in-Ok-PointedJumps
+returns-in-Ok-PointedJumps c = view_batch _ 6 (told c.in-Ok-PointedJumps.ensures c.in-Ok-PointedJumps.field-0-is) _ _ _ _ _ c.positions-in-Ok-PointedJumps.ensures
+
+pub returns-in-Err : goal.returns-in-Err
+returns-in-Err c = absurd (not-allowed _ _ _ c.requires c.in-Err.ensures.1)

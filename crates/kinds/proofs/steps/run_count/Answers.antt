@@ -1,8 +1,7 @@
-use borrow.Author.Tests.{eq-eqb, ne_eqb}
+use borrow.Author.Tests.{ne_eqb}
+use Rattle.kinds.specs.declared.kind.Kind.TheVariants as kind
+use Rattle.kinds.proofs.Told.{none_told}
 use Rattle.kinds.proofs.steps.run_count.Goals as goal
 
-pub returns-then-v-eq1 : goal.returns-then-v-eq1
-returns-then-v-eq1 c = rw (eq-eqb c.args.v.kind 1 c.if-v-eq1.true)
-
-pub returns-else-v-eq1 : goal.returns-else-v-eq1
-returns-else-v-eq1 c = rw (ne_eqb c.args.v.kind 1 c.if-v-eq1.false)
+pub returns-in_default-2 : goal.returns-in_default-2
+returns-in_default-2 c = rw (ne_eqb c.args.v.kind 1 (none_told c.try_from.ensures c.in_default.is kind.Runs))

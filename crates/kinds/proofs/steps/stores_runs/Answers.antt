@@ -1,10 +1,10 @@
-use mathlib.Core.Path.{refl}
-use mathlib.Core.Logic.{inl, inr, ⊎_elim}
-use borrow.Author.Tests.{eqb-true, eq-eqb}
+use Rattle.std.proofs.Common.{⊎_elim}
+use Rattle.kinds.specs.declared.kind.Kind.TheVariants as kind
+use Rattle.kinds.proofs.Told.{none_told}
+use Rattle.kinds.proofs.None.{never}
 use Rattle.kinds.proofs.steps.stores_runs.Goals as goal
 
-pub returns-then-kind-eq1 : goal.returns-then-kind-eq1
-returns-then-kind-eq1 c = (λ _. inl c.if-kind-eq1.true, λ _. refl)
-
-pub returns : goal.returns
-returns c = (λ h. inr (eqb-true _ _ h), λ s. ⊎_elim (λ e. absurd (c.if-kind-eq1.false e)) (λ e. eq-eqb _ _ e) s)
+pub returns-in_default-2 : goal.returns-in_default-2
+returns-in_default-2 c =
+    let n = none_told c.try_from.ensures c.in_default.is in
+    (λ h. absurd (never h), λ s. absurd (⊎_elim (n kind.Runs) (n kind.PagedRuns) s))

@@ -78,26 +78,11 @@ slice_bounds-positions-end-in-loop-rank c = let l = c.loop-rank in sym (length-t
 pub positions-d-requires : goal.positions-d-requires
 positions-d-requires c = (seen c.args.second.now c.args.w c.requires.second).header.counted.allowed
 
-pub slice_bounds-here-end-in-loop-rank : goal.slice_bounds-here-end-in-loop-rank
-slice_bounds-here-end-in-loop-rank c = rw ((next (goal.at.slice_bounds-here-end-in-loop-rank c).After-positions-c).size, c.loop-rank.invariant.1) c.batch_of-n.ensures.1
-
-pub slice_bounds-same_batch-end : goal.slice_bounds-same_batch-end
-slice_bounds-same_batch-end c = sym (next (goal.at.slice_bounds-same_batch-end c).After-positions-c).count
-
-pub slice_bounds-there-end-in-loop-rank : goal.slice_bounds-there-end-in-loop-rank
-slice_bounds-there-end-in-loop-rank c = rw ((next-second (goal.at.slice_bounds-there-end-in-loop-rank c).After-positions-d).size, c.loop-rank.invariant.2) c.batch_of-n.ensures.1
-
-pub slice_bounds-same_batch-end-in-loop-rank : goal.slice_bounds-same_batch-end-in-loop-rank
-slice_bounds-same_batch-end-in-loop-rank c = sym (next-second (goal.at.slice_bounds-same_batch-end-in-loop-rank c).After-positions-d).count
-
-pub same_batch-requires : goal.same_batch-requires
-same_batch-requires c = (next (goal.at.same_batch-requires c).After-positions-c).count ∙ sym (next-second (goal.at.same_batch-requires c).After-positions-d).count
-
-pub returns-then-not-same_batch : goal.returns-then-not-same_batch
-returns-then-not-same_batch c =
+pub returns-then-ne : goal.returns-then-ne
+returns-then-ne c =
     let a = c.args in
     let l = c.loop-rank in
-    batch_differs (positions_of a.first.now) (positions_of a.second.now) l.rank c.batch_of-n.result c.same_batch.result _ _ (next (goal.at.returns-then-not-same_batch c).After-positions-c).front (next-second (goal.at.returns-then-not-same_batch c).After-positions-d).front c.same_batch.ensures (c.if-not-same_batch.true) ∙ l.invariant.5
+    batch_differs (positions_of a.first.now) (positions_of a.second.now) l.rank c.batch_of-n.result c.ne.result _ _ (next (goal.at.returns-then-ne c).After-positions-c).front (next-second (goal.at.returns-then-ne c).After-positions-d).front c.ne.ensures c.if-ne.true ∙ l.invariant.5
 
 pub overflow_add-rank : goal.overflow_add-rank
 overflow_add-rank c =
@@ -119,7 +104,7 @@ loop-rank-preserved c =
       u.size ∙ l.invariant.2,
       t.rest,
       u.rest,
-      batch_agrees (positions_of a.first.now) (positions_of a.second.now) l.rank c.batch_of-n.result c.same_batch.result _ _ t.front u.front c.same_batch.ensures (c.if-not-same_batch.false) ∙ l.invariant.5,
+      batch_agrees (positions_of a.first.now) (positions_of a.second.now) l.rank c.batch_of-n.result c.ne.result _ _ t.front u.front c.ne.ensures c.if-ne.false ∙ l.invariant.5,
     )
 
 pub returns : goal.returns

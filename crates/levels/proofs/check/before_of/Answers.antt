@@ -8,4 +8,4 @@ pub returns-then-left-eq0 : goal.returns-then-left-eq0
 returns-then-left-eq0 c = (rw (eq-eqb c.args.left 0 c.if-left-eq0.true), omega arith)
 
 pub returns-else-left-eq0 : goal.returns-else-left-eq0
-returns-else-left-eq0 c = (rw (ne_eqb c.args.left 0 c.if-left-eq0.false) c.long.ensures.0, c.long.ensures.1)
+returns-else-left-eq0 c = (rw (ne_eqb c.args.left 0 c.if-left-eq0.false) c.from.ensures, omega arith)

@@ -8,4 +8,4 @@ pub returns : goal.returns
 returns c =
     let a = c.args in
     let x = c.get_pair.ensures in
-    (rw (entry_at a.start a.file.now a.number (omega arith), x.0, c.index.ensures.0), x.1, x.2)
+    (rw (entry_at a.start a.file.now a.number (omega arith), x.0), x.1, x.2)

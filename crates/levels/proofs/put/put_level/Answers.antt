@@ -14,17 +14,13 @@ loop-rest-init c =
     let p = c.requires in
     filling_first a.dst.now a.step a.start a.below a.under p.0 p.1
 
--- the size of the page
-page-size : (c : After-get_pair) → c.lesser-size.result ≡ min c.args.step c.loop-rest.rest
-page-size c = c.lesser-size.ensures ∙ rw c.index-page.ensures.0
-
--- its last entry
+-- the last entry of the page
 page-last : (c : After-get_pair) → let l = c.loop-rest in
     span_of c.get_pair.result
     ≡ span_at l.dst (l.from + 8 * min c.args.step l.rest - 8)
 page-last c =
     let l = c.loop-rest in
-    ap span_of c.get_pair.ensures.0 ∙ ap (λ (n : ℕ). span_at l.dst (l.from + 8 * n - 8)) (page-size c)
+    ap span_of c.get_pair.ensures.0 ∙ ap (λ (n : ℕ). span_at l.dst (l.from + 8 * n - 8)) c.min-size.ensures
 
 pub add-s-requires : goal.add-s-requires
 add-s-requires c =
@@ -45,9 +41,8 @@ loop-rest-preserved c =
     let l = c.loop-rest in
     let t = c.loop-rest-test.true in
     let h = c.requires.0.step-least in
-    let e = page-size (goal.at.loop-rest-preserved c).After-get_pair in
     let q = c.add-s.ensures ∙ ap (summed a.step l.s) (page-last (goal.at.loop-rest-preserved c).After-get_pair) in
-    rw (c.put_pair.ensures, e)
+    rw (c.put_pair.ensures, c.min-size.ensures)
     (filling_next a.dst.now a.step a.start a.below a.under l.dst l.s l.at l.from l.rest l.invariant (omega arith) t _ q)
 
 pub returns : goal.returns

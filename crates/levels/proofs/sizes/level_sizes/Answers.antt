@@ -4,7 +4,7 @@ use Rattle.levels.proofs.sizes.level_sizes.Goals as goal
 
 pub loop-size-init : goal.loop-size-init
 loop-size-init c =
-    rw c.index-entries.ensures.0 (storing_first c.args.step c.args.seconds c.args.sizes.now c.requires.3 c.requires.2)
+    storing_first c.args.step c.args.seconds c.args.sizes.now c.requires.3 c.requires.2
 
 pub bounds-sizes-count : goal.bounds-sizes-count
 bounds-sizes-count c =
@@ -16,7 +16,7 @@ loop-size-smaller c =
 
 pub loop-size-preserved : goal.loop-size-preserved
 loop-size-preserved c =
-    rw (c.index-entries-in-loop-size.ensures.0, c.pages-size.ensures)
+    rw c.pages-size.ensures
     (storing_next _ _ _ _ _ _ c.requires.0 c.loop-size.invariant c.loop-size-test.true)
 
 pub returns : goal.returns

@@ -8,12 +8,12 @@ use Rattle.levels.proofs.sizes.pages.Goals as goal
 pub overflow_mul-result : goal.overflow_mul-result
 overflow_mul-result c =
     let s = c.requires in
-    rw s.3 (record { fits = omega (arith, share_fits c.long.result c.args.step s.0 (omega arith)) })
+    rw s.3 (record { fits = omega (arith, share_fits c.from.result c.args.step s.0 (omega arith)) })
 
 pub returns : goal.returns
 returns c =
     let s = c.requires in
-    rw (s.3, c.long.ensures.0) (by_share _ _ s.0 s.1 (omega arith))
+    rw (s.3, c.from.ensures) (by_share _ _ s.0 s.1 (omega arith))
 
 pub overflow_cast-result : goal.overflow_cast-result
 overflow_cast-result c =

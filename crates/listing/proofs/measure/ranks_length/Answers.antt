@@ -6,7 +6,6 @@ use Rattle.format.specs.Bytes.{field}
 use Rattle.parts.proofs.Seen.{seen}
 use Rattle.kinds.proofs.Walks.{walk_start}
 use Rattle.listing.proofs.Lines.{word-inside, ranks-most, total-end, step, total_turn}
-use borrow.Author.Rules.{rules}
 use Rattle.listing.proofs.measure.ranks_length.Goals.{After-line_length-total}
 use Rattle.listing.proofs.measure.ranks_length.Goals as goal
 
@@ -16,7 +15,7 @@ start-c-requires c = (seen c.args.file.now c.args.v c.requires.0).holds.counted.
 pub loop-rank-init : goal.loop-rank-init
 loop-rank-init c =
     let o = c.requires.0 in
-    (omega arith, rw c.start-c.ensures (walk_start c.args.file.now c.args.v o), omega arith)
+    (rw c.start-c.ensures (walk_start c.args.file.now c.args.v o), omega arith)
 
 pub get_u32-word-requires : goal.get_u32-word-requires
 get_u32-word-requires c =
@@ -31,7 +30,7 @@ word_read c = c.get_u32-word.ensures.0
 pub overflow_add-total : goal.overflow_add-total
 overflow_add-total c =
     let l = c.loop-rank in
-    let t = total_turn c.args.file.now c.args.v c.requires.0 l.rank l.c _ c.loop-rank-test.true l.invariant.1 (word_read c) l.total l.invariant.2 in
+    let t = total_turn c.args.file.now c.args.v c.requires.0 l.rank l.c _ c.loop-rank-test.true l.invariant.0 (word_read c) l.total l.invariant.1 in
     let m = ranks-most c.args.file.now c.args.v c.requires.0 c.requires.1 in
     let e = c.line_length-total.ensures in
     omega arith
@@ -40,20 +39,17 @@ pub next-c-requires : goal.next-c-requires
 next-c-requires c =
     (seen c.args.file.now c.args.v c.requires.0).holds.counted.allowed
 
-pub overflow_add-rank : goal.overflow_add-rank
-overflow_add-rank c = let h = c.loop-rank-test.true in search rules
-
 pub loop-rank-preserved : goal.loop-rank-preserved
 loop-rank-preserved c =
     let a = c.args in
     let o = c.requires.0 in
     let l = c.loop-rank in
     let h = c.loop-rank-test.true in
-    let t = total_turn a.file.now a.v o l.rank l.c _ h l.invariant.1 (word_read (goal.at.loop-rank-preserved c).After-line_length-total) l.total l.invariant.2 in
+    let t = total_turn a.file.now a.v o l.rank l.c _ h l.invariant.0 (word_read (goal.at.loop-rank-preserved c).After-line_length-total) l.total l.invariant.1 in
     let e = c.line_length-total.ensures in
-    (omega arith, rw c.next-c.ensures (step a.file.now a.v o l.rank l.c _ h l.invariant.1 (word_read (goal.at.loop-rank-preserved c).After-line_length-total)).rest, rw e t)
+    (rw c.next-c.ensures (step a.file.now a.v o l.rank l.c _ h l.invariant.0 (word_read (goal.at.loop-rank-preserved c).After-line_length-total)).rest, rw e t)
 
 pub returns : goal.returns
 returns c =
     let l = c.loop-rank in
-    total-end c.args.file.now c.args.v c.requires.0 l.rank l.total c.loop-rank-test.false l.invariant.2
+    total-end c.args.file.now c.args.v c.requires.0 l.rank l.total c.loop-rank-test.false l.invariant.1

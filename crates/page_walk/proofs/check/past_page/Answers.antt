@@ -6,4 +6,4 @@ use Rattle.page_walk.proofs.check.past_page.Goals as goal
 pub returns : goal.returns
 returns c =
     let a = c.args in
-    past_path a.s a.x a.y _ c.fall.ensures.0
+    rw (c.from.ensures, c.from-2.ensures) (past_path a.s a.x a.y _ c.fall.ensures.0)

@@ -21,4 +21,5 @@ loop-left-preserved c =
 
 pub returns : goal.returns
 returns c =
-    going_done _ _ _ _ _ _ _ _ _ _ c.loop-left.invariant c.get_pair-last.result c.loop-left-test.false c.get_pair-last.ensures.0
+    rw (c.from.ensures, c.from-2.ensures, c.from-3.ensures, c.from-4.ensures)
+    (going_done _ _ _ _ _ _ _ _ _ _ c.loop-left.invariant c.get_pair-last.result c.loop-left-test.false c.get_pair-last.ensures.0)

@@ -54,8 +54,7 @@ loop-i-preserved-then-at-c c =
     let small = z.small in
     filled-then _ _ _ _ _ _ _ _ _ _ l.invariant
     (filled-run _ (in_along _ _ _) l.c _ l.i t.result _ _ z
-    (rw (c.wrapping_add_u32-in-loop-i.ensures.value, c.wrapping_add_u32.ensures.value)
-    (in_run _ _ _ l.c (t.result - 1) (omega arith) (omega arith) (omega arith) c.if-at-c.true)))
+    (in_run _ _ _ l.c (t.result - 1) (omega arith) (omega arith) (omega arith) c.if-at-c.true))
 
 -- the next entry is in the file
 pub get_pair-x-requires : goal.get_pair-x-requires
@@ -85,16 +84,8 @@ loop-i-preserved c =
     let small = z.small in
     filled-then _ _ _ _ _ _ _ _ _ _ l.invariant
     (filled-run _ (in_along _ _ _) l.c _ l.i t.result _ _ z
-    (rw (
-      c.wrapping_add_u32-else-at-c-4.ensures.value,
-      c.wrapping_add_u32-else-at-c-3.ensures.value,
-      c.wrapping_add_u32-else-at-c-2.ensures.value,
-      c.wrapping_add_u32-else-at-c.ensures.value,
-      c.wrapping_add_u32-in-loop-i.ensures.value,
-      c.wrapping_add_u32.ensures.value,
-    )
     (in_page _ _ _ l.c (t.result - 1) (omega arith) (omega arith) (omega arith) _ c.if-at-c.false c.if-step-c.false
-    (c.get_pair-x.ensures.0 ∙ sym (pair-there _ _ (get_pair-x-requires (goal.at.loop-i-preserved c).After-struct_known-else-at-c-1))))))
+    (c.get_pair-x.ensures.0 ∙ sym (pair-there _ _ (get_pair-x-requires (goal.at.loop-i-preserved c).After-struct_known-else-at-c-1)))))
 
 pub returns-then-step-c : goal.returns-then-step-c
 returns-then-step-c c = c.loop-i.invariant

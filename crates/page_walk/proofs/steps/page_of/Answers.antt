@@ -1,4 +1,4 @@
-use Rattle.std.proofs.Common.{◌≡◌, ◌-◌, arith, le-ltb, lt-ltb}
+use Rattle.std.proofs.Common.{le-ltb, lt-ltb}
 use Rattle.page_walk.specs.Steps.{page_of}
 use Rattle.page_walk.proofs.steps.page_of.Goals as goal
 
@@ -6,13 +6,6 @@ pub returns-then-c-step : goal.returns-then-c-step
 unfolding page_of
 returns-then-c-step c = rw (lt-ltb _ _ c.if-c-step.true)
 
-pub returns-then-c : goal.returns-then-c
+pub returns : goal.returns
 unfolding page_of
-returns-then-c c = rw (le-ltb _ _ c.if-c-step.false)
-
-pub returns-else-c : goal.returns-else-c
-unfolding page_of
-returns-else-c c =
-    let a = c.args.c in
-    let z : a.at - a.rank ≡ 0 = omega arith in
-    rw (le-ltb _ _ c.if-c-step.false, z)
+returns c = rw (le-ltb _ _ c.if-c-step.false, c.saturating_sub.ensures)

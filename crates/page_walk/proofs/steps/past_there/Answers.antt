@@ -21,7 +21,7 @@ stepped c =
 pub returns-then-d : goal.returns-then-d
 unfolding along_run add32
 returns-then-d c =
-    rw c.wrapping_add_u32.ensures.value (sym (next-along _ _ c.along_run-d.result c.if-d.true) ∙ stepped (goal.at.returns-then-d c).After-along_run-d)
+    sym (next-along _ _ c.along_run-d.result c.if-d.true) ∙ stepped (goal.at.returns-then-d c).After-along_run-d
 
 -- the next entry is in the file
 pub get_pair-requires : goal.get_pair-requires

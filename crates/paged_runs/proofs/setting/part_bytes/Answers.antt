@@ -1,6 +1,7 @@
 -- `part_bytes` meets its contract. Assumes nothing.
-use Rattle.std.proofs.Common.{arith}
+use Rattle.std.proofs.Common.{refl, arith}
 use Rattle.format.specs.PagedRuns.{pages_kind}
+use Rattle.parts.proofs.Sizing.{sized-where}
 use Rattle.page_walk.proofs.Allowed.{page-step}
 use Rattle.paged_runs.proofs.setting.part_bytes.Goals as goal
 
@@ -11,10 +12,4 @@ counts_right-requires c = let s = page-step _ _ c.requires.0 in (omega arith, s.
 pub returns : goal.returns
 unfolding pages_kind
 returns c =
-    record {
-      right = c.counts_right.ensures;
-      first = λ h. rw c.index.ensures.0;
-      second = λ h. rw c.index-2.ensures.0;
-      first-most = omega arith;
-      second-most = omega arith;
-    }
+    rw c.then_some.ensures (sized-where (pages_kind c.args.v.width c.args.v.step) c.args.v c.counts_right.result _ c.counts_right.ensures refl refl (omega arith) (omega arith))

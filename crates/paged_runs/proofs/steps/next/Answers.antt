@@ -7,7 +7,7 @@ use Rattle.paged_runs.proofs.steps.next.Goals as goal
 
 pub returns-then-c : goal.returns-then-c
 unfolding next next_in along_run add32
-returns-then-c c = rw (lt-ltb _ _ c.if-c.true, c.wrapping_add_u32.ensures.value)
+returns-then-c c = rw (lt-ltb _ _ c.if-c.true)
 
 pub returns : goal.returns
 returns c =

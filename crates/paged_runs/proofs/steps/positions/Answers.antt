@@ -1,11 +1,11 @@
-use Rattle.std.proofs.Common.{refl, ◌∙◌, arith}
+use Rattle.std.proofs.Common.{arith}
 use Rattle.parts.proofs.Batches.{batch_start, batch_end}
 use Rattle.parts.proofs.Fills.{stretch_turn}
 use Rattle.page_walk.proofs.Walk.{next-along}
 use Rattle.paged_runs.proofs.steps.positions.Goals as goal
 
 pub loop-i-init : goal.loop-i-init
-loop-i-init c = (omega arith, refl, batch_start _ _ _ _)
+loop-i-init c = (omega arith, batch_start _ _ _ _)
 
 pub overflow_sub-m : goal.overflow_sub-m
 overflow_sub-m c =
@@ -40,12 +40,12 @@ loop-i-preserved c =
     let l = c.loop-i in
     let z = t.ensures in
     let room = z.room in
-    (omega arith, z.filled.size ∙ l.invariant.1, stretch_turn _ (next-along _ _) _ _ l.c _ _ _ l.i t.result l.invariant.1 z c.past-c.ensures l.invariant.2)
+    (omega arith, stretch_turn _ (next-along _ _) _ _ l.c _ _ _ l.i t.result l.auto.out z c.past-c.ensures l.invariant.1)
 
 pub returns : goal.returns
 returns c =
     let l = c.loop-i in
-    batch_end _ _ _ l.c l.out l.i c.loop-i-test.false l.invariant.1 l.invariant.2
+    batch_end _ _ _ l.c l.out l.i c.loop-i-test.false l.auto.out l.invariant.1
 
 pub along-requires : goal.along-requires
 along-requires c = c.all_there.ensures c.if-all_there.true

@@ -14,7 +14,6 @@ use borrow.Author.Rules.{rules}
 use Rattle.pointed_jumps.proofs.check.parts_right.Goals.{After-starts_right}
 use Rattle.pointed_jumps.proofs.check.parts_right.Goals as goal
 
--- The parts are right where rank 0 starts with a jump, the pass goes through and the pointers are right. Assumes nothing.
 split : (c : After-starts_right)
     → let a = c.args in
     (t : Bool) → c.starts_right.result ≡ t → parts_right (pointed_kind a.v.width a.v.step) a.file.now a.v ≡ both t (both (passes_from a.v a.file.now 0 0 0) (pointed_right a.file.now a.v))
@@ -27,9 +26,6 @@ starts_right-requires c = laid _ _ c.requires
 
 pub returns-then-not-starts_right : goal.returns-then-not-starts_right
 returns-then-not-starts_right c = sym (split (goal.at.returns-then-not-starts_right c).After-starts_right false (c.if-not-starts_right.true))
-
-pub pass-requires : goal.pass-requires
-pass-requires c = let z = laid _ _ c.requires in search rules
 
 pub returns-then-v-eq1 : goal.returns-then-v-eq1
 returns-then-v-eq1 c = c.pass.ensures ∙ sym (split (goal.at.returns-then-v-eq1 c).After-starts_right true (c.if-not-starts_right.false))

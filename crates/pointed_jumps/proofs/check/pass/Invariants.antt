@@ -1,11 +1,6 @@
 -- One pass that stops at each rank that a pointer names. Assumes nothing.
-use Prim.Native.Nat.{◌-◌}
 use Rattle.pointed_jumps.proofs.Come.{Come}
 use Rattle.pointed_jumps.proofs.check.pass.Given as goal
 
--- One pass that stops at each rank that a pointer names. Assumes nothing.
 abbrev pub invariant-loop-k : goal.invariant-loop-k
 invariant-loop-k l = Come l.file l.v l.k l.rank l.s
-
-abbrev pub decreases-loop-k : goal.decreases-loop-k
-decreases-loop-k l = l.count - l.k

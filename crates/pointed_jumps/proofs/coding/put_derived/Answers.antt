@@ -1,8 +1,7 @@
 -- The pointers, each from the one before. Assumes nothing.
 use mathlib.Core.Path.{sym, ◌∙◌}
-use native.Mathlib.Nat.{mul-le-mul_right}
 use native.Mathlib.Omega.{arith}
-use Rattle.pointed_jumps.proofs.Pointing.{pointing_room, pointing_asks, pointing_turn}
+use Rattle.pointed_jumps.proofs.Pointing.{pointing_asks, pointing_turn}
 use Rattle.pointed_jumps.proofs.Made.{Given, given, none_made, begun-given, ended_given}
 use borrow.Author.Rules.{rules}
 use Rattle.pointed_jumps.proofs.coding.put_derived.Goals.{Start}
@@ -49,42 +48,6 @@ loop-k-init c =
 
 pub jump_after-rank-requires : goal.jump_after-rank-requires
 jump_after-rank-requires c = pointing_asks _ _ _ _ _ _ _ _ _ _ c.loop-k.invariant
-
-pub overflow_mul-k : goal.overflow_mul-k
-overflow_mul-k c =
-    let h = c.loop-k-test.true in
-    let m = c.pointer_count-count.ensures.1 in
-    let g = given-of (goal.at.overflow_mul-k c).Start in
-    let a = g.words in
-    let b = g.most in
-    omega arith
-
-pub overflow_add-at : goal.overflow_add-at
-overflow_add-at c =
-    let h = c.loop-k-test.true in
-    let m = c.pointer_count-count.ensures.1 in
-    let g = given-of (goal.at.overflow_add-at c).Start in
-    let a = g.words in
-    let b = g.most in
-    let t = c.requires.1 in
-    let k = mul-le-mul_right c.args.z.words g.stands.wide in
-    let p = c.pointers_at-at.ensures in
-    omega arith
-
-pub overflow_cast-rank : goal.overflow_cast-rank
-overflow_cast-rank c =
-    let m = c.jump_after-rank.ensures.most in
-    let r = (pointing_asks _ _ _ _ _ _ _ _ _ _ c.loop-k.invariant).0.rank in
-    omega arith
-
-pub put_u32-requires-in-loop-k : goal.put_u32-requires-in-loop-k
-put_u32-requires-in-loop-k c =
-    let r = pointing_room _ _ _ _ _ _ _ _ _ _ c.loop-k.invariant in
-    let h = c.loop-k-test.true in
-    omega arith
-
-pub loop-k-smaller : goal.loop-k-smaller
-loop-k-smaller c = let h = c.loop-k-test.true in omega arith
 
 pub loop-k-preserved : goal.loop-k-preserved
 loop-k-preserved c =

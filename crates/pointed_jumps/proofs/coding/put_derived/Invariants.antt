@@ -1,11 +1,6 @@
 -- The pointers, each from the one before. Assumes nothing.
-use Prim.Native.Nat.{◌-◌}
 use Rattle.pointed_jumps.proofs.Pointing.{Pointing}
 use Rattle.pointed_jumps.proofs.coding.put_derived.Given as goal
 
--- The pointers, each from the one before. Assumes nothing.
 abbrev pub invariant-loop-k : goal.invariant-loop-k
 invariant-loop-k l = Pointing l.width l.step l.second l.at l.last l.count l.initial.dst l.dst l.rank l.k
-
-abbrev pub decreases-loop-k : goal.decreases-loop-k
-decreases-loop-k l = l.count - l.k

@@ -31,7 +31,7 @@ pub jump_after-rank-requires : goal.jump_after-rank-requires
 jump_after-rank-requires c =
     let s = c.requires.2 in
     let n = s.words in
-    let e = c.lesser.ensures in
+    let e = c.min.ensures in
     let m = min-le_right c.load_u32-pointer.result (c.args.v.words - 1) in
     (room c.args.file.now c.requires.0 c.requires.1 s.inside (omega arith) (omega arith), omega arith)
 
@@ -40,7 +40,7 @@ returns c =
     let o = c.requires.3 in
     let l = c.load_u32-pointer in
     let g = rw c.pointers_at-pointers.ensures at l.ensures.0 in
-    let x = rw c.lesser.ensures at c.jump_after-rank.ensures in
+    let x = rw c.min.ensures at c.jump_after-rank.ensures in
     let f = after-rank c.args.file.now c.args.v c.args.width _ l.result g c.args.j _ (div-mul-le_self c.args.j c.args.v.step) o x in
     let p = c.at_jump.ensures in (
       placed c.args.file.now c.args.v c.args.width _ c.args.j _ _ p o f,

@@ -25,4 +25,4 @@ pub returns : goal.returns
 returns c =
     let p = c.pointed_place-from in
     let z = c.walk-place.ensures in
-    position-found c.args.file.now c.args.v c.args.width c.requires.3 p.result c.args.rank _ _ p.ensures c.requires.2 z (z.all (omega arith))
+    position-found c.args.file.now c.args.v c.args.width c.requires.3 p.result c.args.rank _ p.ensures c.requires.2 z

@@ -15,7 +15,7 @@ found : (c : After-load_u32-entry) → c.last_at_most-r.result < c.args.v.words
 found c = c.last_at_most-r.ensures.within (omega arith)
 
 pub overflow_add-result : goal.overflow_add-result
-overflow_add-result c = let f = found (goal.at.overflow_add-result c).After-load_u32-entry in let k = c.struct_known-1.given in record { fits = omega arith }
+overflow_add-result c = let f = found (goal.at.overflow_add-result c).After-load_u32-entry in record { fits = omega arith }
 
 pub returns-then-entry-wanted : goal.returns-then-entry-wanted
 returns-then-entry-wanted c =

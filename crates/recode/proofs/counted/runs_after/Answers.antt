@@ -10,7 +10,7 @@ pub runs_lost-lost-requires : goal.runs_lost-lost-requires
 runs_lost-lost-requires c = (c.requires.0, c.requires.1)
 
 pub runs_joined-won-requires : goal.runs_joined-won-requires
-runs_joined-won-requires c = (c.requires.0, (ranks-there c.args.file.now c.args.v c.requires.0 c.args.x c.requires.1).1, λ e. put_small c.args.file.now c.args.v c.requires.0 c.args.x c.requires.1 e)
+runs_joined-won-requires c = (c.requires.0, (ranks-there c.args.file.now c.args.v c.requires.0 c.args.x c.requires.1).1, λ p e. put_small c.args.file.now c.args.v c.requires.0 c.args.x c.requires.1 p e)
 
 pub overflow_add-result : goal.overflow_add-result
 overflow_add-result c =

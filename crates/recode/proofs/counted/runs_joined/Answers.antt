@@ -4,18 +4,17 @@ use Rattle.format.specs.Accepted.{positions_of}
 use Rattle.recode.proofs.RunEdits.{joint-there, joint-none}
 use Rattle.recode.proofs.counted.runs_joined.Goals as goal
 
-pub overflow_add-p : goal.overflow_add-p
-overflow_add-p c = let h = c.requires.2 c.if-there.true in omega arith
-
 pub rank_begins-requires : goal.rank_begins-requires
 rank_begins-requires c = (c.requires.0, c.requires.1)
 
-pub returns-then-there : goal.returns-then-there
-returns-then-there c =
+pub returns-in_default : goal.returns-in_default
+returns-in_default c =
     let g = c.args in
-    let x = c.run_begins.ensures in
     let y = c.rank_begins.ensures in
-    joint-there g.end g.p _ _ g.there (drop g.after (positions_of g.file.now)) c.if-there.true x.0 y.0 x.1 y.1
+    rw c.in_default.is (joint-none g.end _ (drop g.after (positions_of g.file.now)) y.0 y.1)
+
+pub overflow_add-p : goal.overflow_add-p
+overflow_add-p c = let h = c.requires.2 c.in-Some.p c.in-Some.is in omega arith
 
 pub rank_begins-requires-2 : goal.rank_begins-requires-2
 rank_begins-requires-2 c = (c.requires.0, c.requires.1)
@@ -23,5 +22,6 @@ rank_begins-requires-2 c = (c.requires.0, c.requires.1)
 pub returns : goal.returns
 returns c =
     let g = c.args in
+    let x = c.run_begins.ensures in
     let y = c.rank_begins-2.ensures in
-    joint-none g.end g.p _ g.there (drop g.after (positions_of g.file.now)) c.if-there.false y.0 y.1
+    rw c.in-Some.is (joint-there g.end c.in-Some.p.0 _ _ (drop g.after (positions_of g.file.now)) x.0 y.0 x.1 y.1)

@@ -20,7 +20,7 @@ returns-then-sized_by_ranks c =
     let a = c.args in
     let r = c.by_counts in
     ranks_measure a.file.now a.v c.requires.0 a.x c.requires.1 _ c.ranks_after.ensures.0 a.s c.requires.2 _ r.result
-    r.ensures.0 r.ensures.1 (c.sized_by_ranks.ensures c.if-sized_by_ranks.true)
+    r.ensures (c.sized_by_ranks.ensures c.if-sized_by_ranks.true)
 
 pub ranks_after-requires-then-stores_runs-2 : goal.ranks_after-requires-then-stores_runs-2
 ranks_after-requires-then-stores_runs-2 c =
@@ -43,4 +43,4 @@ returns-then-stores_runs-2 c =
     let a = c.args in
     let r = c.by_counts-then-stores_runs-2 in
     runs_measure a.file.now a.v c.requires.0 a.x c.requires.1 _ c.ranks_after-then-stores_runs-2.ensures.0 a.s c.requires.2 _ r.result
-    r.ensures.0 r.ensures.1 (c.stores_runs.ensures.0 c.if-stores_runs.true) c.runs_after.ensures.0
+    r.ensures (c.stores_runs.ensures.0 c.if-stores_runs.true) c.runs_after.ensures.0

@@ -1,10 +1,10 @@
 use Rattle.std.proofs.Common.{◌≡◌, ◌+◌, ◌-◌, ◌≤◌, length, drop}
+use Rattle.std.specs.Slice.Iter.{windows_size, windows_rest}
 use Rattle.rises.specs.Far.{far}
 use Rattle.rises.proofs.far.count_far.Given as goal
 
-abbrev pub invariant-loop-i : goal.invariant-loop-i
-invariant-loop-i l =
-    (1 ≤ l.i) × (l.i ≤ length l.ps + 1) × (l.count + 1 ≤ l.i) × (l.count + far l.most (drop (l.i - 1) l.ps) ≡ far l.most l.ps)
-
-abbrev pub decreases-loop-i : goal.decreases-loop-i
-decreases-loop-i l = length l.ps - l.i
+abbrev pub invariant-loop-w : goal.invariant-loop-w
+invariant-loop-w l =
+    let rest = windows_rest l.w-iterator in
+    let i = length l.ps - length rest in
+    (windows_size l.w-iterator ≡ 2) × (length rest ≤ length l.ps) × (rest ≡ drop i l.ps) × (l.count ≤ i) × (l.count + far l.most rest ≡ far l.most l.ps)

@@ -1,4 +1,4 @@
-use Rattle.std.proofs.Common.{◌≡◌, ◌+◌, ◌-◌, ◌≤◌, length}
+use Rattle.std.proofs.Common.{◌≡◌, ◌+◌, ◌≤◌, length}
 use Rattle.rises.specs.Far.{ends_of}
 use Rattle.rises.proofs.Ends.{ends_listed}
 use Rattle.rises.proofs.far.list_ends.Given as goal
@@ -6,6 +6,3 @@ use Rattle.rises.proofs.far.list_ends.Given as goal
 abbrev pub invariant-loop-i : goal.invariant-loop-i
 invariant-loop-i l =
     (1 ≤ l.i) × (l.i ≤ length l.ps + 1) × (l.listed + 1 ≤ l.i) × (length l.out ≡ length l.initial.out) × (ends_listed l.ps l.out l.listed l.i ≡ ends_of l.ps)
-
-abbrev pub decreases-loop-i : goal.decreases-loop-i
-decreases-loop-i l = length l.ps - l.i

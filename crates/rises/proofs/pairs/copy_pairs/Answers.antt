@@ -1,4 +1,4 @@
-use Rattle.std.proofs.Common.{◌≡◌, sym, refl, arith, rules}
+use Rattle.std.proofs.Common.{sym, refl, arith, rules}
 use Rattle.rises.proofs.Copied.{copied_on, copied_none}
 use Rattle.rises.proofs.pairs.copy_pairs.Goals as goal
 
@@ -9,19 +9,9 @@ pub loop-i-preserved : goal.loop-i-preserved
 loop-i-preserved c =
     let a = c.args in
     let l = c.loop-i in
-    let x = c.get_pair-run in
-    let f = c.wrapping_add_u32 in
-    let g = c.wrapping_add_u32-in-loop-i in (
+    let x = c.get_pair-run in (
       search rules,
       search rules,
-      copied_on a.file.now a.from a.first a.second a.at a.dst.now l.i l.dst _ x.result f.result g.result l.invariant.2 x.ensures.0
-          f.ensures.value g.ensures.value c.put_pair.ensures,
+      copied_on a.file.now a.from a.first a.second a.at a.dst.now l.i l.dst _ x.result _ _ l.invariant.2 x.ensures.0
+          refl refl c.put_pair.ensures,
     )
-
-pub returns : goal.returns
-returns c =
-    let l = c.loop-i in
-    let i = l.invariant.0 in
-    let h = c.loop-i-test.false in
-    let e : l.i ≡ c.args.n = omega arith in
-    rw e at l.invariant.2

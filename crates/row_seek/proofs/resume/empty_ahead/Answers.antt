@@ -4,12 +4,7 @@ use Rattle.row_seek.proofs.resume.empty_ahead.Goals as goal
 pub overflow_sub-ahead : goal.overflow_sub-ahead
 overflow_sub-ahead c = let h = c.requires c.if-v-c.false in omega arith
 
-pub returns-then-ahead-n : goal.returns-then-ahead-n
-returns-then-ahead-n c =
-    let h = c.requires c.if-v-c.false in
-    (omega arith, λ n. omega arith, λ n. omega arith)
-
-pub returns-else-ahead-n : goal.returns-else-ahead-n
-returns-else-ahead-n c =
+pub returns : goal.returns
+returns c =
     let h = c.requires c.if-v-c.false in
     (omega arith, λ n. omega arith, λ n. omega arith)

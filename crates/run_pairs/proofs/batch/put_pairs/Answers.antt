@@ -1,4 +1,3 @@
--- `run_pairs::batch::put_pairs` meets its contract. Assumes nothing.
 use Prim.Native.Nat.{ℕ, ◌+◌, ◌*◌, ◌≤◌, ◌<◌}
 use mathlib.Core.Path.{◌≡◌, refl, sym, ap, ◌∙◌}
 use mathlib.Core.List.{List}
@@ -51,20 +50,8 @@ returns c =
     let l = c.loop-t in
     sym (ends-done a.rank a.at a.ps.now a.ends.now l.dst l.t c.loop-t-test.false) ∙ l.invariant.1
 
-pub overflow_cast-last : goal.overflow_cast-last
-overflow_cast-last c = let h = there (goal.at.overflow_cast-last c).In-loop-t in omega arith
-
-pub offset_bounds-ps-end : goal.offset_bounds-ps-end
-offset_bounds-ps-end c = let h = there (goal.at.offset_bounds-ps-end c).In-loop-t in omega arith
-
 pub bounds-ps-end : goal.bounds-ps-end
 bounds-ps-end c = there (goal.at.bounds-ps-end c).In-loop-t
 
-pub overflow_add-at : goal.overflow_add-at
-overflow_add-at c = let h = c.loop-t-test.true in let r = c.requires.3 in omega arith
-
 pub overflow_sub-last : goal.overflow_sub-last
 overflow_sub-last c = ranked (goal.at.overflow_sub-last c).In-loop-t
-
-pub put_pair-requires : goal.put_pair-requires
-put_pair-requires c = let h = c.loop-t-test.true in let r = c.requires.3 in let n = c.loop-t.invariant.0 in omega arith

@@ -1,16 +1,11 @@
--- `run_pairs::batch::put_pairs` meets its contract. Assumes nothing.
-use Prim.Native.Nat.{◌+◌, ◌-◌, ◌*◌}
+use Prim.Native.Nat.{◌+◌, ◌*◌}
 use mathlib.Core.Path.{◌≡◌}
 use lib.ListN.{length, drop}
 use Rattle.stores.specs.Put.{put}
 use Rattle.run_pairs.specs.Coding.{end_pairs}
 use Rattle.run_pairs.proofs.batch.put_pairs.Given as goal
 
--- `run_pairs::batch::put_pairs` meets its contract. Assumes nothing.
 -- the pairs of the ends that are left, after those put out
 abbrev pub invariant-loop-t : goal.invariant-loop-t
 invariant-loop-t l =
     (length l.dst ≡ length l.initial.dst) × (put l.dst (l.at + 8 * l.t) (end_pairs l.rank l.ps (drop l.t l.ends)) ≡ put l.initial.dst l.at (end_pairs l.rank l.ps l.ends))
-
-abbrev pub decreases-loop-t : goal.decreases-loop-t
-decreases-loop-t l = length l.ends - l.t

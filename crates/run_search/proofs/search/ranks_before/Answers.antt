@@ -11,16 +11,6 @@ use Rattle.run_search.proofs.search.ranks_before.Goals as goal
 pub returns-then-j-eq0 : goal.returns-then-j-eq0
 returns-then-j-eq0 c = let a = c.args in first-ranks a.file.now a.start a.j c.if-j-eq0.true
 
-pub returns-then-end-empty : goal.returns-then-end-empty
-returns-then-end-empty c =
-    let a = c.args in
-    let x = c.run-before in
-    let l : x.result.first ≡ last_at a.file.now a.start (a.j - 1) = ap (λ (p : Pair). p.first) x.ensures in
-    let y : x.result.second ≡ empty_at a.file.now a.start (a.j - 1) = ap (λ (p : Pair). p.second) x.ensures in
-    let t = c.if-end-empty.true in
-    let r = later_ranks a.file.now a.start a.j c.if-j-eq0.false in
-    omega arith
-
 pub returns : goal.returns
 returns c =
     let a = c.args in

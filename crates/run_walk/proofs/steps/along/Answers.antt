@@ -57,8 +57,7 @@ loop-i-preserved-then-at-c c =
       z.filled.size ∙ size,
       omega (arith, l.invariant.2),
       stretch_turn _ (next-along _ _) _ _ l.c _ _ _ l.i t.result size z
-          (rw (c.wrapping_add_u32-in-loop-i.ensures.value, c.wrapping_add_u32.ensures.value)
-          (in_run _ _ l.c (t.result - 1) (omega arith) (omega arith) (omega arith) c.if-at-c.true)) l.invariant.3,
+          (in_run _ _ l.c (t.result - 1) (omega arith) (omega arith) (omega arith) c.if-at-c.true) l.invariant.3,
     )
 
 -- the next pair is in the file
@@ -87,11 +86,10 @@ loop-i-preserved c =
     let size = l.invariant.1 in (
       omega arith,
       z.filled.size ∙ size,
-      omega (arith, l.invariant.2, c.wrapping_add_u32-else-at-c-2.ensures.value),
+      omega (arith, l.invariant.2),
       stretch_turn _ (next-along _ _) _ _ l.c _ _ _ l.i t.result size z
-          (rw (c.wrapping_add_u32-else-at-c-2.ensures.value, c.wrapping_add_u32-else-at-c.ensures.value, c.wrapping_add_u32-in-loop-i.ensures.value, c.wrapping_add_u32.ensures.value)
           (to_run _ _ l.c (t.result - 1) (omega arith) (omega arith) (omega arith) _ c.if-at-c.false
-          (c.get_pair-run.ensures.0 ∙ sym (pair-there _ _ (get_pair-run-requires (goal.at.loop-i-preserved c).After-struct_known-else-at-c-2-1))))) l.invariant.3,
+          (c.get_pair-run.ensures.0 ∙ sym (pair-there _ _ (get_pair-run-requires (goal.at.loop-i-preserved c).After-struct_known-else-at-c-2-1)))) l.invariant.3,
     )
 
 pub returns : goal.returns

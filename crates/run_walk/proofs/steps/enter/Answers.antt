@@ -6,5 +6,4 @@ use Rattle.run_walk.proofs.steps.enter.Goals as goal
 -- `runs::steps::enter` meets its contract. Assumes nothing.
 pub returns : goal.returns
 unfolding entered add32
-returns c =
-    rw (c.wrapping_add_u32-3.ensures.value, c.wrapping_add_u32-2.ensures.value, c.wrapping_add_u32.ensures.value, c.load_pair-run.ensures)
+returns c = rw c.load_pair-run.ensures

@@ -8,7 +8,7 @@ use Rattle.runs.proofs.steps.next.Goals as goal
 -- `runs::steps::next` meets its contract. Assumes nothing.
 pub returns-then-c : goal.returns-then-c
 unfolding next along_run add32
-returns-then-c c = rw (lt-ltb _ _ c.if-c.true, c.wrapping_add_u32.ensures.value)
+returns-then-c c = rw (lt-ltb _ _ c.if-c.true)
 
 pub returns : goal.returns
 unfolding next

@@ -1,4 +1,4 @@
-use Rattle.std.proofs.Common.{◌≡◌, ◌+◌, ◌-◌, ◌*◌, ap, ◌∙◌, arith}
+use Rattle.std.proofs.Common.{◌≡◌, ◌+◌, ◌-◌, ◌*◌, ◌^◌, ◌%◌, ap, ◌∙◌, arith}
 use Rattle.wire.specs.declared.Pair.{Pair}
 use Rattle.rises.specs.Copied.{copied}
 use Rattle.parts.proofs.Carried.{Written, written_end}
@@ -7,23 +7,23 @@ use Rattle.run_walk.specs.Steps.{next}
 use Rattle.run_pairs.specs.Coding.{runs_coder}
 use Rattle.runs_copy.specs.Copy.{at_run, ran_on}
 use Rattle.runs_copy.proofs.FromRun.{Ahead, ahead, ran, stepped, ran-room}
-use Rattle.runs_copy.proofs.copy.put_whole.Goals.{After-get_pair-last, After-wrapping_sub_u32-shift, Start}
+use Rattle.runs_copy.proofs.copy.put_whole.Goals.{After-get_pair-last, Start}
 use Rattle.runs_copy.proofs.copy.put_whole.Goals as goal
 
 numbers : (c : Start) → let a = c.args in Ahead a.file.now a.v a.c a.j (a.c.next - 2) (a.j - 1 - (a.c.next - 2))
 numbers c = let a = c.args in ahead a.file.now a.v _ c.requires.0 a.c a.e c.requires.1 a.j c.requires.2 c.requires.3
 
 -- all of them gone
-all-gone : (c : After-wrapping_sub_u32-shift)
+all-gone : (c : Start)
     → let a = c.args in
     Written (next a.file.now a.v) runs_coder a.dst.now a.c a.e (ranks_before a.file.now a.v.start a.j - a.c.rank)
-    (copied a.file.now (a.v.start + 8 * (a.c.next - 2)) 0 c.wrapping_sub_u32-shift.result a.e.first (a.j - 1 - (a.c.next - 2)) a.dst.now)
+    (copied a.file.now (a.v.start + 8 * (a.c.next - 2)) 0 ((a.c.rank + (2 ^ 32 - a.e.rank)) % 2 ^ 32) a.e.first (a.j - 1 - (a.c.next - 2)) a.dst.now)
     (at_run a.file.now a.v a.c a.j)
     (ran_on a.e (last_at a.file.now a.v.start (a.j - 1)) (ranks_before a.file.now a.v.start a.j - a.c.rank) (a.j - 1 - (a.c.next - 2))) 0
 all-gone c =
     let a = c.args in
-    ran a.file.now a.v _ c.requires.0 a.c a.e c.requires.1 a.j c.requires.2 c.requires.3 a.dst.now c.wrapping_sub_u32-shift.result
-    c.wrapping_sub_u32-shift.ensures.value (omega arith) c.requires.4 c.requires.5
+    ran a.file.now a.v _ c.requires.0 a.c a.e c.requires.1 a.j c.requires.2 c.requires.3 a.dst.now _
+    (omega arith) (omega arith) c.requires.4 c.requires.5
 
 -- the pair of the last run
 read : (c : After-get_pair-last)
@@ -73,7 +73,7 @@ copy_pairs-requires c =
     let t = k.two in
     let s = k.sum in
     let l = k.long in
-    let r = (ran-room _ _ _ _ _ _ _ _ _ _ _ _ (all-gone (goal.at.copy_pairs-requires c).After-wrapping_sub_u32-shift)).0 in
+    let r = (ran-room _ _ _ _ _ _ _ _ _ _ _ _ (all-gone (goal.at.copy_pairs-requires c).Start)).0 in
     (omega arith, r)
 
 pub overflow_sub-j : goal.overflow_sub-j
@@ -155,7 +155,7 @@ run_on-e-requires c =
     let a = x.0 in
     let b = x.1 in
     let r = k.after in
-    let m = ran-room _ _ _ _ _ _ _ _ _ _ _ _ (all-gone (goal.at.run_on-e-requires c).After-wrapping_sub_u32-shift) in
+    let m = ran-room _ _ _ _ _ _ _ _ _ _ _ _ (all-gone (goal.at.run_on-e-requires c).Start) in
     let g = m.1 in
     let f = m.2 in
     (omega arith, omega arith)
@@ -171,4 +171,4 @@ returns c =
     let q = c.get_pair-last.ensures.0 ∙ k.pair in
     let n : c.get_pair-last.result.first + 1 - c.get_pair-last.result.second - a.c.rank ≡ ranks_before a.file.now a.v.start a.j - a.c.rank = omega arith in
     let t = c.enter_run-c.ensures ∙ stepped a.file.now a.v _ c.requires.0 a.c a.e c.requires.1 a.j c.requires.2 c.requires.3 _ q in
-    (t, rw (t, c.run_on-e.ensures, n, b, c.copy_pairs.ensures) (written_end _ _ _ _ _ _ _ _ _ 0 (omega arith) (all-gone (goal.at.returns c).After-wrapping_sub_u32-shift)))
+    (t, rw (t, c.run_on-e.ensures, n, b, c.copy_pairs.ensures) (written_end _ _ _ _ _ _ _ _ _ 0 (omega arith) (all-gone (goal.at.returns c).Start)))

@@ -1,23 +1,11 @@
-use mathlib.Core.Path.{◌≡◌, refl, subst}
-use mathlib.Core.List.{[], ◌∷◌}
+use mathlib.Core.Path.{subst}
 use native.Mathlib.Omega.{arith}
-use types.Run.{OneOf}
-use denote.Enum.Declared.{tag_of}
-use borrow.Author.Rules.{rules}
-use Rattle.format.specs.contracts.RankAnswer.{the_type}
-use Rattle.format.specs.declared.Rank.{Rank}
+use Rattle.std.specs.Prelude.{Ok}
 use Rattle.format.specs.declared.RankAnswer.{RankAnswer}
-use Rattle.format.specs.declared.RankAnswer.TheVariants as ra
 use Rattle.format.specs.Answers.{rank_says}
 use Rattle.search.specs.Searched.{RankSearched}
 use Rattle.writing.proofs.Writing.{place-answer, below-place, empty-there, stored_there, edit-empty, edit-stored, rank-small}
 use Rattle.writing.proofs.write.edit_of.Goals as goal
-
--- an answer that is no rank is one of the others
-no_rank : (a : RankAnswer) → ((r : Rank) → a ≡ ra.Rank r → ⊥) → OneOf (1 ∷ (2 ∷ [])) (tag_of the_type a)
-no_rank (ra.Rank r) h = absurd (h r refl)
-no_rank (ra.Empty n) h = search rules
-no_rank (ra.Refused n) h = search rules
 
 pub returns-in_default : goal.returns-in_default
 returns-in_default c =
@@ -25,10 +13,10 @@ returns-in_default c =
     let w = c.requires in
     let f = c.find-found in
     let r = c.rank_answer-answer in
-    let s = place-answer g.file.now g.v w.0 g.p.0 g.word w.1 f.result f.ensures r.result r.ensures in
-    let a = empty-there g.file.now g.v w.0 g.p.0 g.word w.1 r.result (no_rank r.result c.in_default.not-Rank) s in
-    edit-empty g.file.now g.v w.0 g.p.0 g.word w.1 a _
-    (below-place g.file.now g.v w.0 g.p.0 g.word w.1 f.result f.ensures) _ refl
+    let s = place-answer g.file.now g.v w.0 g.p g.word w.1 f.result f.ensures r.result r.ensures in
+    let a = empty-there g.file.now g.v w.0 g.p g.word w.1 r.result c.in_default.not-Rank s in
+    edit-empty g.file.now g.v w.0 g.p g.word w.1 a _
+    (below-place g.file.now g.v w.0 g.p g.word w.1 f.result f.ensures) _ c.then_some-added.ensures
 
 pub overflow_add-result : goal.overflow_add-result
 overflow_add-result c =
@@ -36,8 +24,8 @@ overflow_add-result c =
     let w = c.requires in
     let f = c.find-found in
     let r = c.rank_answer-answer in
-    let s = place-answer g.file.now g.v w.0 g.p.0 g.word w.1 f.result f.ensures r.result r.ensures in
-    let h = rank-small g.file.now g.v g.p.0 _ (subst (λ (a : RankAnswer). RankSearched g.file.now g.v g.p.0 (rank_says a)) c.in-Rank.is s) in
+    let s = place-answer g.file.now g.v w.0 g.p g.word w.1 f.result f.ensures r.result r.ensures in
+    let h = rank-small g.file.now g.v g.p.0 _ (subst (λ (a : RankAnswer). RankSearched g.file.now g.v g.p.0 (rank_says (Ok a))) c.in-Rank.is s) in
     let k = c.ranges in
     omega arith
 
@@ -47,6 +35,6 @@ returns c =
     let w = c.requires in
     let f = c.find-found in
     let r = c.rank_answer-answer in
-    let s = place-answer g.file.now g.v w.0 g.p.0 g.word w.1 f.result f.ensures r.result r.ensures in
-    let t = subst (λ (a : RankAnswer). RankSearched g.file.now g.v g.p.0 (rank_says a)) c.in-Rank.is s in
-    edit-stored g.file.now g.v w.0 g.p.0 g.word w.1 _ (stored_there g.file.now g.v w.0 g.p.0 g.word w.1 _ t) _ refl
+    let s = place-answer g.file.now g.v w.0 g.p g.word w.1 f.result f.ensures r.result r.ensures in
+    let t = subst (λ (a : RankAnswer). RankSearched g.file.now g.v g.p.0 (rank_says (Ok a))) c.in-Rank.is s in
+    edit-stored g.file.now g.v w.0 g.p g.word w.1 _ (stored_there g.file.now g.v w.0 g.p g.word w.1 _ t) _ c.then_some-added.ensures
