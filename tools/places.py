@@ -218,26 +218,25 @@ def together():
                     yield where(path, line, f"{name} ({what})")
 
 
-# ---- point 6
+# ---- points 6 and 7
+
+def by_signature(pattern):
+    for path, text in sources():
+        for name, line, head, body in functions(text):
+            signature = head.split("requires")[0]
+            if re.search(pattern, signature):
+                yield where(path, line, name)
+
+
 
 def lengths():
     "buffers with a count beside them, and windows of lent bytes told by offset and number"
-    for path, text in sources():
-        for name, line, head, body in functions(text):
-            signature = head.split("requires")[0]
-            if re.search(r"&(?:mut |'\w+ )*\[[^\]]*\](?:,\s+\w+: usize)?,\s+(?:n|count): (?:u32|usize)|sizes: &", signature):
-                yield where(path, line, name)
+    yield from by_signature(r"&(?:mut |'\w+ )*\[[^\]]*\](?:,\s+\w+: usize)?,\s+(?:n|count): (?:u32|usize)|sizes: &")
 
-
-# ---- point 7
 
 def switches():
     "parameters that say which step to run"
-    for path, text in sources():
-        for name, line, head, body in functions(text):
-            signature = head.split("requires")[0]
-            if re.search(r"\b(asked|stored|there|put): (u32|bool)", signature):
-                yield where(path, line, name)
+    yield from by_signature(r"\b(asked|stored|there|put): (u32|bool)")
 
 
 # ---- point 8
