@@ -1,3 +1,4 @@
+pub mod Coded
 pub mod Decoded
 pub mod Four
 pub mod CoordinateCalls

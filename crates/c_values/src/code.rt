@@ -3,8 +3,8 @@
 ghost use Rattle.std.specs.Prelude.{◌≡◌, ltb};
 ghost use Rattle.format.specs.Tools.{pick};
 ghost use Rattle.format.specs.Signals.{BEYOND};
-ghost use Rattle.format.specs.Answers.{refused, given, signal_of, cell_says, rank_says, position_says};
-ghost use Rattle.c_values.specs.Code.{coded, code_and_value};
+ghost use Rattle.format.specs.Answers.{refused, given, signal_of};
+ghost use Rattle.c_values.specs.Code.{coded, code_and_value, CodeOf, rank_given, position_given};
 
 use format::{Position, RankAnswer, Refusal};
 
@@ -18,33 +18,34 @@ pub fn signal(answer: Result<(), Refusal>) -> u32
     }
 }
 
-fn code_and_value(code: u32, value: u32) -> u64
+pub fn code_and_value(code: u32, value: u32) -> u64
     ensures { result ≡ code_and_value code value }
 {
     code as u64 * 4294967296 + value as u64
 }
 
-pub fn cell_code(answer: Result<u32, Refusal>) -> u64
-    ensures { result ≡ coded (cell_says answer) }
+// An answer's refusal is whatever has a number: a `Refusal`, or the number itself.
+pub fn cell_code<R: Into<u32>>(answer: Result<u32, R>) -> u64
+    ensures { CodeOf given R.converts answer result }
 {
     match answer {
         Ok(x) => code_and_value(0, x),
-        Err(refusal) => code_and_value(u32::from(refusal), 0),
+        Err(refusal) => code_and_value(refusal.into(), 0),
     }
 }
 
-pub fn rank_code(answer: Result<RankAnswer, Refusal>) -> u64
-    ensures { result ≡ coded (rank_says answer) }
+pub fn rank_code<R: Into<u32>>(answer: Result<RankAnswer, R>) -> u64
+    ensures { CodeOf rank_given R.converts answer result }
 {
     match answer {
         Ok(RankAnswer::Rank(rank)) => code_and_value(0, rank.0),
         Ok(RankAnswer::Empty(before)) => code_and_value(255, before.0),
-        Err(refusal) => code_and_value(u32::from(refusal), 0),
+        Err(refusal) => cell_code(Err(refusal)),
     }
 }
 
-pub fn position_code(answer: Result<Position, Refusal>) -> u64
-    ensures { result ≡ coded (position_says answer) }
+pub fn position_code<R: Into<u32>>(answer: Result<Position, R>) -> u64
+    ensures { CodeOf position_given R.converts answer result }
 {
     cell_code(answer.map(|p| p.0))
 }

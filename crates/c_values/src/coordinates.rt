@@ -6,7 +6,7 @@ ghost use Rattle.c_values.specs.Code.{Coded};
 ghost use Rattle.c_values.specs.Extents.{dimensions, CoordinatesOut};
 
 use crate::code::position_code;
-use crate::extents::{dimensions_of, four};
+use crate::extents::{as_four, dimensions_of};
 use format::{DIMS, Position, Refusal};
 use header::coordinates::{coordinates_at, position_at};
 use header::extents::cell_count;
@@ -17,7 +17,7 @@ fn position_of(dims: u32, extents: &[u32], at: &[u32]) -> Result<Position, Refus
 {
     let d = dimensions_of(dims, extents)?;
     cell_count(d).ok_or(Refusal::Extent)?;
-    let at = four(at).ok_or(Refusal::Beyond)?;
+    let at = as_four(at).ok_or(Refusal::Beyond)?;
     position_at(d, at)
 }
 

@@ -7,12 +7,20 @@ ghost use Rattle.c_values.specs.Extents.{dimensions, extents_number};
 
 use format::{Coordinates, DIMS, Dimensions, Refusal};
 
+// The four numbers.
+pub fn four(numbers: &[u32]) -> Coordinates
+    requires { length numbers.now ≡ most_dimensions }
+    ensures { result ≡ numbers.now }
+{
+    [numbers[0], numbers[1], numbers[2], numbers[3]]
+}
+
 // The numbers, where they are four.
-pub fn four(numbers: &[u32]) -> Option<Coordinates>
+pub fn as_four(numbers: &[u32]) -> Option<Coordinates>
     ensures { result ≡ pick (eqb (length numbers.now) most_dimensions) (Some numbers.now) None }
 {
     if numbers.len() == DIMS {
-        Some([numbers[0], numbers[1], numbers[2], numbers[3]])
+        Some(four(numbers))
     } else {
         None
     }
@@ -22,6 +30,6 @@ pub fn four(numbers: &[u32]) -> Option<Coordinates>
 pub fn dimensions_of(count: u32, extents: &[u32]) -> Result<Dimensions, Refusal>
     ensures { (signal_of result ≡ extents_number extents.now) × IfOk result (λ d. d ≡ dimensions count extents.now) }
 {
-    let extents = four(extents).ok_or(Refusal::Extent)?;
+    let extents = as_four(extents).ok_or(Refusal::Extent)?;
     Ok(Dimensions { count, extents })
 }

@@ -1,5 +1,5 @@
 -- One step along a page, and of the descent to the page below. Assumes nothing.
-use Rattle.std.proofs.Common.{◌≡◌, ℕ, None, zero, suc, ◌+◌, ◌-◌, ◌*◌, ◌^◌, ◌<◌, ◌≤◌, min, Bool, ltb, leb, List, [], ◌∷◌, length, get_or, take, drop, sym, refl, ap, ◌∙◌, ap₂, mul-le-mul, lt_of_not-le, arith, length-drop, length-take, length-take-le, get_or-drop, take_all, get_or-take, take-take, drop-drop, le-ltb, lt-ltb, le-leb}
+use Rattle.std.proofs.Common.{◌≡◌, ℕ, Option, Some, None, zero, suc, ◌+◌, ◌-◌, ◌*◌, ◌^◌, ◌<◌, ◌≤◌, min, Bool, ltb, leb, List, [], ◌∷◌, length, get_or, take, drop, sym, refl, ap, ◌∙◌, ap₂, mul-le-mul, lt_of_not-le, arith, length-drop, length-take, length-take-le, get_or-drop, take_all, get_or-take, take-take, drop-drop, le-ltb, lt-ltb, le-leb}
 use native.Mathlib.Nat.{sub-zero, zero-sub}
 use native.Mathlib.Decide.{dec_le}
 use lib.Seq.{take-nil}
@@ -9,7 +9,7 @@ use Rattle.format.specs.PagedRuns.{none, less, Place, lost, at}
 use Rattle.laws.proofs.Tools.{cases}
 use Rattle.levels.specs.Levels.{entries, cut}
 use Rattle.descent.specs.declared.search.Asked.{Asked}
-use Rattle.descent.specs.Descent.{sub32, counted, of_empty, answered, passed, left_of, place_after, page_down, levels_down, descended, page_at, walked, PageFits, LevelsFit}
+use Rattle.descent.specs.Descent.{sub32, counted, of_empty, answered, passed, left_of, place_after, page_down, levels_down, descended, page_at, walked, PageFits, LevelsFit, InOne}
 use Rattle.levels.proofs.Reading.{length-entries}
 
 -- ---- places that differ in sums of cells only
@@ -47,6 +47,22 @@ levels-lost : (m : Span → ℕ) (b : ℕ) (a : Span) (ls : List (List Span)) �
 unfolding levels_down
 levels-lost m b a [] = refl
 levels-lost m b a (ys ∷ ls) = levels-lost m b a ls
+
+-- ---- an answer in one number
+
+pub none-in_one : {o : Option ℕ} → o ≡ None → InOne o (2 ^ 64)
+none-in_one e = rw e refl
+
+pub same-in_one : (o q : Option ℕ) (n : ℕ) → o ≡ q → InOne o n → InOne q n
+same-in_one o q n e h = rw e at h
+
+pub read-none : (o : Option ℕ) (n : ℕ) → InOne o n → 2 ^ 64 ≤ n → None ≡ o
+read-none None n h l = refl
+read-none (Some x) n h l = let l1 = h.1 in absurd (omega arith)
+
+pub read-some : (o : Option ℕ) (n : ℕ) → InOne o n → n < 2 ^ 64 → Some n ≡ o
+read-some None n h l = absurd (omega arith)
+read-some (Some x) n h l = ap Some h.0
 
 -- ---- along a page
 

@@ -1,5 +1,5 @@
 -- What the descent of a search finds, for any bytes. Assumes nothing.
-use Rattle.std.specs.Prelude.{ℕ, ◌+◌, ◌-◌, ◌*◌, ◌%◌, ◌^◌, ◌<◌, ◌≤◌, Bool, true, false, List, [], ◌∷◌, length, take, drop, Option, Some, None, nat_le, nat_lt, slice_index, slice_index_or}
+use Rattle.std.specs.Prelude.{◌≡◌, ℕ, ◌+◌, ◌-◌, ◌*◌, ◌%◌, ◌^◌, ◌<◌, ◌≤◌, Bool, true, false, List, [], ◌∷◌, length, take, drop, Option, Some, None, ◌==◌, nat_le, nat_lt, slice_index, slice_index_or}
 use Rattle.format.specs.Tools.{pick, both, within}
 use Rattle.format.specs.Runs.{Span}
 use Rattle.format.specs.PagedRuns.{none, plus, less, Place, lost, at}
@@ -25,6 +25,10 @@ for_rank ask.Place = false
 for_rank ask.Rank = true
 for_rank ask.Run = true
 
+-- what a number asks: 0 for a place, 2 for a run, each other for a rank
+abbrev pub asked_of : ℕ → Asked
+asked_of n = pick (n == 0) ask.Place (pick (n == 2) ask.Run ask.Rank)
+
 -- two numbers of 32 bits as one
 abbrev pub halves : ℕ → ℕ → ℕ
 halves high low = high % 2 ^ 32 * 2 ^ 32 + low
@@ -40,6 +44,11 @@ told ask.Run before p x = halves (before + x.empty) (sub32 (counted true x) p)
 abbrev pub answered : Asked → Place → Option ℕ
 answered asked (lost a) = None
 answered asked (at i p a x) = Some (told asked a.empty p x)
+
+-- an answer in one number: where there is none 2^64, which no answer is
+abbrev pub InOne : Option ℕ → ℕ → Type 0
+InOne None n = n ≡ 2 ^ 64
+InOne (Some x) n = (n ≡ x) × (n < 2 ^ 64)
 
 -- ---- through pages whose entries are counted: where they rise this is the descent of document 01 (law `counts-descend`)
 

@@ -5,7 +5,7 @@ ghost use Rattle.std.specs.Prelude.{◌≡◌, ◌+◌, ◌*◌, ◌^◌, ◌<�
 ghost use Rattle.format.specs.Tools.{pick};
 ghost use Rattle.format.specs.PagedRuns.{none, less, at};
 ghost use Rattle.levels.specs.Levels.{entries, span_of};
-ghost use Rattle.descent.specs.Descent.{halves, counted, of_empty, for_rank, told, answered, passed, left_of, descended, walked, PageFits, LevelsFit, searched};
+ghost use Rattle.descent.specs.Descent.{halves, counted, of_empty, for_rank, told, answered, passed, left_of, descended, walked, PageFits, LevelsFit, InOne, asked_of, searched};
 
 use levels::entry::pair_at;
 use levels::sizes::{level_sizes, size_at};
@@ -18,6 +18,22 @@ pub enum Asked {
     Rank,
     Run,
 }
+
+// What a number asks: 0 for a place, 2 for a run, each other for a rank.
+impl From<u32> for Asked {
+    ghost from_gives = { λ n a. a ≡ asked_of n };
+
+    fn from(number: u32) -> Asked {
+        match number {
+            0 => Asked::Place,
+            2 => Asked::Run,
+            _ => Asked::Rank,
+        }
+    }
+}
+
+// What a walk answers where no run is reached: 2^64, which no answer is. In one number: with an `Option` the compiler keeps a frame for each level.
+const NOWHERE: u128 = 18446744073709551616;
 
 // Whether a rank is asked for, so that stored cells are counted.
 fn for_rank(asked: Asked) -> bool
@@ -130,23 +146,23 @@ fn page_walk<'a, 'b>(
     left: usize,
     before: u64,
     p: u32,
-) -> Option<u64>
+) -> u128
     requires { PageFits file.now.now start sizes.now step level from first left before }
-    ensures { result ≡ answered asked (walked (entries start file.now.now) sizes.now step (for_rank asked) level from first left before p) }
+    ensures { InOne (answered asked (walked (entries start file.now.now) sizes.now step (for_rank asked) level from first left before p)) result }
 {
     let bytes = *file;
     let stored = for_rank(asked);
     let number = from + first;
     let k = entries_passed(bytes, start, number, left, stored, p);
     if left <= k {
-        return None;
+        return NOWHERE;
     }
     let c = entry_before(bytes, start, number, k);
     let rest = p.wrapping_sub(count(c, stored));
     let sum = before + u64::from(c.second);
     if level == 0 {
         let y = pair_at(bytes, start, number + k);
-        return Some(answer(sum, y, c, rest, asked));
+        return u128::from(answer(sum, y, c, rest, asked));
     }
     descend(
         file,
@@ -175,16 +191,16 @@ fn descend<'a, 'b>(
     entry: usize,
     before: u64,
     rest: u32,
-) -> Option<u64>
+) -> u128
     requires { LevelsFit file.now.now start sizes.now step level from entry before }
-    ensures { result ≡ answered asked (descended (entries start file.now.now) sizes.now step (for_rank asked) level from
-        (at entry rest (of_empty before) none)) }
+    ensures { InOne (answered asked (descended (entries start file.now.now) sizes.now step (for_rank asked) level from
+        (at entry rest (of_empty before) none))) result }
 {
     let below = level - 1;
     let size = size_at(sizes, below);
     let first = entry * step;
     if size <= first {
-        return None;
+        return NOWHERE;
     }
     let left = step.min(size - first);
     page_walk(
@@ -192,17 +208,19 @@ fn descend<'a, 'b>(
     )
 }
 
-// From the top page down, in levels over so many runs; None where no run is reached. A file that is accepted has at most 16,777,216 runs, and all levels.
-pub fn search(
+// From the top page down, in levels over so many runs; None where no run is reached. What is asked may be given by its number. A file that is accepted has at
+// most 16,777,216 runs, and all levels.
+pub fn search<A: Into<Asked>>(
     file: &[u8],
     start: u32,
     step: u32,
     runs: u32,
     number: u32,
-    asked: Asked,
+    asked: A,
 ) -> Option<u64>
-    ensures { result ≡ searched file.now start step runs asked number }
+    ensures { (a : Asked) × A.converts asked a × (result ≡ searched file.now start step runs a number) }
 {
+    let asked = asked.into();
     if step < 2 {
         return None;
     }
@@ -218,7 +236,7 @@ pub fn search(
         return None;
     }
     let held = file;
-    descend(
+    let found = descend(
         &held,
         start,
         &sizes,
@@ -229,5 +247,10 @@ pub fn search(
         0,
         0,
         number,
-    )
+    );
+    if found < NOWHERE {
+        Some(found as u64)
+    } else {
+        None
+    }
 }

@@ -7,7 +7,7 @@ use Rattle.wire.specs.Wire.{whole, add32}
 use Rattle.wire.proofs.Laws.{whole-there}
 use Rattle.stores.specs.Put.{put}
 use borrow.Rule.Slice.PartMut.{put_mid}
-use Rattle.stores.proofs.Laws.{put-append, put_front}
+use Rattle.stores.proofs.Laws.{put-append, put_front, length-put}
 use Rattle.stores.proofs.Copied.{put_written}
 use Rattle.parts.specs.declared.Cursor.{Cursor}
 use Rattle.parts.specs.Cursor.{moved_to, walked_as, stepped_as, Batch}
@@ -40,6 +40,11 @@ module _ (w start second : ℕ) (b : List ℕ) where
 pub record Left (f : Cursor → Cursor) (c₀ : Cursor) (from m : ℕ) (before : List ℕ) (c : Cursor) (i k : ℕ) (out : List ℕ) : Type 0 where
   pub cursor : stepped_as f c k ≡ stepped_as f c₀ m
   pub positions : put out i (walked_as f c k) ≡ put before from (walked_as f c₀ m)
+
+-- so no element was added or lost
+pub left-length : {f : Cursor → Cursor} {c₀ : Cursor} {from m : ℕ} {before : List ℕ} {c : Cursor} {i k : ℕ} {out : List ℕ} → Left f c₀ from m before c i k out → length out ≡ length before
+left-length {f} {c₀} {from} {m} {before} {c} {i} {k} {out} l =
+    sym (length-put out i (walked_as f c k)) ∙ ap length l.positions ∙ length-put before from (walked_as f c₀ m)
 
 module _ (f : Cursor → Cursor) (c₀ : Cursor) (from m : ℕ) (before : List ℕ) where
   pub fill_begin : Left f c₀ from m before c₀ from m before
@@ -113,6 +118,9 @@ module _ (w start second : ℕ) (b : List ℕ) (c₀ : Cursor) (from m : ℕ) (b
       let r : d.rank ≡ c.rank + j = ap (λ x. x.rank) z.cursor ∙ stepped-rank j c (omega arith) in
       let q : c.rank + k ≡ d.rank + n = omega arith in
       record { room = rw q at g.room; left = fill_more (next_at w start second b) c₀ from m before c i k out g.left j n e z }
+
+pub filled-length : (f : Cursor → Cursor) (c : Cursor) (from m : ℕ) (before : List ℕ) {r : Cursor} {after : List ℕ} → Filled f c from m before r after → length after ≡ length before
+filled-length f c from m before z = ap length z.positions ∙ length-put before from (walked_as f c m)
 
 -- all of a list is put over
 put_whole : (d xs : List ℕ) → length xs ≡ length d → put d 0 xs ≡ xs

@@ -79,9 +79,16 @@ there {w} {second} {r = r} {b = b} u j h =
     absurd (omega arith))
 
 module _ {w second : ℕ} {b : List ℕ} {last r m : ℕ} where
+  pub onward_start : r ≤ last → Onward w second b last r m r m
+  onward_start h = record { least = le_refl r; most = h; same = λ u j. j }
+
   pub found_here : m ≤ 0 → r ≤ last → JumpAfter w second b r m last r
   found_here h k =
       record { least = le_refl r; most = k; found = λ u a c e d. there u (record { least = a; most = c; count = e; jump = d }) h }
+
+  -- no rank is left
+  pub found-last : r ≡ last → JumpAfter w second b r m last r
+  found-last h = record { least = le_refl r; most = omega arith; found = λ u a c e d. omega arith }
 
 module _ {w second : ℕ} {b : List ℕ} {last r m at left : ℕ} (o : Onward w second b last r m at left) where
   -- over n ranks, where all but the last of them have fewer jumps than are left

@@ -6,7 +6,6 @@ use Rattle.format.specs.declared.View.{View}
 use Rattle.format.specs.Signals.{BEYOND}
 use Rattle.format.specs.Answers.{Answer, refused}
 use Rattle.format.specs.File.{WholeHeader}
-use Rattle.format.specs.Accepted.{check_number}
 use Rattle.format.specs.Opened.{view_of}
 use Rattle.laws.proofs.Acceptance.{accepted, header-right}
 use Rattle.search.specs.Searched.{CellSearched, RankSearched, PositionSearched}

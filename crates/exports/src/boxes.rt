@@ -6,7 +6,7 @@ ghost use Rattle.format.specs.Accepted.{check_number};
 ghost use Rattle.format.specs.Box.{Boxed};
 
 use c_values::code::signal;
-use c_values::extents::four;
+use c_values::extents::as_four;
 use format::Refusal;
 use reading::boxes::box_words;
 use reading::check::check;
@@ -25,10 +25,10 @@ fn corner_refused(file: &[u8]) -> Refusal
 fn put_words(file: &[u8], low: &[u32], high: &[u32], dst: &mut [u32]) -> Result<(), Refusal>
     ensures { Boxed file.now low.now high.now dst.old (signal_of result) dst.new }
 {
-    let Some(from) = four(low) else {
+    let Some(from) = as_four(low) else {
         return Err(corner_refused(file));
     };
-    let Some(to) = four(high) else {
+    let Some(to) = as_four(high) else {
         return Err(corner_refused(file));
     };
     box_words(file, from, to, dst)

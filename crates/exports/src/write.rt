@@ -4,7 +4,7 @@ ghost use Rattle.format.specs.Calls.{Made, Wrote, Changed};
 ghost use Rattle.c_values.specs.Extents.{dimensions, setting};
 
 use c_values::code::signal;
-use c_values::extents::four;
+use c_values::extents::as_four;
 use format::{Dimensions, Position, Refusal, Setting};
 use kinds::setting::check_setting;
 use making::make;
@@ -22,7 +22,7 @@ fn make_file(
 ) -> Result<(), Refusal>
     ensures { Made s (dimensions dims extents.now) empty words.now dst.old (signal_of result) dst.new }
 {
-    let Some(extents) = four(extents) else {
+    let Some(extents) = as_four(extents) else {
         check_setting(s)?;
         return Err(Refusal::Extent);
     };

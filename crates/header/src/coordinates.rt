@@ -26,7 +26,7 @@ pub fn position_at(d: Dimensions, at: Coordinates) -> Result<Position, Refusal>
 }
 
 // The coordinates of a position inside the picture, the last dimension first.
-fn coordinates_inside(d: Dimensions, p: Position) -> Coordinates
+pub fn coordinates_inside(d: Dimensions, p: Position) -> Coordinates
     requires { coordinates_number d p.0 ≡ 0 }
     ensures { result ≡ coordinates_at d p.0 }
 {

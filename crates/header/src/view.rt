@@ -28,7 +28,7 @@ pub fn whole_header(file: &[u8]) -> bool
 }
 
 // Kind, width and step.
-fn read_setting(file: &[u8]) -> Setting
+pub fn read_setting(file: &[u8]) -> Setting
     requires { WholeHeader file.now }
     ensures { result ≡ setting_of file.now }
 {

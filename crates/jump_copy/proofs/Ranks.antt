@@ -2,7 +2,8 @@
 use Prim.Native.Nat.{ℕ, zero, suc, ◌+◌, ◌-◌, ◌^◌, ◌≤◌, ◌<◌}
 use mathlib.Core.Path.{◌≡◌, refl, sym, ap, ◌∙◌}
 use mathlib.Core.List.{List}
-use Rattle.std.proofs.Common.{None}
+use Rattle.std.proofs.Common.{Option, None, Some}
+use Rattle.std.specs.Option.{ForSome}
 use native.Mathlib.Nat.{add-zero}
 use native.Mathlib.Numerals.{add-one}
 use native.Mathlib.Omega.{arith}
@@ -21,6 +22,12 @@ use Rattle.jump_walk.specs.Steps.{next}
 use Rattle.jump_walk.proofs.Walks.{next-at, before-all}
 use Rattle.jump_walk.proofs.Ahead.{Reaches, reach_next}
 use Rattle.jump_copy.proofs.Rows.{Stands, stands}
+
+-- a walk with no target, or with one that no position reaches, comes to the end
+pub walk-whole : {w start second : ℕ} {b : List ℕ} {from : Place} {n : ℕ} (target : Option ℕ) {t : Place} → Stopped w start second b from n target t
+    → ForSome target (λ p. 2 ^ 50 ≤ p) → t.rank ≡ n
+walk-whole None z far = z.all
+walk-whole (Some p) z far = z.all (far p refl)
 
 module _ (b : List ℕ) (v : View) (ls : List ℕ) (h : Held b v ls) (c : Cursor) where
   abbrev w : ℕ
@@ -78,17 +85,16 @@ module _ (b : List ℕ) (v : View) (ls : List ℕ) (h : Held b v ls) (c : Cursor
           let e = s.rank in
           record { position = omega arith; taken = omega arith }
 
-      -- and where it ends
-      module _ (t : Place) (g : Stopped w v.start v.second b (record { rank = c.rank; reached = reached c }) (c.rank + n) None t) where
+      -- and where it ends, if that is the rank n ranks on
+      module _ (t : Place) (target : Option ℕ) (g : Stopped w v.start v.second b (record { rank = c.rank; reached = reached c }) (c.rank + n) target t)
+          (a : t.rank ≡ c.rank + n) where
         there : t.reached ≡ walked w v.start v.second b c.rank n (reached c)
         there =
-            let a = g.all in
             let e : t.rank - c.rank ≡ n = omega arith in
             rw e at g.there
 
         pub walk-taken : t.reached.taken < 2 ^ 32
         walk-taken =
-            let a = g.all in
             let i = g.within.taken in
             let m = walk-room.rank in
             let l = h.laid.cells in

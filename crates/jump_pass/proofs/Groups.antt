@@ -11,7 +11,8 @@ use Rattle.format.specs.declared.View.{View}
 use Rattle.format.specs.Bytes.{field}
 use Rattle.parts.specs.Encoder.{if_zero}
 use Rattle.laws.proofs.Tools.{both_true}
-use Rattle.differences.specs.Walk.{Laid, plain, total}
+use Rattle.differences.specs.Walk.{Laid, plain, total, Room}
+use Rattle.differences.proofs.Sums.{entry_inside}
 use Rattle.jump_pass.specs.declared.check.Passed.{Passed}
 use Rattle.jump_pass.specs.Pass.{Readable, Goes, Stops, both_near, passes_on}
 use Rattle.jump_pass.proofs.Turns.{none, reach_most, turn_difference, turn_none, turn_near, turn_jump}
@@ -87,7 +88,15 @@ module _ {w second : ℕ} {b : List ℕ} {i k end : ℕ} {s t : Passed} (g : Goe
   pub stops_later : Stops w second b k end t → Stops w second b i end s
   stops_later f = record { wrong = λ words bound j. g.same words bound (omega arith) ∙ f.wrong words bound j }
 
+-- what is wrong is wrong for all ranks that follow
+pub goes_wrong : {w second : ℕ} {b : List ℕ} {i k end : ℕ} {s : Passed} → Stops w second b i k s → k ≤ end → Stops w second b i end s
+goes_wrong f h = record { wrong = λ words bound j. f.wrong words bound (omega arith) }
+
 module _ (w second : ℕ) (b : List ℕ) (i : ℕ) (s : Passed) where
+  -- over no rank
+  pub goes_nowhere : s.least ≤ 4295032832 + 65536 * i → Goes w second b i i s s
+  goes_nowhere h = record { left = le_refl _; least = h; same = λ words bound j. refl; jumps = refl }
+
   -- over two ranks, by the sum of their differences
   pub goes_two : {x : ℕ} → x ≡ both_near w second b i → 0 < x → x < 131072 → s.least ≤ 4295032832 + 65536 * i
       → Goes w second b i (i + 2) s (record { least = s.least + x; left = s.left })
@@ -122,8 +131,26 @@ readable b v z e i end s h k j m =
     let n : v.width * end ≤ v.width * v.words = mul-le-mul_left v.width k in
     rw e (record { narrow = z.narrow; wide = z.wide; ranks = omega arith; onward = h; inside = omega arith; jumps = j; least = m })
 
+-- a part of the ranks, from what is reached before it
+pub readable_part : {w second : ℕ} {b : List ℕ} {i end : ℕ} {s : Passed} → Readable w second b i end s → {k last : ℕ} {t : Passed} → k ≤ last → last ≤ end
+    → t.left ≤ s.left → t.least ≤ 4295032832 + 65536 * k → Readable w second b k last t
+readable_part {w} {end = end} z {last = last} h m l r =
+    let n : w * last ≤ w * end = mul-le-mul_left w m in
+    let j = z.jumps in
+    let o = z.ranks in
+    let p = z.inside in
+    record { narrow = z.narrow; wide = z.wide; ranks = omega arith; onward = h; inside = omega arith; jumps = omega arith; least = r }
+
 module _ (w second : ℕ) (b : List ℕ) (i end : ℕ) (s : Passed) (z : Readable w second b i end s) (some : 0 < i) (size : end - i ≡ 128) where
   -- 128 ranks after rank 0
+  pub group_room : Room w second b (i - 1 + 128)
+  group_room =
+      let h : i - 1 + 128 < end = omega arith in
+      let m = entry_inside w end (i - 1 + 128) h in
+      let n = z.inside in
+      let k = z.ranks in
+      record { narrow = z.narrow; wide = z.wide; inside = omega arith; rank = omega arith }
+
   pub group_goes : plain w second b (i - 1) 128 ≡ true → {x : ℕ} → x ≡ total w second b (i - 1) 128 → x ≤ 65536 * 128
       → Goes w second b i end s (record { least = s.least + x; left = s.left })
   group_goes p e m =

@@ -3,7 +3,7 @@ use Prim.Native.Nat.{ℕ, ◌+◌, ◌*◌, ◌<◌}
 use mathlib.Core.Path.{◌≡◌, refl, sym, ◌∙◌}
 use mathlib.Core.Bool.{false, true≢false}
 use mathlib.Core.List.{List}
-use Rattle.std.proofs.Common.{None}
+use Rattle.std.proofs.Common.{Option}
 use native.Mathlib.Nat.{sub-zero}
 use native.Mathlib.Omega.{arith}
 use lib.ListN.{length}
@@ -38,12 +38,12 @@ module _ (b : List ℕ) (v : View) where
       position-short r = record { right = λ ls z n. let h = held b v ls z in absurd (too_short b v w ls h (width b v w ls h ew) k) }
 
     -- a walk from rank 0 to rank r reaches its position
-    pub position-found : (from : Place) (r : ℕ) (t : Place) → from.rank ≡ 0 → from.reached ≡ origin v.start b → r < v.words
-        → Stopped w v.start v.second b from r None t → PositionIn K b v r t.reached.position
-    position-found from r t n e h z =
+    pub position-found : (from : Place) (r : ℕ) (target : Option ℕ) (t : Place) → from.rank ≡ 0 → from.reached ≡ origin v.start b → r < v.words
+        → Stopped w v.start v.second b from r target t → t.rank ≡ r → PositionIn K b v r t.reached.position
+    position-found from r target t n e h z q =
         record {
           right = λ ls x m.
-              let y = held b v ls x in walk-position b v w ls y (width b v w ls y ew) r t.reached h (rw (n, e, z.all, sub-zero r) at z.there);
+              let y = held b v ls x in walk-position b v w ls y (width b v w ls y ew) r t.reached h (rw (n, e, q, sub-zero r) at z.there);
         }
 
     -- the place of p is found

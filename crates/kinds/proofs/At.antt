@@ -1,20 +1,23 @@
 -- Each contract of the kind with the number k is that of a view or a setting whose kind is k; what a call asks, the other way round. Assumes nothing.
 use Prim.Native.Nat.{ℕ, ◌+◌, ◌≤◌}
 use mathlib.Core.Path.{◌≡◌, sym, subst}
-use mathlib.Core.Bool.{true}
+use mathlib.Core.Bool.{Bool, true}
 use mathlib.Core.List.{List}
 use lib.ListN.{length}
+use Rattle.std.specs.Prelude.{Option}
 use Rattle.format.specs.declared.Setting.{Setting}
 use Rattle.format.specs.declared.View.{View}
 use Rattle.format.specs.Kinds.{codec, codec_of, setting_allowed}
 use Rattle.stores.specs.Put.{put}
 use Rattle.parts.specs.declared.Cursor.{Cursor}
 use Rattle.parts.specs.declared.Encoder.{Encoder}
+use Rattle.parts.specs.declared.Found.{Found}
+use Rattle.parts.specs.declared.PartBytes.{PartBytes}
 use Rattle.parts.specs.declared.RunPart.{RunPart}
 use Rattle.parts.specs.declared.Sizes.{Sizes}
 use Rattle.parts.specs.declared.walk.Walk.{Walk}
-use Rattle.parts.specs.Holds.{kind_of, said, Holds}
-use Rattle.parts.specs.Found.{PositionIn, RunIn}
+use Rattle.parts.specs.Holds.{kind_of, Counted, Sized, said, parts_right, Holds}
+use Rattle.parts.specs.Found.{FoundIn, PositionIn, RunIn}
 use Rattle.parts.specs.Cursor.{Batch}
 use Rattle.parts.specs.Walks.{sought, Climbs}
 use Rattle.parts.specs.Encoder.{Coder, ended_by, taken_all_by}
@@ -27,7 +30,22 @@ use Rattle.kinds.specs.Coding.{coder_of, coder, taken_all, derived}
 -- ---- of a view
 
 module _ (v : View) (k : ℕ) (e : v.kind ≡ k) where
+  pub view-allowed : (kind_of v).allowed ≡ true → (codec_of k v.width v.step).allowed ≡ true
+  view-allowed h = subst (λ (n : ℕ). (codec_of n v.width v.step).allowed ≡ true) e h
+
+  pub view_sized : (r : Option PartBytes) → Sized (codec_of k v.width v.step) v r → Sized (kind_of v) v r
+  view_sized r h = subst (λ (n : ℕ). Sized (codec_of n v.width v.step) v r) (sym e) h
+
   module _ (b : List ℕ) where
+    pub view-counted : Counted (kind_of v) b v → Counted (codec_of k v.width v.step) b v
+    view-counted h = subst (λ (n : ℕ). Counted (codec_of n v.width v.step) b v) e h
+
+    pub view-right : (r : Bool) → r ≡ parts_right (codec_of k v.width v.step) b v → r ≡ parts_right (kind_of v) b v
+    view-right r h = subst (λ (n : ℕ). r ≡ parts_right (codec_of n v.width v.step) b v) (sym e) h
+
+    pub view-found : (p : ℕ) (r : Found) → FoundIn (codec_of k v.width v.step) b v p r → FoundIn (kind_of v) b v p r
+    view-found p r h = subst (λ (n : ℕ). FoundIn (codec_of n v.width v.step) b v p r) (sym e) h
+
     pub view-placed : (r q : ℕ) → PositionIn (codec_of k v.width v.step) b v r q → PositionIn (kind_of v) b v r q
     view-placed r q h = subst (λ (n : ℕ). PositionIn (codec_of n v.width v.step) b v r q) (sym e) h
 

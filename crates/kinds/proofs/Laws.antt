@@ -86,6 +86,8 @@ pub derived-none : (s : Setting) → (s.kind ≡ 5 → ⊥) → (s.kind ≡ 6 �
 unfolding derived coder
 derived-none s f g z start d = sym (derived_by s.kind s.width s.step f g z start d)
 
+pub ruleset no_more = derived-none
+
 -- of the kinds that store no runs
 ends_by_lem : (k w l : ℕ) → (k ≡ 1 → ⊥) → (k ≡ 5 → ⊥) → (e : Encoder) → ((coder_of k w l).end_first e ≡ []) × ((coder_of k w l).end_second e ≡ [])
 unfolding positions-spec.coder based-spec.coder jumps-spec.coder jumps_coder pointed-spec.coder no_coder

@@ -111,6 +111,7 @@ pub fn put_run(dst: &mut [u8], s: Setting, e: Encoder, p: u32, n: u32) -> Encode
 }
 
 // What is made of the parts that stand in dst, the first from `start` on: kind 5's upper levels, kind 6's pointers; nothing for the other kinds.
+#[tactic(auto, using(crate::proofs::Laws::no_more))]
 pub fn put_derived(dst: &mut [u8], s: Setting, z: Sizes, start: usize)
     requires { (setting_allowed s ≡ true) × (start ≤ 4294967296) × Standing (coder s) (codec s) z start dst.old }
     ensures { dst.new ≡ derived s z start dst.old }

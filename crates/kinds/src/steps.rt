@@ -38,14 +38,16 @@ pub fn positions(file: &[u8], v: View, c: Cursor, out: &mut [u32]) -> Cursor
     requires { (kind_of v).allowed ≡ true }
     ensures { (result ≡ stepped_by file.now v c (length out.old)) × (out.new ≡ walked file.now v c (length out.old)) }
 {
+    // Both kinds by one call: with two the compiler keeps it as a function of its own
+    if by_walk(v.kind) {
+        return jump_walk::steps::positions(file, v, c, out);
+    }
     match Kind::try_from(v.kind) {
         Ok(Kind::Runs) => runs::steps::positions(file, v, c, out),
         Ok(Kind::Positions) => positions::steps::positions(file, v, c, out),
         Ok(Kind::BaseOffset) => base_offset::steps::positions(file, v, c, out),
-        Ok(Kind::Jumps) => jump_walk::steps::positions(file, v, c, out),
         Ok(Kind::PagedRuns) => paged_runs::steps::positions(file, v, c, out),
-        Ok(Kind::PointedJumps) => jump_walk::steps::positions(file, v, c, out),
-        Err(_) => c,
+        _ => c,
     }
 }
 

@@ -7,7 +7,9 @@ use native.Mathlib.Omega.{arith}
 use lib.Dec.{eqb}
 use borrow.Author.Tests.{eqb-true, eqb-false, eq-eqb, ne_eqb}
 use denote.Ref.{Bor}
+use Rattle.std.specs.Prelude.{Result, Err}
 use Rattle.format.specs.declared.View.{View}
+use Rattle.format.specs.declared.Refusal.{Refusal}
 use Rattle.format.specs.Tools.{pick}
 use Rattle.format.specs.Signals.{BEYOND}
 use Rattle.format.specs.Answers.{Answer, refused, answered}
@@ -16,8 +18,10 @@ use Rattle.format.specs.Lookups.{cell_in, rank_in, position_in, cell_answer, ran
 use Rattle.format.specs.Opened.{Opened, view_of, no_view, opening, OpeningOf, via_opening, Free, FreeWord, OpenedCell, OpenedRank, OpenedPosition}
 use Rattle.laws.proofs.Tools.{cases}
 use Rattle.laws.proofs.Settings.{small-setting}
+use Rattle.laws.proofs.Refusals.{refused_at}
 use Rattle.parts.specs.Holds.{ViewOf}
 use Rattle.parts.proofs.Seen as parts
+use Rattle.checked.specs.Verdict.{Judged}
 use Rattle.search.specs.Searched.{CellSearched, RankSearched, PositionSearched}
 use Rattle.opened.specs.Kept.{Kept}
 
@@ -47,6 +51,10 @@ view-accepted b v o = o.view ∙ sym (ap (λ (x : Opened). x.view) (opening-acce
 
 pub view-refused : (b : List ℕ) → (check_number b ≡ 0 → ⊥) → no_view ≡ (opening b).view
 view-refused b h = sym (ap (λ (x : Opened). x.view) (opening-refused b h))
+
+-- by the check's answer
+pub refused_view : (b : List ℕ) (answer : Result View Refusal) (r : Refusal) → Judged b answer → answer ≡ Err r → (opening b).view ≡ no_view
+refused_view b answer r j is = sym (view-refused b (refused_at answer _ j.number r is).1)
 
 -- the contract of open, by what it keeps
 pub opened : (x r : Bor (List ℕ)) (v : View) → v ≡ (opening x.now).view → Kept x v r → OpeningOf x r v

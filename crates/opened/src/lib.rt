@@ -18,6 +18,7 @@ pub struct Opened<'a> {
 }
 
 // The header's numbers, all 0 where the file is refused: opening cannot fail (document 01), and a kind of 0 tells of it.
+#[tactic(auto, using(crate::proofs::Openings::refused_view))]
 fn opened_view(file: &[u8]) -> View
     ensures { result ≡ (opening file.now).view }
 {

@@ -1,6 +1,6 @@
 -- How far the check has come after some pointers, and what is then right or refused. Assumes nothing.
 use Prim.Native.Nat.{ℕ, ◌+◌, ◌*◌, ◌^◌, ◌≤◌, ◌<◌}
-use mathlib.Core.Path.{◌≡◌, sym, ◌∙◌}
+use mathlib.Core.Path.{◌≡◌, refl, sym, ◌∙◌}
 use mathlib.Core.Bool.{Bool, false}
 use mathlib.Core.List.{List}
 use native.Mathlib.Nat.{le_refl, add-zero, pos_of_ne-zero}
@@ -16,7 +16,7 @@ use Rattle.differences.specs.Walk.{Laid}
 use Rattle.jump_pass.specs.declared.check.Passed.{Passed}
 use Rattle.jump_pass.specs.Pass.{Goes, Stops, passes_from, passes_on, jumps_below}
 use Rattle.jump_pass.proofs.Turns.{none, over, over_jump, passes-whole}
-use Rattle.jump_pass.proofs.Groups.{goes_on, stops_later}
+use Rattle.jump_pass.proofs.Groups.{goes_nowhere, goes_on, stops_later}
 use Rattle.pointed_jumps.specs.Pointed.{pointed_right}
 use Rattle.pointed_jumps.proofs.Pointed.{Points, pointer, last, points, points_on, pointed-right}
 
@@ -33,6 +33,16 @@ pub record Come (b : List ℕ) (v : View) (k r : ℕ) (s : Passed) : Type 0 wher
   pub each : (i : ℕ) → i < k → Points b v i (pointer b v i)
 
 module _ (b : List ℕ) (v : View) where
+  pub come_none : Come b v 0 0 (begin v)
+  come_none =
+      record {
+        count = omega arith;
+        rank = omega arith;
+        named = refl;
+        goes = goes_nowhere v.width v.second b 0 (begin v) (omega arith);
+        each = λ i h. absurd (omega arith);
+      }
+
   -- what the check answers
   abbrev pub answer : Bool
   answer = both (passes_from v b 0 0 0) (pointed_right b v)

@@ -3,7 +3,7 @@ use Prim.Native.Nat.{ℕ, ◌+◌, ◌-◌, ◌*◌, ◌≤◌, ◌<◌, min}
 use mathlib.Core.Path.{◌≡◌, refl, sym, ap, ap₂, ◌∙◌}
 use mathlib.Core.Bool.{Bool, true, false, not, true≢false}
 use mathlib.Core.List.{List}
-use Rattle.std.proofs.Common.{None}
+use Rattle.std.proofs.Common.{Option}
 use native.Mathlib.Nat.{min-eq_left, sub-zero, pos_of_ne-zero}
 use native.Mathlib.Omega.{arith}
 use lib.ListN.{get_or}
@@ -142,15 +142,14 @@ module _ (b : List ℕ) (v : View) (w : ℕ) where
           }
 
     -- a walk from a place on reaches the position of rank r
-    pub position-found : (from : Place) (r : ℕ) (t : Place) → Placed b v w r from → r < v.words
-        → Stopped w v.start v.second b from r None t → PositionIn K b v r t.reached.position
-    position-found from r t a k z =
+    pub position-found : (from : Place) (r : ℕ) (target : Option ℕ) (t : Place) → Placed b v w r from → r < v.words
+        → Stopped w v.start v.second b from r target t → t.rank ≡ r → PositionIn K b v r t.reached.position
+    position-found from r target t a k z q =
         record {
           right = λ ls x m.
               let h = pointed b v ls x in
               let e = width b v w ls h.held ew in
               let l = a.rank in
-              let q = z.all in
               let n : from.rank + (t.rank - from.rank) - 0 ≡ r = omega arith in
               let start = rw (← sub-zero from.rank) at (a.right ls x e) in
               walk-position b v w ls h.held e r t.reached k

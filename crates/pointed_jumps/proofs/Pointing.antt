@@ -49,6 +49,15 @@ module _ (w n second at last m : ℕ) (d₀ : List ℕ) where
     abbrev ps : List ℕ
     ps = pointers n p.ds
 
+    -- the pointers have room
+    pub pointing_room : at + 4 * m ≤ length d
+    pointing_room =
+        let l : w * length p.ds ≡ w * suc last = ap (λ (x : ℕ). w * x) p.size in
+        let r = p.stands.room in
+        let a = p.place in
+        let c = p.count in
+        omega arith
+
     -- what the search for the next asks
     pub pointing_asks : Room w second d last × (r ≤ last)
     pointing_asks =

@@ -1,5 +1,7 @@
 -- Rising numbers, tested step by step: each is above the one before, and the last is below the bound. Assumes nothing.
 use Rattle.std.proofs.Common.{◌≡◌, ℕ, suc, ◌+◌, ◌-◌, ◌*◌, ◌<◌, ◌≤◌, Bool, true, false, ◌&&◌, ltb, leb, List, [], ◌∷◌, drop, sym, refl, arith, ltb-false, ltb-true, le-leb, leb-true}
+use native.Mathlib.Nat.{mul-suc}
+use native.Mathlib.Numerals.{add-one}
 use borrow.Author.Tests.{lt-leb}
 use Rattle.format.specs.Tools.{both}
 use Rattle.format.specs.Bytes.{field, numbers_of}
@@ -33,22 +35,22 @@ pub rises-none : (w B n : ℕ) (b : List ℕ) → n ≡ 0 → rises 0 B (numbers
 unfolding rises
 rises-none w B n b h = rw (numbers-end w n b (omega arith))
 
--- ---- a loop along n numbers of 4 bytes
+-- ---- a loop along n numbers of w bytes
 
-pub climb_first : (n at B : ℕ) (b : List ℕ) → 0 < n
-    → climbs (suc (field 4 at b)) B (numbers_of 4 (n - 1) (drop (at + 4) b)) ≡ climbs 0 B (numbers_of 4 n (drop at b))
+pub climb_first : (w n at B : ℕ) (b : List ℕ) → 0 < n
+    → climbs (suc (field w at b)) B (numbers_of w (n - 1) (drop (at + w) b)) ≡ climbs 0 B (numbers_of w n (drop at b))
 unfolding climbs
-climb_first n at B b h = rw (numbers_turn 4 n at b h, le-leb 0 (field 4 at b) (omega arith))
+climb_first w n at B b h = rw (numbers_turn w n at b h, le-leb 0 (field w at b) (omega arith))
 
 -- past the number after the first i
-pub climb_turn : (n at i before B : ℕ) (b : List ℕ) (right : Bool) → i < n
-    → both (right && ltb before (field 4 (at + 4 * i) b)) (climbs (suc (field 4 (at + 4 * i) b)) B (numbers_of 4 (n - (i + 1)) (drop (at + 4 * (i + 1)) b)))
-    ≡ both right (climbs (suc before) B (numbers_of 4 (n - i) (drop (at + 4 * i) b)))
+pub climb_turn : (w n at i before B : ℕ) (b : List ℕ) (right : Bool) → i < n
+    → both (right && ltb before (field w (at + w * i) b)) (climbs (suc (field w (at + w * i) b)) B (numbers_of w (n - (i + 1)) (drop (at + w * (i + 1)) b)))
+    ≡ both right (climbs (suc before) B (numbers_of w (n - i) (drop (at + w * i) b)))
 unfolding climbs
-climb_turn n at i before B b right h =
+climb_turn w n at i before B b right h =
     let m : n - (i + 1) ≡ n - i - 1 = omega arith in
-    let p : at + 4 * (i + 1) ≡ at + 4 * i + 4 = omega arith in
-    rw (m, p, numbers_turn 4 (n - i) (at + 4 * i) b (omega arith)) (both_and right (ltb before (field 4 (at + 4 * i) b)) _)
+    let p : at + w * (i + 1) ≡ at + w * i + w = rw (add-one i, mul-suc) (omega arith) in
+    rw (m, p, numbers_turn w (n - i) (at + w * i) b (omega arith)) (both_and right (ltb before (field w (at + w * i) b)) _)
 
 pub climb_end : (w n before B : ℕ) (b : List ℕ) (right : Bool) → n ≤ 0 → right && ltb before B ≡ both right (climbs (suc before) B (numbers_of w n b))
 unfolding climbs

@@ -1,10 +1,11 @@
--- A part of a buffer written as a slice: std's words for it, and `put`. Assumes nothing.
-use Prim.Native.Nat.{ℕ, ◌+◌, ◌≤◌}
+-- A part of a buffer written: as a slice, by std's words for it, and byte by byte. Assumes nothing.
+use Prim.Native.Nat.{ℕ, suc, ◌+◌, ◌-◌, ◌≤◌, ◌<◌}
 use mathlib.Core.Path.{◌≡◌, sym, ap, ◌∙◌}
 use mathlib.Core.List.{List, ◌++◌, append_assoc}
+use native.Mathlib.Nat.{sub-zero, add-zero}
 use native.Mathlib.Omega.{arith}
-use lib.ListN.{length, take, drop, length-take, length-drop}
-use lib.Seq.{drop-drop}
+use lib.ListN.{length, get_or, set, take, drop}
+use lib.Seq.{drop-cons, drop-drop}
 use borrow.Rule.Slice.PartMut.{put_mid}
 use Rattle.stores.specs.Put.{put}
 use Rattle.stores.proofs.Laws.{put-fits}
@@ -17,8 +18,24 @@ put_written at k d ys bs e n h =
     ∙ sym (append_assoc (take at d) bs (drop (at + length bs) d))
     ∙ sym (put-fits d at bs (omega arith))
 
--- after `dst[at..at + n].copy_from_slice(&src[from..from + n])`: k and j are what the two ranges span
-pub put_copied : (at k : ℕ) (d ys s : List ℕ) (from j n : ℕ) → ys ≡ take j (drop from s) → k ≡ n → j ≡ n → from + n ≤ length s → at + n ≤ length d
-    → put_mid at k d ys ≡ put d at (take n (drop from s))
-put_copied at k d ys s from j n e u v f h =
-    put_written at k d ys (take n (drop from s)) (rw (← v) e) (simp (length-take, length-drop) (omega arith)) (omega arith)
+-- ---- bytes copied one after the other
+
+-- what is left to copy after i bytes
+abbrev pub Left : List ℕ → ℕ → List ℕ → ℕ → ℕ → ℕ → List ℕ
+Left d at s from n i = put d (at + i) (take (n - i) (drop (from + i) s))
+
+pub copy_start : (d s : List ℕ) (at from n : ℕ) → Left d at s from n 0 ≡ put d at (take n (drop from s))
+copy_start d s at from n = rw (add-zero at, add-zero from, sub-zero n)
+
+pub copy_turn : (d s : List ℕ) (at from n i : ℕ) → from + n ≤ length s → i < n
+    → Left (set d (at + i) (get_or s (from + i) 0)) at s from n (i + 1) ≡ Left d at s from n i
+unfolding put
+copy_turn d s at from n i h k =
+    let m : n - i ≡ suc (n - (i + 1)) = omega arith in
+    let e : at + (i + 1) ≡ suc (at + i) = omega arith in
+    let f : from + (i + 1) ≡ suc (from + i) = omega arith in
+    rw (m, drop-cons s (from + i) 0 (omega arith), e, f)
+
+pub copy_end : (d s : List ℕ) (at from n i : ℕ) → n ≤ i → Left d at s from n i ≡ d
+unfolding put
+copy_end d s at from n i h = let z : n - i ≡ 0 = omega arith in rw z

@@ -1,4 +1,5 @@
 use Prim.Native.Nat.{◌+◌, ◌<◌}
+use Rattle.std.proofs.Common.{None}
 use native.Mathlib.Omega.{arith}
 use lib.ListN.{length}
 use Rattle.jump_copy.proofs.Rows.{Stands}
@@ -32,14 +33,14 @@ overflow_add-c c =
 pub overflow_cast-c : goal.overflow_cast-c
 overflow_cast-c c =
     let a = c.args in
-    record { fits = walk-position a.file.now a.v c.requires.0.0 c.requires.0.1 a.c c.requires.1.rank (here (goal.at.overflow_cast-c c).Start) a.n (below (goal.at.overflow_cast-c c).Start) c.walk-place.result c.walk-place.ensures }
+    record { fits = walk-position a.file.now a.v c.requires.0.0 c.requires.0.1 a.c c.requires.1.rank (here (goal.at.overflow_cast-c c).Start) a.n (below (goal.at.overflow_cast-c c).Start) c.walk-place.result None c.walk-place.ensures c.walk-place.ensures.all }
 
 pub overflow_cast-c-2 : goal.overflow_cast-c-2
 overflow_cast-c-2 c =
     let a = c.args in
-    record { fits = walk-taken a.file.now a.v c.requires.0.0 c.requires.0.1 a.c c.requires.1.rank (here (goal.at.overflow_cast-c-2 c).Start) a.n (below (goal.at.overflow_cast-c-2 c).Start) c.walk-place.result c.walk-place.ensures }
+    record { fits = walk-taken a.file.now a.v c.requires.0.0 c.requires.0.1 a.c c.requires.1.rank (here (goal.at.overflow_cast-c-2 c).Start) a.n (below (goal.at.overflow_cast-c-2 c).Start) c.walk-place.result None c.walk-place.ensures c.walk-place.ensures.all }
 
 pub returns : goal.returns
 returns c =
     let a = c.args in
-    walk_steps a.file.now a.v c.requires.0.0 c.requires.0.1 a.c c.requires.1.rank (here (goal.at.returns c).Start) a.n (below (goal.at.returns c).Start) c.walk-place.result c.walk-place.ensures
+    walk_steps a.file.now a.v c.requires.0.0 c.requires.0.1 a.c c.requires.1.rank (here (goal.at.returns c).Start) a.n (below (goal.at.returns c).Start) c.walk-place.result None c.walk-place.ensures c.walk-place.ensures.all

@@ -33,6 +33,6 @@ pub returns-in_err-at : goal.returns-in_err-at
 returns-in_err-at c =
     let a = c.args in
     let s = (ok_is _ _ _ _ _ c.cell_count.ensures.0 c.ok_or.ensures.value _ c.in_ok-ok_or.was).0 in
-    let e = err_is _ _ _ _ _ c.four.ensures c.ok_or-2.ensures.value _ c.in_err-at.was in
+    let e = err_is _ _ _ _ _ c.as_four.ensures c.ok_or-2.ensures.value _ c.in_err-at.was in
     let p = err_from_is_err_and c.from_residual-in_err-at.result c.from_residual-in_err-at.ensures.1 in
     rw (p.1, p.2, e.1) (position-not-four (dimensions a.dims a.extents.now) a.at.now (rw (same (goal.at.returns-in_err-at c).In_ok-d) at s) e.0)

@@ -7,12 +7,12 @@ use Rattle.c_values.proofs.extents.dimensions_of.Goals as goal
 pub returns-in_err-extents : goal.returns-in_err-extents
 unfolding extents_number
 returns-in_err-extents c =
-    let e = err_is _ _ _ _ _ c.four.ensures c.ok_or.ensures.value _ c.in_err-extents.was in
+    let e = err_is _ _ _ _ _ c.as_four.ensures c.ok_or.ensures.value _ c.in_err-extents.was in
     let p = err_from_is_err_and c.from_residual.result c.from_residual.ensures.1 in
     rw (p.1, p.2, e.1, e.0) (search rules)
 
 pub returns : goal.returns
 unfolding extents_number
 returns c =
-    let s = ok_is _ _ _ _ _ c.four.ensures c.ok_or.ensures.value _ c.in_ok-extents.was in
+    let s = ok_is _ _ _ _ _ c.as_four.ensures c.ok_or.ensures.value _ c.in_ok-extents.was in
     rw (s.0, s.1) (search rules)

@@ -1,7 +1,7 @@
 -- `page_walk` and `descend` meet their contracts. Assumes nothing.
-use Rattle.std.proofs.Common.{◌≡◌, ◌-◌, ◌*◌, ◌<◌, min, get_or, sym, refl, ◌∙◌, arith}
+use Rattle.std.proofs.Common.{◌≡◌, ◌-◌, ◌*◌, ◌<◌, min, get_or, refl, ◌∙◌, arith}
 use Rattle.levels.specs.Levels.{span_of}
-use Rattle.descent.proofs.CheckSteps.{walk_none, descent-page, found_leaf, found_below, page-entries, page_down_lem, page-fits}
+use Rattle.descent.proofs.CheckSteps.{none-in_one, same-in_one, walk_none, descent-page, found_leaf, found_below, page-entries, page_down_lem, page-fits}
 use Rattle.descent.proofs.search.+descend_page_walk.Goals as goal
 
 -- ---- to the page below
@@ -12,7 +12,7 @@ descend-returns-then-size-first t c =
     let e = c.size_at-size.ensures.0 in
     let h = c.if-size-first.true in
     let z : min a.step (get_or a.sizes.now (a.level - 1) 0 - a.entry * a.step) ≡ 0 = omega (arith, e) in
-    sym (descent-page _ _ _ c.args.asked _ _ _ _ _ _ _ c.requires.some ∙ walk_none _ _ _ c.args.asked _ _ _ _ _ _ _ (omega (arith, z)))
+    none-in_one (descent-page _ _ _ c.args.asked _ _ _ _ _ _ _ c.requires.some ∙ walk_none _ _ _ c.args.asked _ _ _ _ _ _ _ (omega (arith, z)))
 
 pub descend-page_walk-requires : goal.descend-page_walk-requires
 descend-page_walk-requires t c =
@@ -25,23 +25,24 @@ descend-page_walk-requires t c =
 
 pub descend-returns : goal.descend-returns
 descend-returns t c =
-    c.page_walk.ensures
-    ∙ rw (c.min-left.ensures, c.size_at-size.ensures.0)
-    (sym (descent-page _ _ _ c.args.asked _ _ _ _ _ _ _ c.requires.some))
+    rw (descent-page _ _ _ c.args.asked _ _ _ _ _ _ _ c.requires.some)
+    (rw (c.min-left.ensures, c.size_at-size.ensures.0) at c.page_walk.ensures)
 
 -- ---- along a page
 
 pub page_walk-returns-then-left-k : goal.page_walk-returns-then-left-k
-page_walk-returns-then-left-k t c = sym (walk_none _ _ _ c.args.asked _ _ _ _ _ _ _ (rw (c.entries_passed-k.ensures.0, c.for_rank-stored.ensures) at c.if-left-k.true))
+page_walk-returns-then-left-k t c = none-in_one (walk_none _ _ _ c.args.asked _ _ _ _ _ _ _ (rw (c.entries_passed-k.ensures.0, c.for_rank-stored.ensures) at c.if-left-k.true))
 
 pub page_walk-returns-then-level-eq0 : goal.page_walk-returns-then-level-eq0
 page_walk-returns-then-level-eq0 t c =
     let n = c.entries_passed-k in
     let x = c.entry_before-c in
     let y = c.pair_at-y in
-    rw (c.answer.ensures, c.count.ensures, c.from.ensures, c.for_rank-stored.ensures)
+    let e = c.from-then-level-eq0.ensures in
+    same-in_one _ _ _
     (found_leaf _ _ _ c.args.asked _ _ _ _ _ _ _ n.result (span_of x.result) (span_of y.result) (rw c.for_rank-stored.ensures at n.ensures.0) c.if-left-k.false
     (page-entries _ _ _ _ _ _ _ _ _ c.requires) x.ensures.0 y.ensures.0 c.if-level-eq0.true)
+    (e ∙ rw (c.count.ensures, c.from.ensures, c.for_rank-stored.ensures) at c.answer.ensures, omega arith)
 
 pub page_walk-descend-requires : goal.page_walk-descend-requires
 page_walk-descend-requires t c =
@@ -54,7 +55,7 @@ page_walk-returns t c =
     let n = c.entries_passed-k in
     let x = c.entry_before-c in
     let l = c.if-level-eq0.false in
-    c.descend.ensures
-    ∙ rw (c.size_at.ensures.0, c.count.ensures, c.from.ensures, c.for_rank-stored.ensures)
+    same-in_one _ _ _
     (found_below _ _ _ c.args.asked _ _ _ _ _ _ _ n.result (span_of x.result) _ (rw c.for_rank-stored.ensures at n.ensures.0) c.if-left-k.false
     (page-entries _ _ _ _ _ _ _ _ _ c.requires) x.ensures.0 refl (omega (arith, l)))
+    (rw (c.size_at.ensures.0, c.count.ensures, c.from.ensures, c.for_rank-stored.ensures) at c.descend.ensures)

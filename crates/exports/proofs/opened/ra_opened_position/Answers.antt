@@ -1,8 +1,11 @@
+use Rattle.std.specs.Prelude.{Err}
+use Rattle.format.specs.declared.Refusal.TheVariants as rf
 use Rattle.format.specs.Signals.{BEYOND}
 use Rattle.format.specs.File.{WholeHeader}
 use Rattle.format.specs.Answers.{refused, position_says}
 use Rattle.format.specs.Lookups.{position_answer}
 use Rattle.format.specs.Opened.{view_of, Free, beyond}
+use Rattle.c_values.proofs.Coded.{position_coded}
 use Rattle.exports.proofs.Answered.{short-refused, position_unchecked_lem}
 use Rattle.exports.proofs.opened.ra_opened_position.Goals.{Else-not-whole_header}
 use Rattle.exports.proofs.opened.ra_opened_position.Goals as goal
@@ -14,7 +17,7 @@ returns-then-not-whole_header c =
     record {
       answer = refused BEYOND;
       right = short-refused b (position_answer b g.number) (Free (view_of b).cells) (c.whole_header.ensures.short (c.if-not-whole_header.true)) beyond;
-      code = c.position_code.ensures;
+      code = position_coded (Err rf.Beyond) _ c.position_code.ensures;
     }
 
 whole : (c : Else-not-whole_header) → WholeHeader c.args.file.now
@@ -42,7 +45,7 @@ returns c =
           position_unchecked_lem g.file.now _ c.read_view-v.ensures (whole (goal.at.returns c).Else-not-whole_header) g.number
           (position_says c.position_in.result)
           c.position_in.ensures;
-      code = c.position_code-2.ensures;
+      code = position_coded _ _ c.position_code-2.ensures;
     }
 
 pub read_view-v-requires : goal.read_view-v-requires

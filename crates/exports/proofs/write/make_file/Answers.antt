@@ -15,11 +15,11 @@ returns-in_err-check_setting c =
 pub returns-in_default : goal.returns-in_default
 returns-in_default c =
     let g = c.args in
-    four_extent g.s (dimensions g.dims g.extents.now) g.empty g.words.now g.dst.now (not_some _ _ _ c.four.ensures c.in_default.not-Some)
+    four_extent g.s (dimensions g.dims g.extents.now) g.empty g.words.now g.dst.now (not_some _ _ _ c.as_four.ensures c.in_default.not-Some)
     (accepted_at _ _ c.check_setting.ensures _ c.in_ok-check_setting.was)
 
 pub returns : goal.returns
 returns c =
     let g = c.args in
-    let e = some_is _ _ _ (sym c.in-Some.is ∙ c.four.ensures) in
+    let e = some_is _ _ _ (sym c.in-Some.is ∙ c.as_four.ensures) in
     same-made g.s g.dims _ _ e.1 g.empty g.words.now g.dst.now _ _ c.make.ensures

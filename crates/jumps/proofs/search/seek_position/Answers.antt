@@ -1,5 +1,6 @@
 -- The position of a rank. Assumes nothing.
 use native.Mathlib.Nat.{mul-le-mul_right}
+use Rattle.std.proofs.Common.{None}
 use native.Mathlib.Omega.{arith}
 use Rattle.differences.proofs.Walked.{room}
 use Rattle.jumps.proofs.Found.{position-short, position-found}
@@ -25,4 +26,4 @@ pub returns : goal.returns
 returns c =
     let f = c.first_place in
     let z = c.walk-place.ensures in
-    position-found c.args.file.now c.args.v c.args.width c.requires.3 f.result c.args.rank _ f.ensures.0 f.ensures.1 c.requires.2 z
+    position-found c.args.file.now c.args.v c.args.width c.requires.3 f.result c.args.rank None _ f.ensures.0 f.ensures.1 c.requires.2 z z.all

@@ -5,9 +5,13 @@ use Rattle.paged_runs.proofs.search.find.Goals as goal
 
 -- `find` meets its contract. Assumes nothing.
 pub returns-in_default : goal.returns-in_default
-returns-in_default c = let a = c.args in rw (← c.in_default.ensures) at (found_in a.file.now a.v a.p.0 c.requires)
+returns-in_default c =
+    let a = c.args in
+    let e = rw c.in_default.ensures.1 at c.in_default.ensures.2 in
+    rw (← e) at (found_in a.file.now a.v a.p.0 c.requires)
 
 pub returns : goal.returns
 returns c =
     let a = c.args in
-    rw (and_both, c.saturating_sub-below.ensures, c.from.ensures) (rw (← c.in-Some.ensures) at (found_in a.file.now a.v a.p.0 c.requires))
+    let e = rw c.in-Some.ensures.1 at c.in-Some.ensures.2 in
+    rw (and_both, c.saturating_sub-below.ensures, c.from.ensures) (rw (← e) at (found_in a.file.now a.v a.p.0 c.requires))

@@ -1,6 +1,7 @@
 -- The position of a rank. Assumes nothing.
 use mathlib.Core.Path.{ap}
 use mathlib.Core.Bool.{not}
+use Rattle.std.proofs.Common.{None}
 use native.Mathlib.Omega.{arith}
 use Rattle.differences.proofs.Walked.{room}
 use Rattle.pointed_jumps.proofs.Found.{no_position, position-found}
@@ -25,4 +26,4 @@ pub returns : goal.returns
 returns c =
     let p = c.pointed_place-from in
     let z = c.walk-place.ensures in
-    position-found c.args.file.now c.args.v c.args.width c.requires.3 p.result c.args.rank _ p.ensures c.requires.2 z
+    position-found c.args.file.now c.args.v c.args.width c.requires.3 p.result c.args.rank None _ p.ensures c.requires.2 z z.all

@@ -13,13 +13,13 @@ loop-i-init c =
     let a = c.args in
     let z : 0 < a.n = omega arith in
     rw c.get_u32-before.ensures.0
-    (climb_first a.n a.at a.cells a.file.now z ∙ sym (rises-climbs 0 a.cells (numbers_of 4 a.n (drop a.at a.file.now)) (omega arith)))
+    (climb_first 4 a.n a.at a.cells a.file.now z ∙ sym (rises-climbs 0 a.cells (numbers_of 4 a.n (drop a.at a.file.now)) (omega arith)))
 
 pub loop-i-preserved : goal.loop-i-preserved
 loop-i-preserved c =
     let a = c.args in
     let l = c.loop-i in
-    rw c.get_u32-p.ensures.0 (climb_turn a.n a.at l.i l.before a.cells a.file.now l.right (omega arith) ∙ l.invariant)
+    rw c.get_u32-p.ensures.0 (climb_turn 4 a.n a.at l.i l.before a.cells a.file.now l.right (omega arith) ∙ l.invariant)
 
 pub returns : goal.returns
 returns c =
