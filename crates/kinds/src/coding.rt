@@ -104,9 +104,10 @@ pub fn put_run(dst: &mut [u8], s: Setting, e: Encoder, p: u32, n: u32) -> Encode
     requires { (setting_allowed s ≡ true) × stores_runs s.kind × (1 ≤ n) × Sound e × (passed e ≤ p) × (p + n ≤ 16777216) × RoomAll (coder s) e (range p n) (length dst.old) }
     ensures { (result ≡ taken_all s e (range p n)) × (dst.new ≡ put_all_by (coder s) dst.old e (range p n)) }
 {
+    // By `return`: as the value of the match the encoder is copied, run by run
     match Kind::try_from(s.kind) {
-        Ok(Kind::Runs) => runs::coding::put_run(dst, s.width, s.step, e, p, n),
-        _ => paged_runs::coding::put_run(dst, s.width, s.step, e, p, n),
+        Ok(Kind::Runs) => return runs::coding::put_run(dst, s.width, s.step, e, p, n),
+        _ => return paged_runs::coding::put_run(dst, s.width, s.step, e, p, n),
     }
 }
 

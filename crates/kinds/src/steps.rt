@@ -78,9 +78,10 @@ pub fn past_cells(file: &[u8], v: View, c: Cursor, k: u32) -> Cursor
     requires { stores_runs v.kind × (k ≤ c.last - c.at) }
     ensures { result ≡ stepped_by file.now v c (k + 1) }
 {
+    // By `return`: as the value of the match the cursor is copied, run by run
     match Kind::try_from(v.kind) {
-        Ok(Kind::Runs) => runs::steps::past(file, v, c, k),
-        _ => paged_runs::steps::past(file, v, c, k),
+        Ok(Kind::Runs) => return runs::steps::past(file, v, c, k),
+        _ => return paged_runs::steps::past(file, v, c, k),
     }
 }
 

@@ -46,10 +46,14 @@ pub fn entry_of(file: &[u8], v: View, rank: u32) -> u32
 pub fn stretch(c: Cursor, left: u32) -> u32
     ensures { (result ≤ left) × (0 < left → 0 < result) × (1 < result → c.at + result ≤ c.last + 1) }
 {
-    if left == 0 {
-        return 0;
+    if left <= 1 {
+        return left;
     }
-    (left - 1).min(c.last.saturating_sub(c.at)) + 1
+    // Tested apart, and foretold: along runs of one cell nothing waits for the cursor
+    if c.last <= c.at {
+        return 1;
+    }
+    (left - 1).min(c.last - c.at) + 1
 }
 
 // The cursor k cells further in its run.
